@@ -12,7 +12,8 @@ use Rattle.sspi_mech.specs.Meaning.{Meaning}
 use Rattle.sspi_mech.specs.Settings.{Setting}
 use Rattle.sspi_negotiate.specs.declared.protocol.NegotiatedProtocol.{NegotiatedProtocol}
 use Rattle.sspi_negotiate.specs.declared.state.NegotiateState.TheVariants as states
-use Rattle.sspi_negotiate.specs.Client.{is_guest, spnego_client, spnego_resumed}
+use Rattle.sspi_negotiate.specs.Choices.{chosen_at, excuses_guest}
+use Rattle.sspi_negotiate.specs.Client.{spnego_client, spnego_resumed}
 use Rattle.sspi_negotiate.specs.Does.{Does, Stays, StaysNeeded, StaysPicked, StaysUnmarked, StaysUnused, told}
 use Rattle.sspi_negotiate.specs.Hand.{asks_left}
 use Rattle.sspi_negotiate.specs.Keeps.{is_answering}
@@ -45,7 +46,8 @@ module _ {N K : Type 0} (n : Meaning Setting N) (k : Meaning Setting K) (s : Neg
       (IsTrue ip ↔ IsNamedByIp args.target) → Does n k (spnego_client ip (values_of s) args) s (answer_of result) s2 →
       OnErr result (Stays (values_of s) (values_of s2)) → StaysUnused n k s s2 →
       (s.state ≡ states.Initial → StaysUnmarked n k s s2) →
-      (s.state ≢ states.Initial → StaysNeeded (is_guest args.handle) (values_of s) (values_of s2)) →
+      (s.state ≢ states.Initial →
+      StaysNeeded (excuses_guest (chosen_at s.state args.input) (values_of s) args) (values_of s) (values_of s2)) →
       ClientMoves n k s args (answer_of result) s2
   client_moves args result s2 ip is follows stays unused unmarked need = record {
     ip = ip;

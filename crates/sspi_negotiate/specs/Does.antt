@@ -60,6 +60,6 @@ pub record StaysPicked (old new : Values) : Type 0 where
   pub list : new.list ≡ old.list
   pub hand : new.hand ≡ old.hand
 
--- where MICs were needed, they are, but for a guest
+-- where MICs were needed, they are, but for a guest who is excused
 abbrev pub StaysNeeded : Bool → Values → Values → Type 0
-StaysNeeded guest old new = old.need ≡ true → guest ≡ false → new.need ≡ true
+StaysNeeded excused old new = old.need ≡ true → excused ≡ false → new.need ≡ true

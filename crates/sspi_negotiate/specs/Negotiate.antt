@@ -12,7 +12,8 @@ use Rattle.sspi_mech.specs.Settings.{Setting}
 use Rattle.sspi_negotiate.specs.declared.protocol.NegotiatedProtocol.{NegotiatedProtocol}
 use Rattle.sspi_negotiate.specs.declared.state.NegotiateState.TheVariants.{Initial}
 use Rattle.sspi_negotiate.specs.Acquire.{Acquires, RefusesToAcquire}
-use Rattle.sspi_negotiate.specs.Client.{is_guest, spnego_client, spnego_resumed}
+use Rattle.sspi_negotiate.specs.Choices.{chosen_at, excuses_guest}
+use Rattle.sspi_negotiate.specs.Client.{spnego_client, spnego_resumed}
 use Rattle.sspi_negotiate.specs.Does.{Does, Stays, StaysNeeded, StaysPicked, StaysUnmarked, StaysUnused, told}
 use Rattle.sspi_negotiate.specs.Hand.{hand, asks_left}
 use Rattle.sspi_negotiate.specs.Keeps.{is_answering}
@@ -32,14 +33,15 @@ pub record Moves {N K : Type 0} (n : Meaning Setting N) (k : Meaning Setting K) 
   pub unmarked : IsFirstStep → StaysUnmarked n k s s2
   pub protected : Protected
 
--- a client's step, whose plan depends on whether the target is named by its IP address; behind the first one only a guest loses the
--- need of MICs
+-- a client's step, whose plan depends on whether the target is named by its IP address; behind the first one the need of MICs goes
+-- only where the server chooses NTLM for a guest
 pub record ClientMoves {N K : Type 0} (n : Meaning Setting N) (k : Meaning Setting K) (s : Negotiation (NegotiatedProtocol N K))
     (args : StepArgs) (r : Answer)
     (s2 : Negotiation (NegotiatedProtocol N K)) : Type 0 where
   pub ip : Bool
   pub ip_is : IsTrue ip ↔ IsNamedByIp args.target
-  pub moves : Moves n k (s.state ≡ Initial) (s.state ≢ Initial → StaysNeeded (is_guest args.handle) (values_of s) (values_of s2))
+  pub moves : Moves n k (s.state ≡ Initial)
+      (s.state ≢ Initial → StaysNeeded (excuses_guest (chosen_at s.state args.input) (values_of s) args) (values_of s) (values_of s2))
       (spnego_client ip (values_of s) args) s r s2
 
 -- a server's step, which leaves the need of MICs where it is refused; once it has read the list, it leaves that and the mechanism

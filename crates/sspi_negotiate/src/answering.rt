@@ -1,5 +1,5 @@
 // A client's later steps (states InProgress and VerifyMic), and `resume`.
-ghost use Rattle.std.specs.Prelude.{◌≡◌, ◌<◌, [], false, true, not, None, Some, IfErr, OnErr, option_map, option_copied};
+ghost use Rattle.std.specs.Prelude.{◌≡◌, ◌<◌, [], false, true, not, None, Some, IfErr, OnErr, option_and_then, option_map, option_copied};
 ghost use Rattle.sspi_mech.specs.Answers.{answer_of, IfRefused, OnAsk};
 ghost use Rattle.sspi_mech.specs.Calls.{step_args};
 ghost use Rattle.sspi_mech.specs.Calls.{IsUnused};
@@ -9,9 +9,10 @@ ghost use Rattle.sspi_tokens.specs.Reading.{targ_of};
 ghost use Rattle.sspi_negotiate.specs.declared.protocol.Protocol.TheVariants as protocols;
 ghost use Rattle.sspi_negotiate.specs.declared.state.NegotiateState.TheVariants as states;
 ghost use Rattle.sspi_types.specs.declared.security_status.SecurityStatus.TheVariants as statuses;
+ghost use Rattle.sspi_negotiate.specs.Choices.{protocol_of, chosen_in, excuses_guest};
 ghost use Rattle.sspi_negotiate.specs.Client.{at_progress, chosen, chooses_kerberos, chooses_ntlm, in_kerberos, answers, without_ntlm};
 ghost use Rattle.sspi_negotiate.specs.Client.{stepped, settles, verified, at_verify_mic, confirmed};
-ghost use Rattle.sspi_negotiate.specs.Client.{last_mic, is_guest, handle_for, resumes_answering, spnego_resumed};
+ghost use Rattle.sspi_negotiate.specs.Client.{last_mic, handle_for, resumes_answering, spnego_resumed};
 ghost use Rattle.sspi_negotiate.specs.Does.{Does, Stays, StaysNeeded, StaysUnmarked, StaysUnused, told};
 ghost use Rattle.sspi_negotiate.specs.Hand.{hand, hand_of};
 ghost use Rattle.sspi_negotiate.specs.Keeps.{is_answering};
@@ -83,7 +84,8 @@ impl<N: Mechanism, K: Mechanism> Negotiate<N, K> {
             self.old (answer_of (answered result)) self.new }
         ensures stays { OnErr result (Stays (values_of self.old) (values_of self.new)) }
         ensures unused { StaysUnused N.meaning K.meaning self.old self.new }
-        ensures need { StaysNeeded (is_guest (step_args args.now).handle) (values_of self.old) (values_of self.new) }
+        ensures need { let v = values_of self.old in
+            StaysNeeded (excuses_guest (chosen_in args.now.input.now) v (step_args args.now)) v (values_of self.new) }
     {
         let token = NegTokenTarg::decode(self.alloc, args.input)?;
         self.choose(token, args)
@@ -99,7 +101,9 @@ impl<N: Mechanism, K: Mechanism> Negotiate<N, K> {
             self.old (answer_of (answered result)) self.new }
         ensures stays { OnErr result (Stays (values_of self.old) (values_of self.new)) }
         ensures unused { StaysUnused N.meaning K.meaning self.old self.new }
-        ensures need { StaysNeeded (is_guest (step_args args.now).handle) (values_of self.old) (values_of self.new) }
+        ensures need { let v = values_of self.old in StaysNeeded
+            (excuses_guest (option_and_then protocol_of (option_map kind_of token.supported_mech)) v (step_args args.now))
+            v (values_of self.new) }
     {
         match choice_of(&token) {
             None => self.answer(token, args),
@@ -120,7 +124,7 @@ impl<N: Mechanism, K: Mechanism> Negotiate<N, K> {
             self.old (answer_of (answered result)) self.new }
         ensures stays { OnErr result (Stays (values_of self.old) (values_of self.new)) }
         ensures unused { StaysUnused N.meaning K.meaning self.old self.new }
-        ensures need { StaysNeeded (is_guest (step_args args.now).handle) (values_of self.old) (values_of self.new) }
+        ensures need { StaysNeeded false (values_of self.old) (values_of self.new) }
     {
         if self.packages.kerberos {
             self.go_to_kerberos(token, args)
@@ -139,7 +143,7 @@ impl<N: Mechanism, K: Mechanism> Negotiate<N, K> {
             self.old (answer_of (answered result)) self.new }
         ensures stays { self.old.packages.kerberos ≡ true → OnErr result (Stays (values_of self.old) (values_of self.new)) }
         ensures unused { StaysUnused N.meaning K.meaning self.old self.new }
-        ensures need { StaysNeeded (is_guest (step_args args.now).handle) (values_of self.old) (values_of self.new) }
+        ensures need { StaysNeeded false (values_of self.old) (values_of self.new) }
     {
         match self.protocol.protocol() {
             Protocol::Kerberos => self.answer_in_kerberos(token, args),
@@ -158,7 +162,7 @@ impl<N: Mechanism, K: Mechanism> Negotiate<N, K> {
             self.old (answer_of (answered result)) self.new }
         ensures stays { self.old.packages.kerberos ≡ true → OnErr result (Stays (values_of self.old) (values_of self.new)) }
         ensures unused { StaysUnused N.meaning K.meaning self.old self.new }
-        ensures need { StaysNeeded (is_guest (step_args args.now).handle) (values_of self.old) (values_of self.new) }
+        ensures need { StaysNeeded false (values_of self.old) (values_of self.new) }
     {
         self.protocol = NegotiatedProtocol::new_kerberos(
             self.alloc,
@@ -179,7 +183,7 @@ impl<N: Mechanism, K: Mechanism> Negotiate<N, K> {
             self.old (answer_of (answered result)) self.new }
         ensures stays { hand_of self.old.mech ≡ protocols.Kerberos → OnErr result (Stays (values_of self.old) (values_of self.new)) }
         ensures unused { StaysUnused N.meaning K.meaning self.old self.new }
-        ensures need { StaysNeeded (is_guest (step_args args.now).handle) (values_of self.old) (values_of self.new) }
+        ensures need { StaysNeeded false (values_of self.old) (values_of self.new) }
     {
         self.packages.ntlm = false;
         self.answer(token, args)
@@ -195,7 +199,8 @@ impl<N: Mechanism, K: Mechanism> Negotiate<N, K> {
             self.old (answer_of (answered result)) self.new }
         ensures stays { OnErr result (Stays (values_of self.old) (values_of self.new)) }
         ensures unused { StaysUnused N.meaning K.meaning self.old self.new }
-        ensures need { StaysNeeded (is_guest (step_args args.now).handle) (values_of self.old) (values_of self.new) }
+        ensures need { let v = values_of self.old in
+            StaysNeeded (excuses_guest (Some protocols.Ntlm) v (step_args args.now)) v (values_of self.new) }
     {
         if self.packages.ntlm {
             let guest = is_guest(self.alloc, args.credentials_handle)?;

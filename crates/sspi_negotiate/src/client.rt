@@ -6,7 +6,8 @@ ghost use Rattle.sspi_mech.specs.Answers.{answer_of};
 ghost use Rattle.sspi_mech.specs.Calls.{step_args};
 ghost use Rattle.sspi_mech.specs.Answered.{answered};
 ghost use Rattle.sspi_negotiate.specs.declared.protocol.Protocol.TheVariants as protocols;
-ghost use Rattle.sspi_negotiate.specs.Client.{is_closed, is_guest, spnego_client, by_target, with_handle, keeps, ruled, client_at};
+ghost use Rattle.sspi_negotiate.specs.Choices.{chosen_at, excuses_guest};
+ghost use Rattle.sspi_negotiate.specs.Client.{is_closed, spnego_client, by_target, with_handle, keeps, ruled, client_at};
 ghost use Rattle.sspi_negotiate.specs.Does.{Does, Stays, StaysNeeded, StaysUnmarked, StaysUnused};
 ghost use Rattle.sspi_negotiate.specs.Hand.{hand_of};
 ghost use Rattle.sspi_negotiate.specs.Negotiate.{negotiate};
@@ -70,8 +71,8 @@ impl<N: Mechanism, K: Mechanism> Negotiate<N, K> {
         // What every answer keeps.
         ensures unused { StaysUnused N.meaning K.meaning self.old self.new }
         ensures first { self.old.state ≡ states.Initial → StaysUnmarked N.meaning K.meaning self.old self.new }
-        ensures need { self.old.state ≢ states.Initial →
-            StaysNeeded (is_guest (step_args args.now).handle) (values_of self.old) (values_of self.new) }
+        ensures need { let v = values_of self.old in self.old.state ≢ states.Initial →
+            StaysNeeded (excuses_guest (chosen_at self.old.state args.now.input.now) v (step_args args.now)) v (values_of self.new) }
     {
         if self.is_closed() {
             Err(Refusal::out_of_sequence())
@@ -93,8 +94,8 @@ impl<N: Mechanism, K: Mechanism> Negotiate<N, K> {
         // What every answer keeps.
         ensures unused { StaysUnused N.meaning K.meaning self.old self.new }
         ensures first { self.old.state ≡ states.Initial → StaysUnmarked N.meaning K.meaning self.old self.new }
-        ensures need { self.old.state ≢ states.Initial →
-            StaysNeeded (is_guest (step_args args.now).handle) (values_of self.old) (values_of self.new) }
+        ensures need { let v = values_of self.old in self.old.state ≢ states.Initial →
+            StaysNeeded (excuses_guest (chosen_at self.old.state args.now.input.now) v (step_args args.now)) v (values_of self.new) }
     {
         if ip && self.packages.ntlm {
             self.leave_kerberos(args)
@@ -118,8 +119,8 @@ impl<N: Mechanism, K: Mechanism> Negotiate<N, K> {
         // What every answer keeps.
         ensures unused { StaysUnused N.meaning K.meaning self.old self.new }
         ensures first { self.old.state ≡ states.Initial → StaysUnmarked N.meaning K.meaning self.old self.new }
-        ensures need { self.old.state ≢ states.Initial →
-            StaysNeeded (is_guest (step_args args.now).handle) (values_of self.old) (values_of self.new) }
+        ensures need { let v = values_of self.old in self.old.state ≢ states.Initial →
+            StaysNeeded (excuses_guest (chosen_at self.old.state args.now.input.now) v (step_args args.now)) v (values_of self.new) }
     {
         self.take_ntlm()?;
         self.disable_kerberos(args)
@@ -137,8 +138,8 @@ impl<N: Mechanism, K: Mechanism> Negotiate<N, K> {
         // What every answer keeps.
         ensures unused { StaysUnused N.meaning K.meaning self.old self.new }
         ensures first { self.old.state ≡ states.Initial → StaysUnmarked N.meaning K.meaning self.old self.new }
-        ensures need { self.old.state ≢ states.Initial →
-            StaysNeeded (is_guest (step_args args.now).handle) (values_of self.old) (values_of self.new) }
+        ensures need { let v = values_of self.old in self.old.state ≢ states.Initial →
+            StaysNeeded (excuses_guest (chosen_at self.old.state args.now.input.now) v (step_args args.now)) v (values_of self.new) }
     {
         self.packages.kerberos = false;
         self.with_handle(args)
@@ -153,8 +154,8 @@ impl<N: Mechanism, K: Mechanism> Negotiate<N, K> {
         // What every answer keeps.
         ensures unused { StaysUnused N.meaning K.meaning self.old self.new }
         ensures first { self.old.state ≡ states.Initial → StaysUnmarked N.meaning K.meaning self.old self.new }
-        ensures need { self.old.state ≢ states.Initial →
-            StaysNeeded (is_guest (step_args args.now).handle) (values_of self.old) (values_of self.new) }
+        ensures need { let v = values_of self.old in self.old.state ≢ states.Initial →
+            StaysNeeded (excuses_guest (chosen_at self.old.state args.now.input.now) v (step_args args.now)) v (values_of self.new) }
     {
         match args.credentials_handle {
             None => self.step_at(args),
@@ -176,8 +177,8 @@ impl<N: Mechanism, K: Mechanism> Negotiate<N, K> {
         // What every answer keeps.
         ensures unused { StaysUnused N.meaning K.meaning self.old self.new }
         ensures first { self.old.state ≡ states.Initial → StaysUnmarked N.meaning K.meaning self.old self.new }
-        ensures need { self.old.state ≢ states.Initial →
-            StaysNeeded (is_guest (step_args args.now).handle) (values_of self.old) (values_of self.new) }
+        ensures need { let v = values_of self.old in self.old.state ≢ states.Initial →
+            StaysNeeded (excuses_guest (chosen_at self.old.state args.now.input.now) v (step_args args.now)) v (values_of self.new) }
     {
         let identity = AuthIdentity::from_buffers(self.alloc, buffers)?;
         self.keep(&identity, args)
@@ -197,8 +198,8 @@ impl<N: Mechanism, K: Mechanism> Negotiate<N, K> {
         // What every answer keeps.
         ensures unused { StaysUnused N.meaning K.meaning self.old self.new }
         ensures first { self.old.state ≡ states.Initial → StaysUnmarked N.meaning K.meaning self.old self.new }
-        ensures need { self.old.state ≢ states.Initial →
-            StaysNeeded (is_guest (step_args args.now).handle) (values_of self.old) (values_of self.new) }
+        ensures need { let v = values_of self.old in self.old.state ≢ states.Initial →
+            StaysNeeded (excuses_guest (chosen_at self.old.state args.now.input.now) v (step_args args.now)) v (values_of self.new) }
     {
         let kept = identity.to_buffers(self.alloc)?;
         self.auth_identity = Some(CredentialsBuffers::AuthIdentity(kept));
@@ -217,8 +218,8 @@ impl<N: Mechanism, K: Mechanism> Negotiate<N, K> {
         // What every answer keeps.
         ensures unused { StaysUnused N.meaning K.meaning self.old self.new }
         ensures first { self.old.state ≡ states.Initial → StaysUnmarked N.meaning K.meaning self.old self.new }
-        ensures need { self.old.state ≢ states.Initial →
-            StaysNeeded (is_guest (step_args args.now).handle) (values_of self.old) (values_of self.new) }
+        ensures need { let v = values_of self.old in self.old.state ≢ states.Initial →
+            StaysNeeded (excuses_guest (chosen_at self.old.state args.now.input.now) v (step_args args.now)) v (values_of self.new) }
     {
         self.take_by_rule(name)?;
         self.step_at(args)
@@ -233,8 +234,8 @@ impl<N: Mechanism, K: Mechanism> Negotiate<N, K> {
         // What every answer keeps.
         ensures unused { StaysUnused N.meaning K.meaning self.old self.new }
         ensures first { self.old.state ≡ states.Initial → StaysUnmarked N.meaning K.meaning self.old self.new }
-        ensures need { self.old.state ≢ states.Initial →
-            StaysNeeded (is_guest (step_args args.now).handle) (values_of self.old) (values_of self.new) }
+        ensures need { let v = values_of self.old in self.old.state ≢ states.Initial →
+            StaysNeeded (excuses_guest (chosen_at self.old.state args.now.input.now) v (step_args args.now)) v (values_of self.new) }
     {
         match self.state {
             NegotiateState::Initial => self.first_step(args),

@@ -9,8 +9,7 @@ ghost use Rattle.sspi_mech.specs.Calls.{StepArgs, AcceptArgs};
 ghost use Rattle.sspi_mech.specs.Context.{IsContext};
 ghost use Rattle.sspi_negotiate.specs.declared.protocol.NegotiatedProtocol.{NegotiatedProtocol};
 ghost use Rattle.sspi_negotiate.specs.Does.{StaysNeeded, UnlessMemory, told};
-ghost use Rattle.sspi_negotiate.specs.Choices.{chosen_in, other_protocol, UnlessRefused};
-ghost use Rattle.sspi_negotiate.specs.Client.{is_guest};
+ghost use Rattle.sspi_negotiate.specs.Choices.{chosen_in, chosen_at, excuses_guest, other_protocol, UnlessRefused};
 ghost use Rattle.sspi_negotiate.specs.declared.protocol.Protocol.{Protocol};
 ghost use Rattle.sspi_mech.specs.declared.step.Answer.TheVariants as answers;
 ghost use Rattle.sspi_negotiate.specs.declared.state.NegotiateState.TheVariants as states;
@@ -67,11 +66,13 @@ pub fn choices_are_kept<N: Mechanism, K: Mechanism>()
 {}
 
 /// Where MICs are needed they stay so, want of memory included: a server's refused step leaves the need as it was, and so does a
-/// resumed step, whatever it answers; a client's later step takes it away for a guest alone.
+/// resumed step, whatever it answers; a client's later step takes it away only by the server's choice of NTLM, which may be used,
+/// for a guest.
 pub fn mic_need_is_kept<N: Mechanism, K: Mechanism>()
     ensures client { (old new : Negotiation (NegotiatedProtocol N K)) (args : StepArgs) (answer : Answer) →
         (negotiate N.REQUESTS N.meaning K.meaning).steps old args answer new →
-        old.state ≢ states.Initial → StaysNeeded (is_guest args.handle) (values_of old) (values_of new) }
+        old.state ≢ states.Initial →
+        StaysNeeded (excuses_guest (chosen_at old.state args.input) (values_of old) args) (values_of old) (values_of new) }
     ensures resumed { (old new : Negotiation (NegotiatedProtocol N K)) (reply : Reply) (answer : Answer) →
         (negotiate N.REQUESTS N.meaning K.meaning).resumes old reply answer new → new.need ≡ old.need }
     ensures server { (old new : Negotiation (NegotiatedProtocol N K)) (args : AcceptArgs) (result : Result Step Error) →
