@@ -2,6 +2,7 @@ pub mod Acquiring
 pub mod Asks
 pub mod Choosing
 pub mod ClientEnds
+pub mod Ending
 pub mod Ends
 pub mod Follow
 pub mod HandLaws
@@ -11,6 +12,7 @@ pub mod Kept
 pub mod KnownEntries
 pub mod Moved
 pub mod Names
+pub mod Needed
 pub mod NegotiateLaws
 pub mod Passing
 pub mod Quiet

@@ -47,6 +47,54 @@ Closes (Identifies identities v p) = ⊥
 Closes (Signs text v go) = (mic : List ℕ) → EndsHere (go mic)
 Closes (Verifies mic text v p) = ⊥
 
+IsDone : Answer → Type 0
+IsDone (Done step) = Unit {0}
+IsDone (Ask request) = ⊥
+IsDone (Refused error) = ⊥
+
+pub at_went : {M : Type 0} {go : Step → Type 0} {fall : ErrorKind → Type 0} (Goal : Type 0) (x : Answer) (step : Step) (v v2 : Values)
+    (m1 m2 : M) →
+    ((s : Step) → go s → Goal) → ((kind : ErrorKind) → fall kind → Goal) → Went x go fall (Done step) v v2 m1 m2 → Goal
+unfolding IsDone
+at_went Goal (Done s) step v v2 m1 m2 on fallen w = on s w
+at_went Goal (Ask request) step v v2 m1 m2 on fallen w = absurd (subst IsDone w.0 tt)
+at_went Goal (Refused error) step v v2 m1 m2 on fallen w = fallen error.error_type w.1
+
+pub at_asked : {M T : Type 0} {Good : T → M → Type 0} {Bad : Error → M → Type 0} {step : Step} {v v2 : Values} {m2 : M} (Goal : Type 0) →
+    ((t : T) (m1 : M) → Good t m1 → Goal) → Asked Good Bad (Done step) v v2 m2 → Goal
+unfolding IsDone
+at_asked Goal on (answered t m1 h) = on t m1 h
+at_asked Goal on (refused error bad answer same) = absurd (subst IsDone answer tt)
+
+pub ending : {M : Type 0} (c : Meaning Origin M) (p : Plan) (m m2 : M) (step : Step) (v2 : Values) → EndsHere p →
+    Follows c p m (Done step) v2 m2 → m2 ≡ m
+ending c (Goes v made) m m2 step v2 ends f = f.2
+ending c (Stops v kind) m m2 step v2 ends f = absurd f.0
+ending c (Takes origin p) m m2 step v2 ends f = absurd ends
+ending c (Steps args v go fall) m m2 step v2 ends f = absurd ends
+ending c (Resumes reply v go fall) m m2 step v2 ends f = absurd ends
+ending c (Accepts args v go) m m2 step v2 ends f = absurd ends
+ending c (Pairs go) m m2 step v2 ends f = absurd ends
+ending c (Names v go) m m2 step v2 ends f = absurd ends
+ending c (Identifies identities v p) m m2 step v2 ends f = absurd ends
+ending c (Signs text v go) m m2 step v2 ends f = absurd ends
+ending c (Verifies mic text v p) m m2 step v2 ends f = absurd ends
+
+closing : {M : Type 0} (c : Meaning Origin M) (p : Plan) (m m2 : M) (step : Step) (v2 : Values) → Closes p →
+    Follows c p m (Done step) v2 m2 → Leaves c m m2
+closing c (Goes v made) m m2 step v2 closes f = as_it_was f.2
+closing c (Stops v kind) m m2 step v2 closes f = absurd f.0
+closing c (Takes origin p) m m2 step v2 closes f = absurd closes
+closing c (Steps args v go fall) m m2 step v2 closes f = absurd closes
+closing c (Resumes reply v go fall) m m2 step v2 closes f = absurd closes
+closing c (Accepts args v go) m m2 step v2 closes f = absurd closes
+closing c (Pairs go) m m2 step v2 closes f = absurd closes
+closing c (Names v go) m m2 step v2 closes f = absurd closes
+closing c (Identifies identities v p) m m2 step v2 closes f = absurd closes
+closing c (Signs text v go) m m2 step v2 closes f =
+    at_asked _ (λ mic m1 g. having_signed (ending c (go mic) m1 m2 step v2 (closes mic) g.3 ∙ g.1)) f
+closing c (Verifies mic text v p) m m2 step v2 closes f = absurd closes
+
 module _ (list : List (List ℕ)) where
   abbrev pub Shown : Type 0 → Plan → Type 0
   Shown seen (Goes v step) = AtOver list seen v
@@ -60,54 +108,6 @@ module _ (list : List (List ℕ)) where
   Shown seen (Identifies identities v p) = Shown seen p
   Shown seen (Signs text v go) = (mic : List ℕ) → Shown seen (go mic)
   Shown seen (Verifies mic text v p) = (spelled_list list ≡ Some text) × Shown (Unit {0}) p × Closes p
-
-  IsDone : Answer → Type 0
-  IsDone (Done step) = Unit {0}
-  IsDone (Ask request) = ⊥
-  IsDone (Refused error) = ⊥
-
-  at_went : {M : Type 0} {go : Step → Type 0} {fall : ErrorKind → Type 0} (Goal : Type 0) (x : Answer) (step : Step) (v v2 : Values)
-      (m1 m2 : M) →
-      ((s : Step) → go s → Goal) → ((kind : ErrorKind) → fall kind → Goal) → Went x go fall (Done step) v v2 m1 m2 → Goal
-  unfolding IsDone
-  at_went Goal (Done s) step v v2 m1 m2 on fallen w = on s w
-  at_went Goal (Ask request) step v v2 m1 m2 on fallen w = absurd (subst IsDone w.0 tt)
-  at_went Goal (Refused error) step v v2 m1 m2 on fallen w = fallen error.error_type w.1
-
-  at_asked : {M T : Type 0} {Good : T → M → Type 0} {Bad : Error → M → Type 0} {step : Step} {v v2 : Values} {m2 : M} (Goal : Type 0) →
-      ((t : T) (m1 : M) → Good t m1 → Goal) → Asked Good Bad (Done step) v v2 m2 → Goal
-  unfolding IsDone
-  at_asked Goal on (answered t m1 h) = on t m1 h
-  at_asked Goal on (refused error bad answer same) = absurd (subst IsDone answer tt)
-
-  ending : {M : Type 0} (c : Meaning Origin M) (p : Plan) (m m2 : M) (step : Step) (v2 : Values) → EndsHere p →
-      Follows c p m (Done step) v2 m2 → m2 ≡ m
-  ending c (Goes v made) m m2 step v2 ends f = f.2
-  ending c (Stops v kind) m m2 step v2 ends f = absurd f.0
-  ending c (Takes origin p) m m2 step v2 ends f = absurd ends
-  ending c (Steps args v go fall) m m2 step v2 ends f = absurd ends
-  ending c (Resumes reply v go fall) m m2 step v2 ends f = absurd ends
-  ending c (Accepts args v go) m m2 step v2 ends f = absurd ends
-  ending c (Pairs go) m m2 step v2 ends f = absurd ends
-  ending c (Names v go) m m2 step v2 ends f = absurd ends
-  ending c (Identifies identities v p) m m2 step v2 ends f = absurd ends
-  ending c (Signs text v go) m m2 step v2 ends f = absurd ends
-  ending c (Verifies mic text v p) m m2 step v2 ends f = absurd ends
-
-  closing : {M : Type 0} (c : Meaning Origin M) (p : Plan) (m m2 : M) (step : Step) (v2 : Values) → Closes p →
-      Follows c p m (Done step) v2 m2 → Leaves c m m2
-  closing c (Goes v made) m m2 step v2 closes f = as_it_was f.2
-  closing c (Stops v kind) m m2 step v2 closes f = absurd f.0
-  closing c (Takes origin p) m m2 step v2 closes f = absurd closes
-  closing c (Steps args v go fall) m m2 step v2 closes f = absurd closes
-  closing c (Resumes reply v go fall) m m2 step v2 closes f = absurd closes
-  closing c (Accepts args v go) m m2 step v2 closes f = absurd closes
-  closing c (Pairs go) m m2 step v2 closes f = absurd closes
-  closing c (Names v go) m m2 step v2 closes f = absurd closes
-  closing c (Identifies identities v p) m m2 step v2 closes f = absurd closes
-  closing c (Signs text v go) m m2 step v2 closes f =
-      at_asked _ (λ mic m1 g. having_signed (ending c (go mic) m1 m2 step v2 (closes mic) g.3 ∙ g.1)) f
-  closing c (Verifies mic text v p) m m2 step v2 closes f = absurd closes
 
   pub shown : {M : Type 0} (c : Meaning Origin M) (p : Plan) (seen : Type 0) (m m2 : M) (step : Step) (v2 : Values) → Shown seen p →
       (seen → IsVerified c list m2) →

@@ -39,7 +39,7 @@ written_ends : (o : Option (List ℕ)) (v v2 : Values) (status : SecurityStatus)
 written_ends None v v2 status = tt
 written_ends (Some text) v v2 status = tt
 
-writes_ends : (token : NegTokenTarg) (v v2 : Values) (status : SecurityStatus) → EndsHere (writes token v v2 status)
+pub writes_ends : (token : NegTokenTarg) (v v2 : Values) (status : SecurityStatus) → EndsHere (writes token v v2 status)
 unfolding writes
 writes_ends token v v2 status = written_ends (spelled_targ token) v v2 status
 

@@ -1,9 +1,12 @@
--- That the peer's MIC over a list of mechanisms was verified, or that no MIC was made or verified at all.
-use Rattle.std.specs.Prelude.{◌≡◌, ℕ, List, Some}
+-- That the peer's MIC over a list of mechanisms was verified, that the peer is a guest, who needs none, or that no MIC was made or
+-- verified at all.
+use Rattle.std.specs.Prelude.{◌≡◌, ℕ, List, Some, true}
+use Rattle.sspi_names.specs.Name.{Name, inner_of}
 use Rattle.sspi_mech.specs.Calls.{Counts, ToVerify, one_signing, one_verification}
 use Rattle.sspi_mech.specs.Meaning.{Meaning}
 use Rattle.sspi_tokens.specs.Spelling.{spelled_list}
 use Rattle.sspi_negotiate.specs.Hand.{Origin}
+use Rattle.sspi_negotiate.specs.Rows.{is_guest_text}
 
 -- no MIC was made or verified
 pub record HasNoMic (n : Counts) : Type 0 where
@@ -27,3 +30,9 @@ pub record IsVerified {M : Type 0} (c : Meaning Origin M) (list : List (List ℕ
   pub verified : c.verifies after (c.counts before).verifications mic text
   pub counted : after ≡ c.counted before (one_verification (c.counts before))
   pub last : Leaves c after left
+
+-- the peer is a guest by the name that the mechanism gives of it
+pub record IsGuestNamed {M : Type 0} (c : Meaning Origin M) (m : M) : Type 0 where
+  pub name : Name
+  pub named : c.names m ≡ Some name
+  pub is_guest : is_guest_text (inner_of name) ≡ true

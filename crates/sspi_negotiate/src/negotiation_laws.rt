@@ -1,6 +1,6 @@
 //! What holds of every negotiation. Each law is the contract of a call that does nothing.
 
-ghost use Rattle.std.specs.Prelude.{◌≡◌, ◌≢◌, true, false, Some, Result, Ok, OnErr};
+ghost use Rattle.std.specs.Prelude.{◌≡◌, ◌≢◌, ◌⊎◌, true, false, Some, Result, Ok, OnErr};
 ghost use Rattle.sspi_types.specs.declared.error.Error.{Error};
 ghost use Rattle.sspi_mech.specs.declared.step.Answer.{Answer};
 ghost use Rattle.sspi_mech.specs.declared.step.Reply.{Reply};
@@ -14,7 +14,7 @@ ghost use Rattle.sspi_negotiate.specs.declared.protocol.Protocol.{Protocol};
 ghost use Rattle.sspi_mech.specs.declared.step.Answer.TheVariants as answers;
 ghost use Rattle.sspi_negotiate.specs.declared.state.NegotiateState.TheVariants as states;
 ghost use Rattle.sspi_negotiate.specs.Hand.{hand, hand_of};
-ghost use Rattle.sspi_negotiate.specs.Verified.{IsVerified};
+ghost use Rattle.sspi_negotiate.specs.Verified.{IsVerified, IsGuestNamed};
 ghost use Rattle.sspi_negotiate.specs.Keeps.{Keeps, KeepsPackages, may_use};
 ghost use Rattle.sspi_negotiate.specs.Values.{Negotiation, values_of};
 ghost use Rattle.sspi_negotiate.specs.Negotiate.{negotiate};
@@ -66,8 +66,8 @@ pub fn choices_are_kept<N: Mechanism, K: Mechanism>()
 {}
 
 /// Where MICs are needed they stay so, want of memory included: a server's refused step leaves the need as it was, and so does a
-/// resumed step, whatever it answers; a client's later step takes it away only by the server's choice of NTLM, which may be used,
-/// for a guest.
+/// resumed step, whatever it answers; behind the first step, a client's step takes it away only by the server's choice of NTLM, which
+/// may be used, for a guest, and a server's only where the peer is a guest by the name that the mechanism then in hand gives.
 pub fn mic_need_is_kept<N: Mechanism, K: Mechanism>()
     ensures client { (old new : Negotiation (NegotiatedProtocol N K)) (args : StepArgs) (answer : Answer) →
         (negotiate N.REQUESTS N.meaning K.meaning).steps old args answer new →
@@ -77,10 +77,16 @@ pub fn mic_need_is_kept<N: Mechanism, K: Mechanism>()
         (negotiate N.REQUESTS N.meaning K.meaning).resumes old reply answer new → new.need ≡ old.need }
     ensures server { (old new : Negotiation (NegotiatedProtocol N K)) (args : AcceptArgs) (result : Result Step Error) →
         (negotiate N.REQUESTS N.meaning K.meaning).accepts old args result new → OnErr result (new.need ≡ old.need) }
+    ensures server_done { (old new : Negotiation (NegotiatedProtocol N K)) (args : AcceptArgs) (step : Step) →
+        (negotiate N.REQUESTS N.meaning K.meaning).accepts old args (Ok step) new →
+        old.state ≢ states.Initial → old.need ≡ true →
+        (new.need ≡ true) ⊎ IsGuestNamed (hand N.meaning K.meaning) new.mech }
 {}
 
 /// An end that needs MICs comes to its end only where, in that very step, the mechanism that is left in hand verified the
-/// peer's next MIC over the list of mechanisms as it is kept, and since then made at most its own (RFC 4178, section 5).
+/// peer's next MIC over the list of mechanisms as it is kept, and since then made at most its own (RFC 4178, section 5). That holds
+/// where MICs are needed after the step, and, behind the first step, where they were needed before it: but on a client where the
+/// server chose NTLM, which may be used, for a guest, and on a server where the mechanism names its peer as a guest.
 pub fn mics_protect_the_list<N: Mechanism, K: Mechanism>()
     ensures client { (old new : Negotiation (NegotiatedProtocol N K)) (args : StepArgs) (step : Step) →
         (negotiate N.REQUESTS N.meaning K.meaning).steps old args (answers.Done step) new →
@@ -91,4 +97,16 @@ pub fn mics_protect_the_list<N: Mechanism, K: Mechanism>()
     ensures server { (old new : Negotiation (NegotiatedProtocol N K)) (args : AcceptArgs) (step : Step) →
         (negotiate N.REQUESTS N.meaning K.meaning).accepts old args (Ok step) new →
         new.state ≡ states.Ok → new.need ≡ true → IsVerified (hand N.meaning K.meaning) new.list new.mech }
+    ensures client_before { (old new : Negotiation (NegotiatedProtocol N K)) (args : StepArgs) (step : Step) →
+        (negotiate N.REQUESTS N.meaning K.meaning).steps old args (answers.Done step) new →
+        new.state ≡ states.Ok → old.state ≢ states.Initial → old.need ≡ true →
+        excuses_guest (chosen_at old.state args.input) (values_of old) args ≡ false →
+        IsVerified (hand N.meaning K.meaning) new.list new.mech }
+    ensures resumed_before { (old new : Negotiation (NegotiatedProtocol N K)) (reply : Reply) (step : Step) → old.state ≢ states.Ok →
+        (negotiate N.REQUESTS N.meaning K.meaning).resumes old reply (answers.Done step) new →
+        new.state ≡ states.Ok → old.need ≡ true → IsVerified (hand N.meaning K.meaning) new.list new.mech }
+    ensures server_before { (old new : Negotiation (NegotiatedProtocol N K)) (args : AcceptArgs) (step : Step) →
+        (negotiate N.REQUESTS N.meaning K.meaning).accepts old args (Ok step) new →
+        new.state ≡ states.Ok → old.state ≢ states.Initial → old.need ≡ true →
+        IsVerified (hand N.meaning K.meaning) new.list new.mech ⊎ IsGuestNamed (hand N.meaning K.meaning) new.mech }
 {}

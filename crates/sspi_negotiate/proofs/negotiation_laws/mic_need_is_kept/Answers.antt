@@ -1,3 +1,4 @@
+use Rattle.sspi_negotiate.proofs.Ending.{server_needs}
 use Rattle.sspi_negotiate.proofs.negotiation_laws.mic_need_is_kept.Goals as goal
 
 pub returns-clause-client : goal.returns-clause-client
@@ -8,3 +9,7 @@ returns-clause-resumed g c = λ old new reply answer s. s.protected
 
 pub returns-clause-server : goal.returns-clause-server
 returns-clause-server g c = λ old new args result s. s.moves.protected
+
+pub returns-clause-server_done : goal.returns-clause-server_done
+returns-clause-server_done g c = λ old new args step s late need.
+    server_needs g.N.Mechanism.meaning g.K.Mechanism.meaning old new args step s late need
