@@ -6,6 +6,7 @@ pub mod Ending
 pub mod Ends
 pub mod Follow
 pub mod HandLaws
+pub mod Holding
 pub mod InTurn
 pub mod Keeping
 pub mod Kept

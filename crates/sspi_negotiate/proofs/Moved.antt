@@ -1,5 +1,5 @@
 -- The steps of a negotiation, with what holds of want of memory too.
-use Rattle.std.proofs.Common.{◌≡◌, ◌≢◌, ◌<◌, ◌↔◌, ℕ, Bool, false, IsTrue, Result, Ok, Err, OnErr, refl}
+use Rattle.std.proofs.Common.{◌≡◌, ◌≢◌, ◌<◌, ◌↔◌, ◌&&◌, ℕ, Bool, true, false, IsTrue, Result, Ok, Err, OnErr, refl}
 use Rattle.sspi_types.specs.declared.error.Error.{Error}
 use Rattle.sspi_mech.specs.declared.step.Progressing.{Progressing}
 use Rattle.sspi_mech.specs.declared.step.Progressing.TheVariants as progress
@@ -14,14 +14,17 @@ use Rattle.sspi_negotiate.specs.declared.protocol.NegotiatedProtocol.{Negotiated
 use Rattle.sspi_negotiate.specs.declared.state.NegotiateState.TheVariants as states
 use Rattle.sspi_negotiate.specs.Choices.{chosen_at, excuses_guest}
 use Rattle.sspi_negotiate.specs.Client.{spnego_client, spnego_resumed}
-use Rattle.sspi_negotiate.specs.Does.{Does, Stays, StaysNeeded, StaysPicked, StaysUnmarked, StaysUnused, told}
-use Rattle.sspi_negotiate.specs.Hand.{asks_left}
-use Rattle.sspi_negotiate.specs.Keeps.{is_answering}
+use Rattle.sspi_negotiate.specs.Does.{Does, Stays, StaysNeeded, StaysPicked, StaysResumed, StaysUnmarked, StaysUnused, told}
+use Rattle.sspi_negotiate.specs.Hand.{asks_left, hand_of}
+use Rattle.sspi_negotiate.specs.Holding.{MayHold, MayKeep, user_of, user_url}
+use Rattle.sspi_negotiate.specs.Keeps.{is_answering, is_opening}
 use Rattle.sspi_negotiate.specs.Negotiate.{Moves, ClientMoves, ServerMoves}
 use Rattle.sspi_negotiate.specs.Server.{spnego_server}
 use Rattle.sspi_negotiate.specs.Target.{IsNamedByIp}
 use Rattle.sspi_negotiate.specs.Values.{Negotiation, values_of}
+use Rattle.std.proofs.lemmas.Bool.{false≢true}
 use Rattle.sspi_negotiate.proofs.Asks.{resumed_falls}
+use Rattle.sspi_negotiate.proofs.Holding.{held_by}
 
 told_stays : (P : Type 0) (result : Result Step Error) → OnErr result P → OnRefused (told result) P
 told_stays P (Ok step) stays = tt
@@ -31,6 +34,10 @@ answered_stays : (P : Type 0) (result : Result Progressing Error) → OnErr resu
 answered_stays P (Ok (progress.Done step)) stays = tt
 answered_stays P (Ok (progress.Suspended request)) stays = tt
 answered_stays P (Err error) stays = stays
+
+addressed : {P : Type 0} (ip : Bool) → (IsTrue ip ↔ P) → (ntlm : Bool) → ip && ntlm ≡ true → P × (ntlm ≡ true)
+addressed true is ntlm h = (is.0 refl, h)
+addressed false is ntlm h = absurd (false≢true h)
 
 module _ {N K : Type 0} (n : Meaning Setting N) (k : Meaning Setting K) (s : Negotiation (NegotiatedProtocol N K)) where
   pub accept_moves : (args : AcceptArgs) (result : Result Step Error) (s2 : Negotiation (NegotiatedProtocol N K)) →
@@ -48,8 +55,11 @@ module _ {N K : Type 0} (n : Meaning Setting N) (k : Meaning Setting K) (s : Neg
       (s.state ≡ states.Initial → StaysUnmarked n k s s2) →
       (s.state ≢ states.Initial →
       StaysNeeded (excuses_guest (chosen_at s.state args.input) (values_of s) args) (values_of s) (values_of s2)) →
-      ClientMoves n k s args (answer_of result) s2
-  client_moves args result s2 ip is follows stays unused unmarked need = record {
+      (s.state ≢ states.Initial → MayHold (ip && s.packages.ntlm ≡ true) (user_url (values_of s) (user_of args.handle))
+      (chosen_at s.state args.input) (hand_of s.mech) (hand_of s2.mech)) →
+      (s.state ≢ states.Initial → MayKeep (user_of args.handle) s.kept s2.kept) → ClientMoves n k s args (answer_of result) s2
+  client_moves args result s2 ip is follows stays unused unmarked need hand kept = record {
+    held = λ late. record { hand = held_by (addressed ip is s.packages.ntlm) (λ found h. h) (hand late); kept = kept late };
     ip = ip;
     ip_is = is;
     moves = record {
@@ -64,13 +74,15 @@ module _ {N K : Type 0} (n : Meaning Setting N) (k : Meaning Setting K) (s : Neg
   pub resume_moves : (reply : Reply) (result : Result Progressing Error) (s2 : Negotiation (NegotiatedProtocol N K)) →
       Does n k (spnego_resumed (values_of s) reply) s (answer_of result) s2 → OnErr result (Stays (values_of s) (values_of s2)) →
       StaysUnused n k s s2 → (is_answering s.branch ≡ false → StaysUnmarked n k s s2) → s2.need ≡ s.need →
-      Moves n k (is_answering s.branch ≡ false) (s2.need ≡ s.need) (spnego_resumed (values_of s) reply) s (answer_of result) s2
-  resume_moves reply result s2 follows stays unused unmarked need = record {
+      (is_opening s.branch ≡ false → StaysPicked (values_of s) (values_of s2)) →
+      Moves n k (is_answering s.branch ≡ false) (StaysResumed (values_of s) (values_of s2)) (spnego_resumed (values_of s) reply) s
+      (answer_of result) s2
+  resume_moves reply result s2 follows stays unused unmarked need picked = record {
     follows = follows;
     stays = answered_stays _ result stays;
     unused = unused;
     unmarked = unmarked;
-    protected = need;
+    protected = record { need = need; picked = picked };
   }
 
 -- a further question to a KDC is one fewer to come

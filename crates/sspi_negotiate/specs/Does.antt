@@ -12,7 +12,7 @@ use Rattle.sspi_negotiate.specs.declared.protocol.NegotiatedProtocol.{Negotiated
 use Rattle.sspi_negotiate.specs.declared.state.Role.TheVariants.{Client}
 use Rattle.sspi_negotiate.specs.Follows.{Follows}
 use Rattle.sspi_negotiate.specs.Hand.{Origin, hand}
-use Rattle.sspi_negotiate.specs.Keeps.{KeepsPackages}
+use Rattle.sspi_negotiate.specs.Keeps.{KeepsPackages, is_opening}
 use Rattle.sspi_negotiate.specs.Plan.{Plan}
 use Rattle.sspi_negotiate.specs.Values.{Values, Negotiation, values_of}
 use Rattle.sspi_negotiate.specs.Verified.{HasNoMic}
@@ -55,11 +55,17 @@ pub record Stays (old new : Values) : Type 0 where
   pub computer : new.computer ≡ old.computer
   pub kdcs : new.kdcs ≡ old.kdcs
 
--- the list of mechanisms and the mechanism in hand are as they were
+-- the list of mechanisms, the mechanism in hand and the kept credentials are as they were
 pub record StaysPicked (old new : Values) : Type 0 where
   pub list : new.list ≡ old.list
   pub hand : new.hand ≡ old.hand
+  pub kept : new.kept ≡ old.kept
 
 -- where MICs were needed, they are, but for a guest who is excused
 abbrev pub StaysNeeded : Bool → Values → Values → Type 0
 StaysNeeded excused old new = old.need ≡ true → excused ≡ false → new.need ≡ true
+
+-- what a resumed step leaves: the need, and, where the one that waits is no first step, the list and what is in hand and kept
+pub record StaysResumed (old new : Values) : Type 0 where
+  pub need : new.need ≡ old.need
+  pub picked : is_opening old.branch ≡ false → StaysPicked old new

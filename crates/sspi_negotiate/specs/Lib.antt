@@ -6,6 +6,7 @@ pub mod Passes
 pub mod Fallback
 pub mod Follows
 pub mod Hand
+pub mod Holding
 pub mod Identity
 pub mod IpText
 pub mod Keeps

@@ -14,8 +14,9 @@ use Rattle.sspi_negotiate.specs.declared.state.NegotiateState.TheVariants.{Initi
 use Rattle.sspi_negotiate.specs.Acquire.{Acquires, RefusesToAcquire}
 use Rattle.sspi_negotiate.specs.Choices.{chosen_at, excuses_guest}
 use Rattle.sspi_negotiate.specs.Client.{spnego_client, spnego_resumed}
-use Rattle.sspi_negotiate.specs.Does.{Does, Stays, StaysNeeded, StaysPicked, StaysUnmarked, StaysUnused, told}
+use Rattle.sspi_negotiate.specs.Does.{Does, Stays, StaysNeeded, StaysPicked, StaysResumed, StaysUnmarked, StaysUnused, told}
 use Rattle.sspi_negotiate.specs.Hand.{hand, asks_left}
+use Rattle.sspi_negotiate.specs.Holding.{StaysHeld}
 use Rattle.sspi_negotiate.specs.Keeps.{is_answering}
 use Rattle.sspi_negotiate.specs.New.{NegotiateSetting, MadeOf, UnmadeOf}
 use Rattle.sspi_negotiate.specs.Plan.{Plan}
@@ -34,7 +35,7 @@ pub record Moves {N K : Type 0} (n : Meaning Setting N) (k : Meaning Setting K) 
   pub protected : Protected
 
 -- a client's step, whose plan depends on whether the target is named by its IP address; behind the first one the need of MICs goes
--- only where the server chooses NTLM for a guest
+-- only where the server chooses NTLM for a guest, and what is in hand and kept changes only as StaysHeld says
 pub record ClientMoves {N K : Type 0} (n : Meaning Setting N) (k : Meaning Setting K) (s : Negotiation (NegotiatedProtocol N K))
     (args : StepArgs) (r : Answer)
     (s2 : Negotiation (NegotiatedProtocol N K)) : Type 0 where
@@ -43,6 +44,7 @@ pub record ClientMoves {N K : Type 0} (n : Meaning Setting N) (k : Meaning Setti
   pub moves : Moves n k (s.state ≡ Initial)
       (s.state ≢ Initial → StaysNeeded (excuses_guest (chosen_at s.state args.input) (values_of s) args) (values_of s) (values_of s2))
       (spnego_client ip (values_of s) args) s r s2
+  pub held : s.state ≢ Initial → StaysHeld (values_of s) args (values_of s2)
 
 -- a server's step, which leaves the need of MICs where it is refused; once it has read the list, it leaves that and the mechanism
 -- that it picked
@@ -64,7 +66,8 @@ module _ {N K : Type 0} (requests : ℕ) (n : Meaning Setting N) (k : Meaning Se
     unmade = UnmadeOf;
     acquires = Acquires n k;
     steps = ClientMoves n k;
-    resumes = λ s reply r s2. Moves n k (is_answering s.branch ≡ false) (s2.need ≡ s.need) (spnego_resumed (values_of s) reply) s r s2;
+    resumes = λ s reply r s2.
+        Moves n k (is_answering s.branch ≡ false) (StaysResumed (values_of s) (values_of s2)) (spnego_resumed (values_of s) reply) s r s2;
     accepts = ServerMoves n k;
     identifies = λ s identities s2. (hand n k).identifies s.mech identities s2.mech × (s2 ≡ record s { mech = s2.mech });
     names = λ s. (hand n k).names s.mech;

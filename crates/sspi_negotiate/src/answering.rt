@@ -13,9 +13,10 @@ ghost use Rattle.sspi_negotiate.specs.Choices.{protocol_of, chosen_in, excuses_g
 ghost use Rattle.sspi_negotiate.specs.Client.{at_progress, chosen, chooses_kerberos, chooses_ntlm, in_kerberos, answers, without_ntlm};
 ghost use Rattle.sspi_negotiate.specs.Client.{stepped, settles, verified, at_verify_mic, confirmed};
 ghost use Rattle.sspi_negotiate.specs.Client.{last_mic, handle_for, resumes_answering, spnego_resumed};
-ghost use Rattle.sspi_negotiate.specs.Does.{Does, Stays, StaysNeeded, StaysUnmarked, StaysUnused, told};
+ghost use Rattle.sspi_negotiate.specs.Does.{Does, Stays, StaysNeeded, StaysPicked, StaysUnmarked, StaysUnused, told};
 ghost use Rattle.sspi_negotiate.specs.Hand.{hand, hand_of};
-ghost use Rattle.sspi_negotiate.specs.Keeps.{is_answering};
+ghost use Rattle.sspi_negotiate.specs.Holding.{MayHold};
+ghost use Rattle.sspi_negotiate.specs.Keeps.{is_answering, is_opening};
 ghost use Rattle.sspi_negotiate.specs.Negotiate.{negotiate};
 ghost use Rattle.sspi_negotiate.specs.Plan.{Goes};
 ghost use Rattle.sspi_negotiate.specs.Rows.{or_empty, in_ntlm, verifies};
@@ -86,6 +87,8 @@ impl<N: Mechanism, K: Mechanism> Negotiate<N, K> {
         ensures unused { StaysUnused N.meaning K.meaning self.old self.new }
         ensures need { let v = values_of self.old in
             StaysNeeded (excuses_guest (chosen_in args.now.input.now) v (step_args args.now)) v (values_of self.new) }
+        ensures hand { MayHold ⊥ None (chosen_in args.now.input.now) (hand_of self.old.mech) (hand_of self.new.mech) }
+        ensures kept { self.new.kept ≡ self.old.kept }
     {
         let token = NegTokenTarg::decode(self.alloc, args.input)?;
         self.choose(token, args)
@@ -104,6 +107,9 @@ impl<N: Mechanism, K: Mechanism> Negotiate<N, K> {
         ensures need { let v = values_of self.old in StaysNeeded
             (excuses_guest (option_and_then protocol_of (option_map kind_of token.supported_mech)) v (step_args args.now))
             v (values_of self.new) }
+        ensures hand { MayHold ⊥ None (option_and_then protocol_of (option_map kind_of token.supported_mech))
+            (hand_of self.old.mech) (hand_of self.new.mech) }
+        ensures kept { self.new.kept ≡ self.old.kept }
     {
         match choice_of(&token) {
             None => self.answer(token, args),
@@ -125,6 +131,8 @@ impl<N: Mechanism, K: Mechanism> Negotiate<N, K> {
         ensures stays { OnErr result (Stays (values_of self.old) (values_of self.new)) }
         ensures unused { StaysUnused N.meaning K.meaning self.old self.new }
         ensures need { StaysNeeded false (values_of self.old) (values_of self.new) }
+        ensures hand { MayHold ⊥ None (Some protocols.Kerberos) (hand_of self.old.mech) (hand_of self.new.mech) }
+        ensures kept { self.new.kept ≡ self.old.kept }
     {
         if self.packages.kerberos {
             self.go_to_kerberos(token, args)
@@ -144,6 +152,8 @@ impl<N: Mechanism, K: Mechanism> Negotiate<N, K> {
         ensures stays { self.old.packages.kerberos ≡ true → OnErr result (Stays (values_of self.old) (values_of self.new)) }
         ensures unused { StaysUnused N.meaning K.meaning self.old self.new }
         ensures need { StaysNeeded false (values_of self.old) (values_of self.new) }
+        ensures hand { MayHold ⊥ None (Some protocols.Kerberos) (hand_of self.old.mech) (hand_of self.new.mech) }
+        ensures kept { self.new.kept ≡ self.old.kept }
     {
         match self.protocol.protocol() {
             Protocol::Kerberos => self.answer_in_kerberos(token, args),
@@ -163,6 +173,8 @@ impl<N: Mechanism, K: Mechanism> Negotiate<N, K> {
         ensures stays { self.old.packages.kerberos ≡ true → OnErr result (Stays (values_of self.old) (values_of self.new)) }
         ensures unused { StaysUnused N.meaning K.meaning self.old self.new }
         ensures need { StaysNeeded false (values_of self.old) (values_of self.new) }
+        ensures hand { MayHold ⊥ None (Some protocols.Kerberos) (hand_of self.old.mech) (hand_of self.new.mech) }
+        ensures kept { self.new.kept ≡ self.old.kept }
     {
         self.protocol = NegotiatedProtocol::new_kerberos(
             self.alloc,
@@ -184,6 +196,7 @@ impl<N: Mechanism, K: Mechanism> Negotiate<N, K> {
         ensures stays { hand_of self.old.mech ≡ protocols.Kerberos → OnErr result (Stays (values_of self.old) (values_of self.new)) }
         ensures unused { StaysUnused N.meaning K.meaning self.old self.new }
         ensures need { StaysNeeded false (values_of self.old) (values_of self.new) }
+        ensures picked { StaysPicked (values_of self.old) (values_of self.new) }
     {
         self.packages.ntlm = false;
         self.answer(token, args)
@@ -201,6 +214,8 @@ impl<N: Mechanism, K: Mechanism> Negotiate<N, K> {
         ensures unused { StaysUnused N.meaning K.meaning self.old self.new }
         ensures need { let v = values_of self.old in
             StaysNeeded (excuses_guest (Some protocols.Ntlm) v (step_args args.now)) v (values_of self.new) }
+        ensures hand { MayHold ⊥ None (Some protocols.Ntlm) (hand_of self.old.mech) (hand_of self.new.mech) }
+        ensures kept { self.new.kept ≡ self.old.kept }
     {
         if self.packages.ntlm {
             let guest = is_guest(self.alloc, args.credentials_handle)?;
@@ -226,6 +241,8 @@ impl<N: Mechanism, K: Mechanism> Negotiate<N, K> {
         ensures stays { self.old.packages.ntlm ≡ true → OnErr result (Stays (values_of self.old) (values_of self.new)) }
         ensures unused { StaysUnused N.meaning K.meaning self.old self.new }
         ensures need { StaysNeeded guest (values_of self.old) (values_of self.new) }
+        ensures hand { MayHold ⊥ None (Some protocols.Ntlm) (hand_of self.old.mech) (hand_of self.new.mech) }
+        ensures kept { self.new.kept ≡ self.old.kept }
     {
         self.take_ntlm()?;
         self.answer_in_ntlm(token, args, guest)
@@ -246,6 +263,7 @@ impl<N: Mechanism, K: Mechanism> Negotiate<N, K> {
         ensures stays { hand_of self.old.mech ≡ protocols.Ntlm → OnErr result (Stays (values_of self.old) (values_of self.new)) }
         ensures unused { StaysUnused N.meaning K.meaning self.old self.new }
         ensures need { StaysNeeded guest (values_of self.old) (values_of self.new) }
+        ensures picked { StaysPicked (values_of self.old) (values_of self.new) }
     {
         self.packages.kerberos = false;
         self.mic_needed = !guest;
@@ -263,6 +281,7 @@ impl<N: Mechanism, K: Mechanism> Negotiate<N, K> {
         ensures stays { OnErr result (Stays (values_of self.old) (values_of self.new)) }
         ensures unused { StaysUnused N.meaning K.meaning self.old self.new }
         ensures need { self.new.need ≡ self.old.need }
+        ensures picked { StaysPicked (values_of self.old) (values_of self.new) }
     {
         let response = &token.response_token;
         match answer_with(&mut self.protocol, &self.auth_identity, args, response) {
@@ -280,6 +299,7 @@ impl<N: Mechanism, K: Mechanism> Negotiate<N, K> {
         ensures stays { OnErr result (Stays (values_of self.old) (values_of self.new)) }
         ensures unused { StaysUnused N.meaning K.meaning self.old self.new }
         ensures need { self.new.need ≡ self.old.need }
+        ensures picked { StaysPicked (values_of self.old) (values_of self.new) }
     {
         if is_ok(step.status) {
             let complete = is_complete(token.neg_result);
@@ -301,6 +321,7 @@ impl<N: Mechanism, K: Mechanism> Negotiate<N, K> {
         ensures stays { OnErr result (Stays (values_of self.old) (values_of self.new)) }
         ensures unused { StaysUnused N.meaning K.meaning self.old self.new }
         ensures need { self.new.need ≡ self.old.need }
+        ensures picked { StaysPicked (values_of self.old) (values_of self.new) }
     {
         if need {
             match mic {
@@ -320,6 +341,7 @@ impl<N: Mechanism, K: Mechanism> Negotiate<N, K> {
         ensures stays { OnErr result (Stays (values_of self.old) (values_of self.new)) }
         ensures unused { StaysUnused N.meaning K.meaning self.old self.new }
         ensures need { self.new.need ≡ self.old.need }
+        ensures picked { StaysPicked (values_of self.old) (values_of self.new) }
     {
         self.verify(mic)?;
         self.end_verified(complete, token)
@@ -330,6 +352,7 @@ impl<N: Mechanism, K: Mechanism> Negotiate<N, K> {
         ensures stays { OnErr result (Stays (values_of self.old) (values_of self.new)) }
         ensures unused { StaysUnused N.meaning K.meaning self.old self.new }
         ensures need { self.new.need ≡ self.old.need }
+        ensures picked { StaysPicked (values_of self.old) (values_of self.new) }
     {
         if complete {
             self.end()
@@ -347,6 +370,7 @@ impl<N: Mechanism, K: Mechanism> Negotiate<N, K> {
         ensures stays { OnErr result (Stays (values_of self.old) (values_of self.new)) }
         ensures unused { StaysUnused N.meaning K.meaning self.old self.new }
         ensures need { self.new.need ≡ self.old.need }
+        ensures picked { StaysPicked (values_of self.old) (values_of self.new) }
     {
         let token = NegTokenTarg::decode(self.alloc, args.input)?;
         done(self.confirm_by(token))
@@ -357,6 +381,7 @@ impl<N: Mechanism, K: Mechanism> Negotiate<N, K> {
         ensures stays { OnErr result (Stays (values_of self.old) (values_of self.new)) }
         ensures unused { StaysUnused N.meaning K.meaning self.old self.new }
         ensures need { self.new.need ≡ self.old.need }
+        ensures picked { StaysPicked (values_of self.old) (values_of self.new) }
     {
         if is_complete(token.neg_result) {
             self.confirm_mic(token.mech_list_mic)
@@ -370,6 +395,7 @@ impl<N: Mechanism, K: Mechanism> Negotiate<N, K> {
         ensures stays { OnErr result (Stays (values_of self.old) (values_of self.new)) }
         ensures unused { StaysUnused N.meaning K.meaning self.old self.new }
         ensures need { self.new.need ≡ self.old.need }
+        ensures picked { StaysPicked (values_of self.old) (values_of self.new) }
     {
         match mic {
             None => Ok(Step {
@@ -388,6 +414,7 @@ impl<N: Mechanism, K: Mechanism> Negotiate<N, K> {
         ensures stays { OnErr result (Stays (values_of self.old) (values_of self.new)) }
         ensures unused { StaysUnused N.meaning K.meaning self.old self.new }
         ensures need { self.new.need ≡ self.old.need }
+        ensures picked { StaysPicked (values_of self.old) (values_of self.new) }
     {
         self.verify(mic)?;
         self.end()
@@ -414,6 +441,7 @@ impl<N: Mechanism, K: Mechanism> Negotiate<N, K> {
         ensures unused { StaysUnused N.meaning K.meaning self.old self.new }
         ensures first { is_answering self.old.branch ≡ false → StaysUnmarked N.meaning K.meaning self.old self.new }
         ensures need { self.new.need ≡ self.old.need }
+        ensures picked { is_opening self.old.branch ≡ false → StaysPicked (values_of self.old) (values_of self.new) }
     {
         match mem::replace(&mut self.branch, Branch::Idle) {
             Branch::Idle => Err(Refusal::out_of_sequence()),
@@ -433,6 +461,7 @@ impl<N: Mechanism, K: Mechanism> Negotiate<N, K> {
         ensures stays { OnErr result (Stays (values_of self.old) (values_of self.new)) }
         ensures unused { StaysUnused N.meaning K.meaning self.old self.new }
         ensures need { self.new.need ≡ self.old.need }
+        ensures picked { StaysPicked (values_of self.old) (values_of self.new) }
     {
         match self.protocol.resume(reply) {
             Answer::Done(step) => done(self.conclude(token, step)),

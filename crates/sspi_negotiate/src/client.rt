@@ -1,5 +1,5 @@
 // What comes before each step of a client, and the states.
-ghost use Rattle.std.specs.Prelude.{◌≡◌, ◌≢◌, false, true, None, Some, IfErr, OnErr};
+ghost use Rattle.std.specs.Prelude.{◌≡◌, ◌≢◌, ◌&&◌, false, true, None, Some, IfErr, OnErr};
 ghost use Rattle.sspi_names.specs.Identity.{identity_of, buffers_of};
 ghost use Rattle.sspi_names.specs.declared.credentials.CredentialsBuffers.TheVariants as buffered;
 ghost use Rattle.sspi_mech.specs.Answers.{answer_of};
@@ -10,6 +10,7 @@ ghost use Rattle.sspi_negotiate.specs.Choices.{chosen_at, excuses_guest};
 ghost use Rattle.sspi_negotiate.specs.Client.{is_closed, spnego_client, by_target, with_handle, keeps, ruled, client_at};
 ghost use Rattle.sspi_negotiate.specs.Does.{Does, Stays, StaysNeeded, StaysUnmarked, StaysUnused};
 ghost use Rattle.sspi_negotiate.specs.Hand.{hand_of};
+ghost use Rattle.sspi_negotiate.specs.Holding.{MayHold, MayKeep, user_of, user_url};
 ghost use Rattle.sspi_negotiate.specs.Negotiate.{negotiate};
 ghost use Rattle.sspi_negotiate.specs.Rows.{in_ntlm};
 ghost use Rattle.sspi_negotiate.specs.Rule.{rule_url};
@@ -73,6 +74,10 @@ impl<N: Mechanism, K: Mechanism> Negotiate<N, K> {
         ensures first { self.old.state ≡ states.Initial → StaysUnmarked N.meaning K.meaning self.old self.new }
         ensures need { let v = values_of self.old in self.old.state ≢ states.Initial →
             StaysNeeded (excuses_guest (chosen_at self.old.state args.now.input.now) v (step_args args.now)) v (values_of self.new) }
+        ensures hand { let v = values_of self.old in self.old.state ≢ states.Initial →
+            MayHold (ip && v.packages.ntlm ≡ true) (user_url v (user_of (step_args args.now).handle))
+            (chosen_at v.state args.now.input.now) v.hand (hand_of self.new.mech) }
+        ensures kept { self.old.state ≢ states.Initial → MayKeep (user_of (step_args args.now).handle) self.old.kept self.new.kept }
     {
         if self.is_closed() {
             Err(Refusal::out_of_sequence())
@@ -96,6 +101,10 @@ impl<N: Mechanism, K: Mechanism> Negotiate<N, K> {
         ensures first { self.old.state ≡ states.Initial → StaysUnmarked N.meaning K.meaning self.old self.new }
         ensures need { let v = values_of self.old in self.old.state ≢ states.Initial →
             StaysNeeded (excuses_guest (chosen_at self.old.state args.now.input.now) v (step_args args.now)) v (values_of self.new) }
+        ensures hand { let v = values_of self.old in self.old.state ≢ states.Initial →
+            MayHold (ip && v.packages.ntlm ≡ true) (user_url v (user_of (step_args args.now).handle))
+            (chosen_at v.state args.now.input.now) v.hand (hand_of self.new.mech) }
+        ensures kept { self.old.state ≢ states.Initial → MayKeep (user_of (step_args args.now).handle) self.old.kept self.new.kept }
     {
         if ip && self.packages.ntlm {
             self.leave_kerberos(args)
@@ -121,6 +130,9 @@ impl<N: Mechanism, K: Mechanism> Negotiate<N, K> {
         ensures first { self.old.state ≡ states.Initial → StaysUnmarked N.meaning K.meaning self.old self.new }
         ensures need { let v = values_of self.old in self.old.state ≢ states.Initial →
             StaysNeeded (excuses_guest (chosen_at self.old.state args.now.input.now) v (step_args args.now)) v (values_of self.new) }
+        ensures hand { let v = values_of self.old in self.old.state ≢ states.Initial →
+            MayHold (Unit {0}) None (chosen_at v.state args.now.input.now) v.hand (hand_of self.new.mech) }
+        ensures kept { self.old.state ≢ states.Initial → MayKeep (user_of (step_args args.now).handle) self.old.kept self.new.kept }
     {
         self.take_ntlm()?;
         self.disable_kerberos(args)
@@ -140,6 +152,10 @@ impl<N: Mechanism, K: Mechanism> Negotiate<N, K> {
         ensures first { self.old.state ≡ states.Initial → StaysUnmarked N.meaning K.meaning self.old self.new }
         ensures need { let v = values_of self.old in self.old.state ≢ states.Initial →
             StaysNeeded (excuses_guest (chosen_at self.old.state args.now.input.now) v (step_args args.now)) v (values_of self.new) }
+        ensures hand { let v = values_of self.old in self.old.state ≢ states.Initial →
+            MayHold ⊥ (user_url (record v { packages = record v.packages { kerberos = false } }) (user_of (step_args args.now).handle))
+            (chosen_at v.state args.now.input.now) v.hand (hand_of self.new.mech) }
+        ensures kept { self.old.state ≢ states.Initial → MayKeep (user_of (step_args args.now).handle) self.old.kept self.new.kept }
     {
         self.packages.kerberos = false;
         self.with_handle(args)
@@ -156,6 +172,10 @@ impl<N: Mechanism, K: Mechanism> Negotiate<N, K> {
         ensures first { self.old.state ≡ states.Initial → StaysUnmarked N.meaning K.meaning self.old self.new }
         ensures need { let v = values_of self.old in self.old.state ≢ states.Initial →
             StaysNeeded (excuses_guest (chosen_at self.old.state args.now.input.now) v (step_args args.now)) v (values_of self.new) }
+        ensures hand { let v = values_of self.old in self.old.state ≢ states.Initial →
+            MayHold ⊥ (user_url v (user_of (step_args args.now).handle))
+            (chosen_at v.state args.now.input.now) v.hand (hand_of self.new.mech) }
+        ensures kept { self.old.state ≢ states.Initial → MayKeep (user_of (step_args args.now).handle) self.old.kept self.new.kept }
     {
         match args.credentials_handle {
             None => self.step_at(args),
@@ -179,6 +199,9 @@ impl<N: Mechanism, K: Mechanism> Negotiate<N, K> {
         ensures first { self.old.state ≡ states.Initial → StaysUnmarked N.meaning K.meaning self.old self.new }
         ensures need { let v = values_of self.old in self.old.state ≢ states.Initial →
             StaysNeeded (excuses_guest (chosen_at self.old.state args.now.input.now) v (step_args args.now)) v (values_of self.new) }
+        ensures hand { let v = values_of self.old in self.old.state ≢ states.Initial →
+            MayHold ⊥ (user_url v (identity_of buffers.now)) (chosen_at v.state args.now.input.now) v.hand (hand_of self.new.mech) }
+        ensures kept { self.old.state ≢ states.Initial → MayKeep (identity_of buffers.now) self.old.kept self.new.kept }
     {
         let identity = AuthIdentity::from_buffers(self.alloc, buffers)?;
         self.keep(&identity, args)
@@ -200,6 +223,9 @@ impl<N: Mechanism, K: Mechanism> Negotiate<N, K> {
         ensures first { self.old.state ≡ states.Initial → StaysUnmarked N.meaning K.meaning self.old self.new }
         ensures need { let v = values_of self.old in self.old.state ≢ states.Initial →
             StaysNeeded (excuses_guest (chosen_at self.old.state args.now.input.now) v (step_args args.now)) v (values_of self.new) }
+        ensures hand { let v = values_of self.old in self.old.state ≢ states.Initial →
+            MayHold ⊥ (rule_url v identity.now.username) (chosen_at v.state args.now.input.now) v.hand (hand_of self.new.mech) }
+        ensures kept { self.old.state ≢ states.Initial → MayKeep (Some identity.now) self.old.kept self.new.kept }
     {
         let kept = identity.to_buffers(self.alloc)?;
         self.auth_identity = Some(CredentialsBuffers::AuthIdentity(kept));
@@ -220,6 +246,9 @@ impl<N: Mechanism, K: Mechanism> Negotiate<N, K> {
         ensures first { self.old.state ≡ states.Initial → StaysUnmarked N.meaning K.meaning self.old self.new }
         ensures need { let v = values_of self.old in self.old.state ≢ states.Initial →
             StaysNeeded (excuses_guest (chosen_at self.old.state args.now.input.now) v (step_args args.now)) v (values_of self.new) }
+        ensures hand { let v = values_of self.old in self.old.state ≢ states.Initial →
+            MayHold ⊥ (rule_url v name.now) (chosen_at v.state args.now.input.now) v.hand (hand_of self.new.mech) }
+        ensures kept { self.old.state ≢ states.Initial → self.new.kept ≡ self.old.kept }
     {
         self.take_by_rule(name)?;
         self.step_at(args)
@@ -236,6 +265,9 @@ impl<N: Mechanism, K: Mechanism> Negotiate<N, K> {
         ensures first { self.old.state ≡ states.Initial → StaysUnmarked N.meaning K.meaning self.old self.new }
         ensures need { let v = values_of self.old in self.old.state ≢ states.Initial →
             StaysNeeded (excuses_guest (chosen_at self.old.state args.now.input.now) v (step_args args.now)) v (values_of self.new) }
+        ensures hand { let v = values_of self.old in self.old.state ≢ states.Initial →
+            MayHold ⊥ None (chosen_at v.state args.now.input.now) v.hand (hand_of self.new.mech) }
+        ensures kept { self.old.state ≢ states.Initial → self.new.kept ≡ self.old.kept }
     {
         match self.state {
             NegotiateState::Initial => self.first_step(args),

@@ -108,6 +108,8 @@ impl<N: Mechanism, K: Mechanism> Negotiate<N, K> {
         ensures unused { StaysUnused N.meaning K.meaning self.old self.new }
         ensures unmarked { StaysUnmarked N.meaning K.meaning self.old self.new }
         ensures need { self.new.need ≡ self.old.need }
+        // What a refusal leaves.
+        ensures err { OnErr result (self.new ≡ self.old) }
     {
         match self.protocol.protocol() {
             Protocol::Ntlm => Ok(()),
@@ -124,6 +126,8 @@ impl<N: Mechanism, K: Mechanism> Negotiate<N, K> {
         ensures unused { StaysUnused N.meaning K.meaning self.old self.new }
         ensures unmarked { StaysUnmarked N.meaning K.meaning self.old self.new }
         ensures need { self.new.need ≡ self.old.need }
+        // What a refusal leaves.
+        ensures err { OnErr result (self.new ≡ self.old) }
     {
         self.protocol = NegotiatedProtocol::new_ntlm(self.alloc, &self.client_computer_name)?;
         Ok(())

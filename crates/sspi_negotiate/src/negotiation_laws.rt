@@ -8,14 +8,15 @@ ghost use Rattle.sspi_mech.specs.declared.step.Step.{Step};
 ghost use Rattle.sspi_mech.specs.Calls.{StepArgs, AcceptArgs};
 ghost use Rattle.sspi_mech.specs.Context.{IsContext};
 ghost use Rattle.sspi_negotiate.specs.declared.protocol.NegotiatedProtocol.{NegotiatedProtocol};
-ghost use Rattle.sspi_negotiate.specs.Does.{StaysNeeded, UnlessMemory, told};
+ghost use Rattle.sspi_negotiate.specs.Does.{StaysNeeded, StaysPicked, UnlessMemory, told};
 ghost use Rattle.sspi_negotiate.specs.Choices.{chosen_in, chosen_at, excuses_guest, other_protocol, UnlessRefused};
 ghost use Rattle.sspi_negotiate.specs.declared.protocol.Protocol.{Protocol};
 ghost use Rattle.sspi_mech.specs.declared.step.Answer.TheVariants as answers;
 ghost use Rattle.sspi_negotiate.specs.declared.state.NegotiateState.TheVariants as states;
 ghost use Rattle.sspi_negotiate.specs.Hand.{hand, hand_of};
+ghost use Rattle.sspi_negotiate.specs.Holding.{StaysHeld};
 ghost use Rattle.sspi_negotiate.specs.Verified.{IsVerified, IsGuestNamed};
-ghost use Rattle.sspi_negotiate.specs.Keeps.{Keeps, KeepsPackages, may_use};
+ghost use Rattle.sspi_negotiate.specs.Keeps.{Keeps, KeepsPackages, is_opening, may_use};
 ghost use Rattle.sspi_negotiate.specs.Values.{Negotiation, values_of};
 ghost use Rattle.sspi_negotiate.specs.Negotiate.{negotiate};
 
@@ -63,6 +64,22 @@ pub fn choices_are_kept<N: Mechanism, K: Mechanism>()
     ensures refused { (old new : Negotiation (NegotiatedProtocol N K)) (args : StepArgs) (answer : Answer) (protocol : Protocol) →
         (negotiate N.REQUESTS N.meaning K.meaning).steps old args answer new → old.state ≡ states.InProgress →
         chosen_in args.input ≡ Some protocol → may_use old.packages protocol ≡ false → UnlessRefused answer ⊥ }
+{}
+
+/// What is in hand and kept behind the first step, want of memory included. A client's step leaves the mechanism in hand, or takes
+/// the one that the server chooses, NTLM where the target is named by its IP address and NTLM may be used, or Kerberos where a KDC
+/// serves the domain of the user that the call hands over; the kept credentials stay, or are that user's. A resumed step, but for
+/// a resumed first one, and a server's step leave the list, the mechanism in hand and the kept credentials.
+pub fn hand_is_kept<N: Mechanism, K: Mechanism>()
+    ensures client { (old new : Negotiation (NegotiatedProtocol N K)) (args : StepArgs) (answer : Answer) →
+        (negotiate N.REQUESTS N.meaning K.meaning).steps old args answer new →
+        old.state ≢ states.Initial → StaysHeld (values_of old) args (values_of new) }
+    ensures resumed { (old new : Negotiation (NegotiatedProtocol N K)) (reply : Reply) (answer : Answer) →
+        (negotiate N.REQUESTS N.meaning K.meaning).resumes old reply answer new →
+        is_opening old.branch ≡ false → StaysPicked (values_of old) (values_of new) }
+    ensures server { (old new : Negotiation (NegotiatedProtocol N K)) (args : AcceptArgs) (result : Result Step Error) →
+        (negotiate N.REQUESTS N.meaning K.meaning).accepts old args result new →
+        old.state ≢ states.Initial → StaysPicked (values_of old) (values_of new) }
 {}
 
 /// Where MICs are needed they stay so, want of memory included: a server's refused step leaves the need as it was, and so does a

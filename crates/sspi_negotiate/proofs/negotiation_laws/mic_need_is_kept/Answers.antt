@@ -5,7 +5,7 @@ pub returns-clause-client : goal.returns-clause-client
 returns-clause-client g c = λ old new args answer s. s.moves.protected
 
 pub returns-clause-resumed : goal.returns-clause-resumed
-returns-clause-resumed g c = λ old new reply answer s. s.protected
+returns-clause-resumed g c = λ old new reply answer s. s.protected.need
 
 pub returns-clause-server : goal.returns-clause-server
 returns-clause-server g c = λ old new args result s. s.moves.protected

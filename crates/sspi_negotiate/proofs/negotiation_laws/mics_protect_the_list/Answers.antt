@@ -20,7 +20,7 @@ returns-clause-client_before g c = λ old new args step s over late need unexcus
 
 pub returns-clause-resumed_before : goal.returns-clause-resumed_before
 returns-clause-resumed_before g c = λ old new reply step before s over need.
-    resumed_ended g.N.Mechanism.meaning g.K.Mechanism.meaning old new reply step before s.follows over (s.protected ∙ need)
+    resumed_ended g.N.Mechanism.meaning g.K.Mechanism.meaning old new reply step before s.follows over (s.protected.need ∙ need)
 
 pub returns-clause-server_before : goal.returns-clause-server_before
 returns-clause-server_before g c = λ old new args step s over late need.

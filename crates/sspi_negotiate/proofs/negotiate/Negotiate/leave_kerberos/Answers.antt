@@ -1,6 +1,9 @@
 use Rattle.std.proofs.Common.{false}
+use Rattle.sspi_negotiate.proofs.Holding.{kept_past}
 use Rattle.sspi_negotiate.proofs.Passing.{passed}
 use Rattle.sspi_negotiate.specs.Client.{with_handle}
+use Rattle.sspi_negotiate.specs.Values.{values_of}
+use Rattle.sspi_negotiate.specs.declared.protocol.Protocol.TheVariants as protocols
 use Rattle.sspi_mech.specs.Calls.{step_args}
 use Rattle.sspi_negotiate.proofs.negotiate.Negotiate.leave_kerberos.Goals as goal
 
@@ -8,3 +11,7 @@ pub returns-clause-step : goal.returns-clause-step
 returns-clause-step g c = passed c.in_ok-take_ntlm.ensures.step
     (λ v. with_handle (record v { packages = record v.packages { kerberos = false } }) (step_args c.args.args.now))
     c.disable_kerberos.ensures.step
+
+pub returns-clause-kept : goal.returns-clause-kept
+returns-clause-kept g c = kept_past (record (values_of c.args.self.now) { hand = protocols.Ntlm }) (values_of c.take_ntlm.new.self)
+    c.in_ok-take_ntlm.ensures.step.onward.0 c.disable_kerberos.ensures.kept

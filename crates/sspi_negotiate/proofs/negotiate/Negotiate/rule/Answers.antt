@@ -1,9 +1,14 @@
 use Rattle.std.proofs.Common.{rules}
 use Rattle.sspi_negotiate.specs.Rule.{rule_url}
 use Rattle.sspi_negotiate.specs.Values.{values_of}
+use Rattle.sspi_negotiate.proofs.Holding.{held_ruled}
 use Rattle.sspi_negotiate.proofs.Passing.{ruled_met}
 use Rattle.sspi_negotiate.proofs.negotiate.Negotiate.rule.Goals as goal
 
 pub returns-clause-step : goal.returns-clause-step
 returns-clause-step g c = ruled_met {m1 = c.take_by_rule.new.self.mech} (rule_url (values_of c.args.self.now) c.args.name.now) _ _
     (search rules) (search rules)
+
+pub returns-clause-hand : goal.returns-clause-hand
+returns-clause-hand g c = held_ruled (rule_url (values_of c.args.self.now) c.args.name.now) (values_of c.args.self.now)
+    (values_of c.take_by_rule.new.self) c.args.args.now.input.now c.in_ok-take_by_rule.ensures.named c.step_at.ensures.hand

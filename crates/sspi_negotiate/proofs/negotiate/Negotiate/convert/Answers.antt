@@ -1,0 +1,12 @@
+use Rattle.sspi_names.specs.Identity.{identity_of}
+use Rattle.sspi_negotiate.specs.Values.{values_of}
+use Rattle.sspi_negotiate.proofs.Holding.{held_identified, kept_identified}
+use Rattle.sspi_negotiate.proofs.negotiate.Negotiate.convert.Goals as goal
+
+pub returns-clause-hand : goal.returns-clause-hand
+returns-clause-hand g c = λ late. held_identified (values_of c.args.self.now) (identity_of c.args.buffers.now)
+    c.in_ok-identity.identity c.in_ok-identity.ensures (c.keep.ensures.hand late)
+
+pub returns-clause-kept : goal.returns-clause-kept
+returns-clause-kept g c = λ late. kept_identified (identity_of c.args.buffers.now) c.in_ok-identity.identity c.in_ok-identity.ensures
+    (c.keep.ensures.kept late)

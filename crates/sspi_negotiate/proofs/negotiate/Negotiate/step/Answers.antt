@@ -1,0 +1,7 @@
+use Rattle.sspi_negotiate.proofs.negotiate.Negotiate.step.Goals as goal
+
+pub returns-else-is_closed-clause-hand : goal.returns-else-is_closed-clause-hand
+returns-else-is_closed-clause-hand g c = rw (← c.self.view_is) c.step_to.ensures.hand
+
+pub returns-else-is_closed-clause-kept : goal.returns-else-is_closed-clause-kept
+returns-else-is_closed-clause-kept g c = rw (← c.self.view_is) c.step_to.ensures.kept
