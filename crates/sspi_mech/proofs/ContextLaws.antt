@@ -1,23 +1,22 @@
 -- A mechanism is a context.
-use Rattle.std.proofs.Common.{◌≡◌, ℕ}
+use Rattle.std.proofs.Common.{◌≡◌, ℕ, ap, inl}
 use Rattle.sspi_mech.specs.Calls.{Counts}
-use Rattle.sspi_mech.specs.Context.{IsContext}
-use Rattle.sspi_mech.specs.Calls.{IsUnused}
+use Rattle.sspi_mech.specs.Context.{IsContext, NeitherSealsNorOpens}
 use Rattle.sspi_mech.specs.Laws.{IsMechanism}
 use Rattle.sspi_mech.specs.Meaning.{Meaning}
 
--- what keeps its counts stays unused
-still_unused : (n k : Counts) → k ≡ n → IsUnused n → IsUnused k
-still_unused n k same unused = rw same unused
+-- what keeps its counts seals and opens nothing
+pub silent_by : (n k : Counts) → k ≡ n → NeitherSealsNorOpens n k
+silent_by n k same = inl (ap (λ (i : Counts). i.sealings) same, ap (λ (i : Counts). i.unsealings) same)
 
 pub contextual : {S M : Type 0} (requests : ℕ) (it : Meaning S M) → IsMechanism requests it → IsContext it
 contextual requests it laws = record {
   made_fresh = laws.made_fresh;
-  acquire_unused = λ m m2 u d b unused acquired. still_unused _ _ (laws.acquire_counts m m2 u d b acquired) unused;
+  acquire_silent = λ m m2 u d b acquired. silent_by _ _ (laws.acquire_counts m m2 u d b acquired);
   identify_counts = laws.identify_counts;
-  step_unused = λ m m2 a r unused stepped. still_unused _ _ (laws.step_counts m m2 a r stepped) unused;
-  resume_unused = λ m m2 b r unused resumed. still_unused _ _ (laws.resume_counts m m2 b r resumed) unused;
-  accept_unused = λ m m2 a r unused accepted. still_unused _ _ (laws.accept_counts m m2 a r accepted) unused;
+  step_silent = λ m m2 a r stepped. silent_by _ _ (laws.step_counts m m2 a r stepped);
+  resume_silent = λ m m2 b r resumed. silent_by _ _ (laws.resume_counts m m2 b r resumed);
+  accept_silent = λ m m2 a r accepted. silent_by _ _ (laws.accept_counts m m2 a r accepted);
   resume_asks = laws.resume_asks;
   step_waits = laws.step_waits;
   resume_waits = laws.resume_waits;

@@ -3,8 +3,7 @@ use Rattle.std.proofs.Common.{◌≡◌, ◌⊎◌, ℕ, ◌<◌, ◌≤◌, Lis
 use Rattle.sspi_names.specs.declared.credentials.Credentials.{Credentials}
 use Rattle.sspi_mech.specs.declared.step.Answer.TheVariants.{Done, Ask}
 use Rattle.sspi_mech.specs.Calls.{Counts, no_counts}
-use Rattle.sspi_mech.specs.Context.{IsContext}
-use Rattle.sspi_mech.specs.Calls.{IsUnused}
+use Rattle.sspi_mech.specs.Context.{IsContext, NeitherSealsNorOpens}
 use Rattle.sspi_mech.specs.Meaning.{Meaning}
 use Rattle.sspi_mech.specs.Sum.{Both, sum, taking, seen}
 
@@ -29,21 +28,21 @@ module _ {S T A B : Type 0} (n : Meaning S A) (k : Meaning T B) (ln : IsContext 
   pub sum_lawful : IsContext (sum n k)
   sum_lawful = record {
     made_fresh = by_both n.made k.made (λ s m. c.counts m ≡ no_counts) ln.made_fresh lk.made_fresh;
-    acquire_unused = λ m m2 u d b unused acquired. by_both (λ x x2. n.acquires x u d b x2) (λ y y2. k.acquires y u d b y2)
-        (λ x x2. IsUnused (c.counts x) → IsUnused (c.counts x2))
-        (λ x x2 h free. ln.acquire_unused x x2 u d b free h) (λ y y2 h free. lk.acquire_unused y y2 u d b free h) m m2 acquired unused;
+    acquire_silent = λ m m2 u d b acquired. by_both (λ x x2. n.acquires x u d b x2) (λ y y2. k.acquires y u d b y2)
+        (λ x x2. NeitherSealsNorOpens (c.counts x) (c.counts x2))
+        (λ x x2 h. ln.acquire_silent x x2 u d b h) (λ y y2 h. lk.acquire_silent y y2 u d b h) m m2 acquired;
     identify_counts = λ m m2 ids identified. by_both (λ x x2. n.identifies x ids x2) (λ y y2. k.identifies y ids y2)
         (λ x x2. c.counts x2 ≡ c.counts x)
         (λ x x2 h. ln.identify_counts x x2 ids h) (λ y y2 h. lk.identify_counts y y2 ids h) m m2 identified;
-    step_unused = λ m m2 a r unused stepped. by_both (λ x x2. n.steps x a r x2) (λ y y2. k.steps y a r y2)
-        (λ x x2. IsUnused (c.counts x) → IsUnused (c.counts x2))
-        (λ x x2 h free. ln.step_unused x x2 a r free h) (λ y y2 h free. lk.step_unused y y2 a r free h) m m2 stepped unused;
-    resume_unused = λ m m2 b r unused resumed. by_both (λ x x2. n.resumes x b r x2) (λ y y2. k.resumes y b r y2)
-        (λ x x2. IsUnused (c.counts x) → IsUnused (c.counts x2))
-        (λ x x2 h free. ln.resume_unused x x2 b r free h) (λ y y2 h free. lk.resume_unused y y2 b r free h) m m2 resumed unused;
-    accept_unused = λ m m2 a r unused accepted. by_both (λ x x2. n.accepts x a r x2) (λ y y2. k.accepts y a r y2)
-        (λ x x2. IsUnused (c.counts x) → IsUnused (c.counts x2))
-        (λ x x2 h free. ln.accept_unused x x2 a r free h) (λ y y2 h free. lk.accept_unused y y2 a r free h) m m2 accepted unused;
+    step_silent = λ m m2 a r stepped. by_both (λ x x2. n.steps x a r x2) (λ y y2. k.steps y a r y2)
+        (λ x x2. NeitherSealsNorOpens (c.counts x) (c.counts x2))
+        (λ x x2 h. ln.step_silent x x2 a r h) (λ y y2 h. lk.step_silent y y2 a r h) m m2 stepped;
+    resume_silent = λ m m2 b r resumed. by_both (λ x x2. n.resumes x b r x2) (λ y y2. k.resumes y b r y2)
+        (λ x x2. NeitherSealsNorOpens (c.counts x) (c.counts x2))
+        (λ x x2 h. ln.resume_silent x x2 b r h) (λ y y2 h. lk.resume_silent y y2 b r h) m m2 resumed;
+    accept_silent = λ m m2 a r accepted. by_both (λ x x2. n.accepts x a r x2) (λ y y2. k.accepts y a r y2)
+        (λ x x2. NeitherSealsNorOpens (c.counts x) (c.counts x2))
+        (λ x x2 h. ln.accept_silent x x2 a r h) (λ y y2 h. lk.accept_silent y y2 a r h) m m2 accepted;
     resume_asks = λ m m2 b q resumed. by_both (λ x x2. n.resumes x b (Ask q) x2) (λ y y2. k.resumes y b (Ask q) y2)
         (λ x x2. c.left x2 < c.left x) (λ x x2 h. ln.resume_asks x x2 b q h) (λ y y2 h. lk.resume_asks y y2 b q h) m m2 resumed;
     step_waits = λ m m2 a q stepped. by_both (λ x x2. n.steps x a (Ask q) x2) (λ y y2. k.steps y a (Ask q) y2)
@@ -82,11 +81,11 @@ module _ {S T A B : Type 0} (n : Meaning S A) (k : Meaning T B) (ln : IsContext 
 pub taking_lawful : {S C : Type 0} (some : List Credentials → List Credentials) (c : Meaning S C) → IsContext c → IsContext (taking some c)
 taking_lawful some c laws = record {
   made_fresh = laws.made_fresh;
-  acquire_unused = laws.acquire_unused;
+  acquire_silent = laws.acquire_silent;
   identify_counts = λ m m2 ids. laws.identify_counts m m2 (some ids);
-  step_unused = laws.step_unused;
-  resume_unused = laws.resume_unused;
-  accept_unused = laws.accept_unused;
+  step_silent = laws.step_silent;
+  resume_silent = laws.resume_silent;
+  accept_silent = laws.accept_silent;
   resume_asks = laws.resume_asks;
   step_waits = laws.step_waits;
   resume_waits = laws.resume_waits;
@@ -115,11 +114,11 @@ pub seen_lawful : {R S C D : Type 0} (parts : R → S) (view : C → D) (back : 
     (c : Meaning S D) → IsContext c → IsContext (seen parts view back c)
 seen_lawful parts view back there again c laws = record {
   made_fresh = λ s m. laws.made_fresh (parts s) (view m);
-  acquire_unused = λ m m2. laws.acquire_unused (view m) (view m2);
+  acquire_silent = λ m m2. laws.acquire_silent (view m) (view m2);
   identify_counts = λ m m2. laws.identify_counts (view m) (view m2);
-  step_unused = λ m m2. laws.step_unused (view m) (view m2);
-  resume_unused = λ m m2. laws.resume_unused (view m) (view m2);
-  accept_unused = λ m m2. laws.accept_unused (view m) (view m2);
+  step_silent = λ m m2. laws.step_silent (view m) (view m2);
+  resume_silent = λ m m2. laws.resume_silent (view m) (view m2);
+  accept_silent = λ m m2. laws.accept_silent (view m) (view m2);
   resume_asks = λ m m2. laws.resume_asks (view m) (view m2);
   step_waits = λ m m2. laws.step_waits (view m) (view m2);
   resume_waits = λ m m2. laws.resume_waits (view m) (view m2);

@@ -1,4 +1,4 @@
-use Rattle.std.specs.Prelude.{◌≡◌, ℕ, ◌<◌, ◌≤◌, List, length, Option, Result, true, false}
+use Rattle.std.specs.Prelude.{◌≡◌, ◌⊎◌, ℕ, ◌<◌, ◌≤◌, List, length, Option, Result, true, false}
 use Rattle.sspi_types.specs.declared.credential_use.CredentialUse.{CredentialUse}
 use Rattle.sspi_types.specs.declared.error.Error.{Error}
 use Rattle.sspi_names.specs.declared.credentials.Credentials.{Credentials}
@@ -11,18 +11,24 @@ use Rattle.sspi_mech.specs.declared.step.Step.{Step}
 use Rattle.sspi_mech.specs.Calls.{StepArgs, AcceptArgs, Counts, no_counts, IsUnused}
 use Rattle.sspi_mech.specs.Meaning.{Meaning}
 
+-- The counts after a call that neither seals nor opens: of both as many as before, or none, where another mechanism has taken
+-- the place of the first.
+abbrev pub NeitherSealsNorOpens : Counts → Counts → Type 0
+NeitherSealsNorOpens before after =
+    ((after.sealings ≡ before.sealings) × (after.unsealings ≡ before.unsealings)) ⊎ IsUnused after
+
 -- What holds of every context, also of one that chooses among mechanisms: there a refused step may move the context,
 -- a step may sign and check MICs, and another mechanism may take the place of the first, also where credentials are acquired.
 -- What none of these does is seal or open.
 pub record IsContext {S C : Type 0} (c : Meaning S C) : Type 0 where
   pub made_fresh : (s : S) (m : C) → c.made s m → c.counts m ≡ no_counts
-  pub acquire_unused : (m m2 : C) (u : CredentialUse) (d : Option Credentials) (b : Option CredentialsBuffers) →
-      IsUnused (c.counts m) → c.acquires m u d b m2 → IsUnused (c.counts m2)
+  pub acquire_silent : (m m2 : C) (u : CredentialUse) (d : Option Credentials) (b : Option CredentialsBuffers) →
+      c.acquires m u d b m2 → NeitherSealsNorOpens (c.counts m) (c.counts m2)
   pub identify_counts : (m m2 : C) (ids : List Credentials) → c.identifies m ids m2 → c.counts m2 ≡ c.counts m
-  pub step_unused : (m m2 : C) (a : StepArgs) (r : Answer) → IsUnused (c.counts m) → c.steps m a r m2 → IsUnused (c.counts m2)
-  pub resume_unused : (m m2 : C) (b : Reply) (r : Answer) → IsUnused (c.counts m) → c.resumes m b r m2 → IsUnused (c.counts m2)
-  pub accept_unused : (m m2 : C) (a : AcceptArgs) (r : Result Step Error) →
-      IsUnused (c.counts m) → c.accepts m a r m2 → IsUnused (c.counts m2)
+  pub step_silent : (m m2 : C) (a : StepArgs) (r : Answer) → c.steps m a r m2 → NeitherSealsNorOpens (c.counts m) (c.counts m2)
+  pub resume_silent : (m m2 : C) (b : Reply) (r : Answer) → c.resumes m b r m2 → NeitherSealsNorOpens (c.counts m) (c.counts m2)
+  pub accept_silent : (m m2 : C) (a : AcceptArgs) (r : Result Step Error) →
+      c.accepts m a r m2 → NeitherSealsNorOpens (c.counts m) (c.counts m2)
   -- each further question to a KDC is one fewer to come; a client that asked waits, and one whose step is done does not
   pub resume_asks : (m m2 : C) (b : Reply) (q : NetworkRequest) → c.resumes m b (Ask q) m2 → c.left m2 < c.left m
   pub step_waits : (m m2 : C) (a : StepArgs) (q : NetworkRequest) → c.steps m a (Ask q) m2 → c.waits m2 ≡ true
