@@ -1,11 +1,11 @@
 -- A negotiation is a context.
-use Rattle.std.proofs.Common.{◌≡◌, ◌+◌, ℕ, List, Option, None, Some, Result, Ok, Err, refl, sym, ap, subst}
+use Rattle.std.proofs.Common.{◌≡◌, ◌+◌, ℕ, List, Option, None, Some, Result, Ok, Err, refl, sym, ap, subst, inl, inr, ◌∙◌}
 use Rattle.sspi_types.specs.declared.error_kind.ErrorKind.{ErrorKind}
 use Rattle.sspi_names.specs.declared.kdc_table.KdcEntry.{KdcEntry}
 use Rattle.sspi_mech.specs.declared.step.Answer.TheVariants.{Done, Ask}
 use Rattle.sspi_mech.specs.Calls.{Counts, no_counts}
-use Rattle.sspi_mech.specs.Context.{IsContext}
 use Rattle.sspi_mech.specs.Calls.{IsUnused}
+use Rattle.sspi_mech.specs.Context.{IsContext, NeitherSealsNorOpens}
 use Rattle.sspi_mech.specs.Laws.{IsMechanism}
 use Rattle.sspi_mech.specs.Meaning.{Meaning}
 use Rattle.sspi_mech.specs.Settings.{Setting}
@@ -31,11 +31,21 @@ first_fresh c laws (Err kind) m made = absurd made
 fresh_unused : (counts : Counts) → counts ≡ no_counts → IsUnused counts
 fresh_unused counts none = subst IsUnused (sym none) (record { sealings = refl; unsealings = refl })
 
-taken_unused : {M : Type 0} (c : Meaning Origin M) → IsContext c →
+-- one that neither seals nor opens, after another
+silent_after : (n k l : Counts) → NeitherSealsNorOpens n k → NeitherSealsNorOpens k l → NeitherSealsNorOpens n l
+silent_after n k l (inl same) (inl again) = inl (again.0 ∙ same.0, again.1 ∙ same.1)
+silent_after n k l (inr unused) (inl again) = inr (record {
+  sealings = again.0 ∙ unused.sealings;
+  unsealings = again.1 ∙ unused.unsealings;
+})
+silent_after n k l first (inr unused) = inr unused
+
+taken_silent : {M : Type 0} (c : Meaning Origin M) → IsContext c →
     (url : Option (List ℕ)) (kdcs : List KdcEntry) (computer : List ℕ) (m m2 : M) →
-    IsUnused (c.counts m) → TakenBy c url kdcs computer m m2 → IsUnused (c.counts m2)
-taken_unused c laws None kdcs computer m m2 unused same = subst (λ x. IsUnused (c.counts x)) (sym same) unused
-taken_unused c laws (Some url) kdcs computer m m2 unused made = fresh_unused _ (laws.made_fresh _ m2 made)
+    TakenBy c url kdcs computer m m2 → NeitherSealsNorOpens (c.counts m) (c.counts m2)
+taken_silent c laws None kdcs computer m m2 same =
+    inl (ap (λ x. (c.counts x).sealings) same, ap (λ x. (c.counts x).unsealings) same)
+taken_silent c laws (Some url) kdcs computer m m2 made = inr (fresh_unused _ (laws.made_fresh _ m2 made))
 
 module _ {N K : Type 0} (r q : ℕ) (n : Meaning Setting N) (k : Meaning Setting K) (ln : IsMechanism r n) (lk : IsMechanism q k) where
   made_fresh_by : (s : NegotiateSetting) (m : Negotiation (NegotiatedProtocol N K)) → MadeOf n k s m → (hand n k).counts m.mech ≡ no_counts
@@ -50,12 +60,12 @@ module _ {N K : Type 0} (r q : ℕ) (n : Meaning Setting N) (k : Meaning Setting
   pub negotiate_lawful : IsContext (negotiate {N = N} {K = K} r n k)
   negotiate_lawful = let laws = hand_lawful r q n k ln lk in record {
     made_fresh = made_fresh_by;
-    acquire_unused = λ m m2 u d b unused a.
-        laws.acquire_unused a.mech m2.mech u d b (taken_unused (hand n k) laws _ m.kdcs m.computer m.mech a.mech unused a.taken) a.acquired;
+    acquire_silent = λ m m2 u d b a. let c = hand n k in silent_after (c.counts m.mech) (c.counts a.mech) (c.counts m2.mech)
+        (taken_silent c laws _ m.kdcs m.computer m.mech a.mech a.taken) (laws.acquire_silent a.mech m2.mech u d b a.acquired);
     identify_counts = λ m m2 ids h. laws.identify_counts m.mech m2.mech ids h.0;
-    step_unused = λ m m2 a answer unused s. s.moves.unused unused;
-    resume_unused = λ m m2 b answer unused s. s.unused unused;
-    accept_unused = λ m m2 a answer unused s. s.moves.unused unused;
+    step_silent = λ m m2 a answer s. s.moves.unused;
+    resume_silent = λ m m2 b answer s. s.unused;
+    accept_silent = λ m m2 a answer s. s.moves.unused;
     resume_asks = λ m m2 b e s. resumed_falls r q n k ln lk (values_of m) b m.mech m2.mech e (values_of m2) refl s.follows.as_planned;
     step_waits = λ m m2 a e s. ends IsTidy (hand n k) (spnego_client s.ip (values_of m) a) m.mech m2.mech (Ask e) (values_of m2)
         (client_tidy s.ip (values_of m) a) s.moves.follows.as_planned;

@@ -5,7 +5,7 @@ use Rattle.sspi_types.specs.declared.error_kind.ErrorKind.TheVariants.{Insuffici
 use Rattle.sspi_mech.specs.declared.step.Answer.{Answer}
 use Rattle.sspi_mech.specs.declared.step.Answer.TheVariants.{Done, Ask, Refused}
 use Rattle.sspi_mech.specs.declared.step.Step.{Step}
-use Rattle.sspi_mech.specs.Calls.{IsUnused}
+use Rattle.sspi_mech.specs.Context.{NeitherSealsNorOpens}
 use Rattle.sspi_mech.specs.Meaning.{Meaning}
 use Rattle.sspi_mech.specs.Settings.{Setting}
 use Rattle.sspi_negotiate.specs.declared.protocol.NegotiatedProtocol.{NegotiatedProtocol}
@@ -36,9 +36,9 @@ module _ {N K : Type 0} (n : Meaning Setting N) (k : Meaning Setting K) where
   abbrev pub Does : Plan → Negotiation (NegotiatedProtocol N K) → Answer → Negotiation (NegotiatedProtocol N K) → Type 0
   Does p old r new = Meets (hand n k) p old.mech r (values_of new) new.mech
 
-  -- where nothing was sealed or opened, nothing is
+  -- what was sealed and opened is as before, or nothing was, by a mechanism that was just taken
   abbrev pub StaysUnused : Negotiation (NegotiatedProtocol N K) → Negotiation (NegotiatedProtocol N K) → Type 0
-  StaysUnused old new = IsUnused ((hand n k).counts old.mech) → IsUnused ((hand n k).counts new.mech)
+  StaysUnused old new = NeitherSealsNorOpens ((hand n k).counts old.mech) ((hand n k).counts new.mech)
 
   -- where no MIC was made or verified, none is
   abbrev pub StaysUnmarked : Negotiation (NegotiatedProtocol N K) → Negotiation (NegotiatedProtocol N K) → Type 0

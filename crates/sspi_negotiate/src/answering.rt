@@ -2,7 +2,7 @@
 ghost use Rattle.std.specs.Prelude.{◌≡◌, ◌<◌, [], false, true, not, None, Some, IfErr, OnErr, option_and_then, option_map, option_copied};
 ghost use Rattle.sspi_mech.specs.Answers.{answer_of, IfRefused, OnAsk};
 ghost use Rattle.sspi_mech.specs.Calls.{step_args};
-ghost use Rattle.sspi_mech.specs.Calls.{IsUnused};
+ghost use Rattle.sspi_mech.specs.Context.{NeitherSealsNorOpens};
 ghost use Rattle.sspi_mech.specs.Answered.{answered};
 ghost use Rattle.sspi_tokens.specs.Oids.{kind_of};
 ghost use Rattle.sspi_tokens.specs.Reading.{targ_of};
@@ -55,7 +55,7 @@ fn answer_with<N: Mechanism, K: Mechanism>(
       handle = handle_for (hand_of protocol.old) kept.now (option_copied args.now.credentials_handle);
       input = or_empty token.now;
     }) result protocol.new }
-    ensures unused { IsUnused ((hand N.meaning K.meaning).counts protocol.old) → IsUnused ((hand N.meaning K.meaning).counts protocol.new) }
+    ensures unused { let c = hand N.meaning K.meaning in NeitherSealsNorOpens (c.counts protocol.old) (c.counts protocol.new) }
     ensures named { hand_of protocol.new ≡ hand_of protocol.old }
     ensures codeless { IfRefused result (λ error. error.nstatus ≡ None) }
 {

@@ -5,7 +5,7 @@ ghost use Rattle.sspi_types.specs.Errors.{memory_error};
 ghost use Rattle.sspi_mech.specs.Answers.{IfRefused};
 ghost use Rattle.sspi_mech.specs.Calls.{step_args, accept_args, no_counts, one_sealing, one_unsealing, one_signing, one_verification};
 ghost use Rattle.sspi_mech.specs.Calls.{ToAcquire, ToName, ToIdentify, ToComplete, ToSeal, ToUnseal, ToSign, ToVerify};
-ghost use Rattle.sspi_mech.specs.Calls.{IsUnused};
+ghost use Rattle.sspi_mech.specs.Context.{NeitherSealsNorOpens};
 ghost use Rattle.sspi_mech.specs.Refusals.{refusal_of};
 ghost use Rattle.sspi_mech.specs.Answered.{answered};
 ghost use Rattle.sspi_negotiate.specs.declared.protocol.Protocol.TheVariants as protocols;
@@ -107,7 +107,7 @@ impl<N: Mechanism, K: Mechanism> NegotiatedProtocol<N, K> {
         // The step.
         ensures step { (hand N.meaning K.meaning).steps self.old (step_args args.now) result self.new }
         // What every answer keeps, and that a refusal has no code.
-        ensures unused { IsUnused ((hand N.meaning K.meaning).counts self.old) → IsUnused ((hand N.meaning K.meaning).counts self.new) }
+        ensures unused { let c = hand N.meaning K.meaning in NeitherSealsNorOpens (c.counts self.old) (c.counts self.new) }
         ensures unmarked { HasNoMic ((hand N.meaning K.meaning).counts self.old) → HasNoMic ((hand N.meaning K.meaning).counts self.new) }
         ensures named { hand_of self.new ≡ hand_of self.old }
         ensures codeless { IfRefused result (λ error. error.nstatus ≡ None) }
@@ -122,7 +122,7 @@ impl<N: Mechanism, K: Mechanism> NegotiatedProtocol<N, K> {
         // The step.
         ensures step { (hand N.meaning K.meaning).resumes self.old reply.now result self.new }
         // What every answer keeps, and that a refusal has no code.
-        ensures unused { IsUnused ((hand N.meaning K.meaning).counts self.old) → IsUnused ((hand N.meaning K.meaning).counts self.new) }
+        ensures unused { let c = hand N.meaning K.meaning in NeitherSealsNorOpens (c.counts self.old) (c.counts self.new) }
         ensures unmarked { HasNoMic ((hand N.meaning K.meaning).counts self.old) → HasNoMic ((hand N.meaning K.meaning).counts self.new) }
         ensures named { hand_of self.new ≡ hand_of self.old }
         ensures codeless { IfRefused result (λ error. error.nstatus ≡ None) }
@@ -137,7 +137,7 @@ impl<N: Mechanism, K: Mechanism> NegotiatedProtocol<N, K> {
         // The step.
         ensures step { (hand N.meaning K.meaning).accepts self.old (accept_args args.now) (answered result) self.new }
         // What every answer keeps.
-        ensures unused { IsUnused ((hand N.meaning K.meaning).counts self.old) → IsUnused ((hand N.meaning K.meaning).counts self.new) }
+        ensures unused { let c = hand N.meaning K.meaning in NeitherSealsNorOpens (c.counts self.old) (c.counts self.new) }
         ensures unmarked { HasNoMic ((hand N.meaning K.meaning).counts self.old) → HasNoMic ((hand N.meaning K.meaning).counts self.new) }
         ensures named { hand_of self.new ≡ hand_of self.old }
     {

@@ -2,7 +2,7 @@
 ghost use Rattle.std.specs.Prelude.{◌≡◌, ◌≢◌, ◌&&◌, true, None, Some, OnErr, option_copied};
 ghost use Rattle.sspi_mech.specs.Answers.{answer_of, IfRefused};
 ghost use Rattle.sspi_mech.specs.Calls.{step_args};
-ghost use Rattle.sspi_mech.specs.Calls.{IsUnused};
+ghost use Rattle.sspi_mech.specs.Context.{NeitherSealsNorOpens};
 ghost use Rattle.sspi_mech.specs.Answered.{answered};
 ghost use Rattle.sspi_negotiate.specs.Client.{at_initial, first_step, begun, offers, falls, falls_back};
 ghost use Rattle.sspi_negotiate.specs.Client.{steps_again, handle_for, passwords, resumes_opening};
@@ -44,7 +44,7 @@ pub(crate) fn step_with<N: Mechanism, K: Mechanism>(
         (record (step_args args.now) { handle = handle_for (hand_of protocol.old) kept.now (option_copied args.now.credentials_handle) })
         result protocol.new }
     // What every answer keeps, and that a refusal has no code.
-    ensures unused { IsUnused ((hand N.meaning K.meaning).counts protocol.old) → IsUnused ((hand N.meaning K.meaning).counts protocol.new) }
+    ensures unused { let c = hand N.meaning K.meaning in NeitherSealsNorOpens (c.counts protocol.old) (c.counts protocol.new) }
     ensures unmarked { HasNoMic ((hand N.meaning K.meaning).counts protocol.old)
         → HasNoMic ((hand N.meaning K.meaning).counts protocol.new) }
     ensures named { hand_of protocol.new ≡ hand_of protocol.old }
@@ -75,7 +75,7 @@ fn step_again<N: Mechanism, K: Mechanism>(
       input = first.now.input;
     }) result protocol.new }
     // What every answer keeps, and that a refusal has no code.
-    ensures unused { IsUnused ((hand N.meaning K.meaning).counts protocol.old) → IsUnused ((hand N.meaning K.meaning).counts protocol.new) }
+    ensures unused { let c = hand N.meaning K.meaning in NeitherSealsNorOpens (c.counts protocol.old) (c.counts protocol.new) }
     ensures unmarked { HasNoMic ((hand N.meaning K.meaning).counts protocol.old)
         → HasNoMic ((hand N.meaning K.meaning).counts protocol.new) }
     ensures named { hand_of protocol.new ≡ hand_of protocol.old }

@@ -1,7 +1,7 @@
 // The steps of a server, and its first one: the offer is read and a mechanism is picked, in the order of `specs/Server.antt`.
 ghost use Rattle.std.specs.Prelude.{◌≡◌, ◌≢◌, [], true, None, Some, IfOk, IfErr, OnErr};
 ghost use Rattle.sspi_mech.specs.Calls.{accept_args};
-ghost use Rattle.sspi_mech.specs.Calls.{IsUnused};
+ghost use Rattle.sspi_mech.specs.Context.{NeitherSealsNorOpens};
 ghost use Rattle.sspi_mech.specs.Answered.{answered};
 ghost use Rattle.sspi_tokens.specs.Reading.{init_of};
 ghost use Rattle.sspi_negotiate.specs.Does.{Does, Stays, StaysPicked, StaysUnmarked, StaysUnused, told};
@@ -40,7 +40,7 @@ pub(crate) fn accept_with<N: Mechanism, K: Mechanism>(
     ensures step { (hand N.meaning K.meaning).accepts protocol.old
         (record (accept_args args.now) { input = or_empty token.now }) (answered result) protocol.new }
     // What every answer keeps.
-    ensures unused { IsUnused ((hand N.meaning K.meaning).counts protocol.old) → IsUnused ((hand N.meaning K.meaning).counts protocol.new) }
+    ensures unused { let c = hand N.meaning K.meaning in NeitherSealsNorOpens (c.counts protocol.old) (c.counts protocol.new) }
     ensures unmarked { HasNoMic ((hand N.meaning K.meaning).counts protocol.old)
         → HasNoMic ((hand N.meaning K.meaning).counts protocol.new) }
     ensures named { hand_of protocol.new ≡ hand_of protocol.old }
