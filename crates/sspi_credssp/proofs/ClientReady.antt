@@ -1,13 +1,12 @@
 -- A turn of the client that is under way stays so over a step of its context.
-use Rattle.std.proofs.Common.{◌≡◌, ◌<◌, ℕ, List, Option, Some, true, refl, sym, ◌∙◌, ap, subst}
+use Rattle.std.proofs.Common.{◌≡◌, ◌<◌, ℕ, List, Option, Some, true, refl, sym, ◌∙◌, ap, subst, inl, inr}
 use Rattle.sspi_names.specs.declared.network.NetworkRequest.{NetworkRequest}
 use Rattle.sspi_mech.specs.declared.step.Answer.{Answer}
 use Rattle.sspi_mech.specs.declared.step.Answer.TheVariants.{Done, Ask, Refused}
 use Rattle.sspi_mech.specs.declared.step.Reply.{Reply}
 use Rattle.sspi_mech.specs.Answers.{OnAsk}
 use Rattle.sspi_mech.specs.Calls.{StepArgs}
-use Rattle.sspi_mech.specs.Context.{IsContext}
-use Rattle.sspi_mech.specs.Calls.{IsUnused}
+use Rattle.sspi_mech.specs.Context.{IsContext, NeitherSealsNorOpens}
 use Rattle.sspi_mech.specs.Meaning.{Meaning}
 use Rattle.sspi_tsreq.specs.declared.request.TsRequest.{TsRequest}
 use Rattle.sspi_credssp.specs.declared.acts.Acts.{Acts}
@@ -16,25 +15,29 @@ use Rattle.sspi_credssp.specs.declared.state.CredSspState.TheVariants.{NegoToken
 use Rattle.sspi_credssp.specs.Context.{IfContext, ContextSetting}
 use Rattle.sspi_credssp.specs.Ends.{ClientView}
 use Rattle.sspi_credssp.specs.ClientTurn.{IsReady}
-use Rattle.sspi_credssp.specs.Acts.{IsUnusedIn, sealings_in, unsealings_in}
+use Rattle.sspi_credssp.specs.Acts.{no_acts, sealings_in, unsealings_in, CountsEachAct}
 use Rattle.sspi_credssp.specs.Turn.{OnceNegotiated, IsUnspent}
 
 pub not_yet : (s : CredSspState) (P : Type 0) → s ≡ NegoToken → OnceNegotiated s P
 not_yet s P e = subst (λ x. OnceNegotiated x P) (sym e) tt
 
--- in the authentication a step that leaves the counts of an unused context alone spends nothing
-pub still_unspent : {S C : Type 0} (c : Meaning S C) (Unused : Type 0) (start : CredSspState) (before : Option C) (state : CredSspState)
-    (context : Option C) (m m2 : C) → IsUnspent c Unused start before state context → state ≡ NegoToken → start ≡ NegoToken →
-    context ≡ Some m → (IsUnused (c.counts m) → IsUnused (c.counts m2)) → IsUnspent c Unused start before state (Some m2)
-still_unspent c Unused start before state context m m2 unspent nego begins here stays =
-    let first : Unused → IsUnused (c.counts m) = λ given. subst (λ x. IsUnusedIn c x) here (unspent.unused given nego) in
-    record {
-      sealings = λ given. (stays (first given)).sealings ∙ sym (ap (sealings_in c) here ∙ (first given).sealings) ∙ unspent.sealings given;
-      unsealings = λ given.
-          (stays (first given)).unsealings ∙ sym (ap (unsealings_in c) here ∙ (first given).unsealings) ∙ unspent.unsealings given;
-      unused = λ given _. stays (first given);
-      bare = not_yet start _ begins;
-    }
+module _ {S C : Type 0} (c : Meaning S C) where
+  -- in the authentication a step does no act
+  counts_still : (start : CredSspState) (before context : Option C) (m m2 : C) → start ≡ NegoToken → context ≡ Some m →
+      NeitherSealsNorOpens (c.counts m) (c.counts m2) → CountsEachAct c start before no_acts context →
+      CountsEachAct c start before no_acts (Some m2)
+  counts_still start before context m m2 begins here (inl (sealed, opened)) (inl (made, taken)) =
+      inl (sealed ∙ sym (ap (sealings_in c) here) ∙ made, opened ∙ sym (ap (unsealings_in c) here) ∙ taken)
+  counts_still start before context m m2 begins here (inl (sealed, opened)) (inr (nego, (made, taken))) =
+      inr (nego, (sealed ∙ sym (ap (sealings_in c) here) ∙ made, opened ∙ sym (ap (unsealings_in c) here) ∙ taken))
+  counts_still start before context m m2 begins here (inr unused) counts = inr (begins, (unused.sealings, unused.unsealings))
+
+  pub still_unspent : (start : CredSspState) (before context : Option C) (m m2 : C) → IsUnspent c start before context →
+      start ≡ NegoToken → context ≡ Some m → NeitherSealsNorOpens (c.counts m) (c.counts m2) → IsUnspent c start before (Some m2)
+  still_unspent start before context m m2 unspent begins here silent = record {
+    counts = counts_still start before context m m2 begins here silent unspent.counts;
+    bare = not_yet start _ begins;
+  }
 
 pub context_here : {C : Type 0} (o : Option C) (m : C) (P : C → Type 0) → o ≡ Some m → IfContext o P → P m
 context_here o m P e h = subst (λ x. IfContext x P) e h
@@ -47,8 +50,8 @@ on_ask (Refused error) P h = tt
 module _ {C : Type 0} (c : Meaning ContextSetting C) where
   pub ready_stepped : (start now : ClientView C) (d : TsRequest) (m m2 : C) (acts : Acts) →
       IsReady c start d now → now.state ≡ NegoToken → now.context ≡ Some m →
-      (IsUnused (c.counts m) → IsUnused (c.counts m2)) → IsReady c start d (record now { context = Some m2; acts = acts })
-  ready_stepped start now d m m2 acts ready nego here stays =
+      NeitherSealsNorOpens (c.counts m) (c.counts m2) → IsReady c start d (record now { context = Some m2; acts = acts })
+  ready_stepped start now d m m2 acts ready nego here silent =
       record {
         idle = ready.idle;
         code = ready.code;
@@ -60,7 +63,7 @@ module _ {C : Type 0} (c : Meaning ContextSetting C) where
         young = ready.young;
         passed = ready.passed;
         begun = refl;
-        unspent = still_unspent c _ _ _ _ _ m m2 ready.unspent nego (sym ready.state ∙ nego) here stays;
+        unspent = still_unspent c _ _ _ m m2 ready.unspent (sym ready.state ∙ nego) here silent;
       }
 
   -- what a call forgets of the last one is nothing of the turn
@@ -86,7 +89,7 @@ module _ {C : Type 0} (c : Meaning ContextSetting C) (laws : IsContext c) where
       IsReady c start d now → now.state ≡ NegoToken → now.context ≡ Some m → c.steps m a r m2 →
       IsReady c start d (record now { context = Some m2; acts = acts }) × OnAsk r (c.waits m2 ≡ true)
   after_step start now d m m2 acts a r ready nego here step = (
-    ready_stepped c start now d m m2 acts ready nego here (λ unused. laws.step_unused m m2 a r unused step),
+    ready_stepped c start now d m m2 acts ready nego here (laws.step_silent m m2 a r step),
     on_ask r (c.waits m2 ≡ true) (λ request is. laws.step_waits m m2 a request (subst (λ x. c.steps m a x m2) is step)),
   )
 
@@ -94,7 +97,7 @@ module _ {C : Type 0} (c : Meaning ContextSetting C) (laws : IsContext c) where
       IsReady c start d now → now.state ≡ NegoToken → now.context ≡ Some m → c.resumes m b r m2 →
       IsReady c start d (record now { context = Some m2; acts = acts }) × OnAsk r (c.waits m2 ≡ true)
   after_resume start now d m m2 acts b r ready nego here step = (
-    ready_stepped c start now d m m2 acts ready nego here (λ unused. laws.resume_unused m m2 b r unused step),
+    ready_stepped c start now d m m2 acts ready nego here (laws.resume_silent m m2 b r step),
     on_ask r (c.waits m2 ≡ true) (λ request is. laws.resume_waits m m2 b request (subst (λ x. c.resumes m b x m2) is step)),
   )
 

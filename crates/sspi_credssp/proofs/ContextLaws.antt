@@ -29,11 +29,11 @@ again (Kerberos m) = refl
 knowing_lawful : {M : Type 0} (c : Meaning NegotiateSetting (Negotiation M)) → IsContext c → IsContext (knowing c)
 knowing_lawful c laws = record {
   made_fresh = λ s m made. laws.made_fresh (listed_setting s m.known) m made.1;
-  acquire_unused = laws.acquire_unused;
+  acquire_silent = laws.acquire_silent;
   identify_counts = laws.identify_counts;
-  step_unused = laws.step_unused;
-  resume_unused = laws.resume_unused;
-  accept_unused = laws.accept_unused;
+  step_silent = laws.step_silent;
+  resume_silent = laws.resume_silent;
+  accept_silent = laws.accept_silent;
   resume_asks = laws.resume_asks;
   step_waits = laws.step_waits;
   resume_waits = laws.resume_waits;

@@ -12,10 +12,12 @@ pub mod LittleEndian
 pub mod OneText
 pub mod Opened
 pub mod CodelessErrors
+pub mod Counting
 pub mod Proxies
 pub mod ServerAsking
 pub mod ServerBeginning
 pub mod ServerCauses
+pub mod ServerFinished
 pub mod ServerHeeding
 pub mod ServerOpening
 pub mod ServerReady

@@ -1,6 +1,6 @@
 -- A server's call that is refused while it makes its context or looks at its client's version.
-use Rattle.std.proofs.Common.{inl, ◌≡◌, ◌+◌, ℕ, List, [], Option, None, Some, IsSome, Result, Ok, Err, OnErr, Bool, true, false}
-use Rattle.std.proofs.Common.{refl, sym, ◌∙◌, ap, subst, arith}
+use Rattle.std.proofs.Common.{inl, ◌≡◌, ℕ, List, [], Option, None, Some, IsSome, Result, Ok, Err, OnErr, Bool, true, false}
+use Rattle.std.proofs.Common.{refl, sym, ◌∙◌, ap, subst}
 use Rattle.sspi_types.specs.declared.credential_use.CredentialUse.TheVariants.{Inbound}
 use Rattle.sspi_types.specs.declared.error.Error.{Error}
 use Rattle.sspi_names.specs.declared.identity.AuthIdentity.{AuthIdentity}
@@ -11,7 +11,7 @@ use Rattle.sspi_credssp.specs.declared.server_state.ServerError.{ServerError}
 use Rattle.sspi_credssp.specs.declared.state.CredSspState.{CredSspState}
 use Rattle.sspi_credssp.specs.declared.state.CredSspState.TheVariants.{NegoToken}
 use Rattle.sspi_credssp.specs.declared.turn.Outcome.TheVariants as outcome
-use Rattle.sspi_credssp.specs.Acts.{no_acts, sealings_by, unsealings_by, IsUnusedIn, sealings_in, unsealings_in}
+use Rattle.sspi_credssp.specs.Acts.{no_acts, IsUnusedIn, CountsEachAct}
 use Rattle.sspi_credssp.specs.Context.{Begun, IfContext, OnContext, ContextSetting, ForServer}
 use Rattle.sspi_credssp.specs.Requests.{error_request, version_back}
 use Rattle.sspi_credssp.specs.Noted.{noted_with}
@@ -20,6 +20,7 @@ use Rattle.sspi_credssp.specs.Ends.{ServerView}
 use Rattle.sspi_credssp.specs.ServerTurn.{OnStep, ServerTurn, UnlessMade, IsNew, is_made, IsUnstepped}
 use Rattle.sspi_credssp.specs.ServerStage.{BeginRefused}
 use Rattle.sspi_credssp.proofs.ClientReady.{not_yet}
+use Rattle.sspi_credssp.proofs.Counting.{unused_counts}
 
 pub refused_both : {T E : Type 0} (r : Result T E) (Q R : Type 0) → OnErr r Q → OnErr r R → OnErr r (Q × R)
 refused_both (Ok x) Q R q r = tt
@@ -32,9 +33,6 @@ context_there (Some m) Q some h = h
 pub there_or_not : {C : Type 0} (o : Option C) (Q : C → Type 0) → IfContext o Q → OnContext o Q
 there_or_not None Q h = tt
 there_or_not (Some m) Q h = h
-
-more_by_none : (n m : ℕ) (acts : Acts) → acts ≡ no_acts → n ≡ m → (n ≡ m + sealings_by acts) × (n ≡ m + unsealings_by acts)
-more_by_none n m acts idle same = (rw (idle, same) (omega arith), rw (idle, same) (omega arith))
 
 module _ {C : Type 0} (c : Meaning ContextSetting C) where
   unmade_before : (o : Option C) (Q : C → Type 0) → IfContext o Q → UnlessMade c None o Q
@@ -51,10 +49,6 @@ module _ {C : Type 0} (c : Meaning ContextSetting C) where
   back_again None noted version own none = refl
   back_again (Some m) noted version own none = rw none refl
 
-  unsealed_so_far : (o : Option C) → IsUnusedIn c o → (sealings_in c o ≡ 0) × (unsealings_in c o ≡ 0)
-  unsealed_so_far None h = (refl, refl)
-  unsealed_so_far (Some m) h = (h.sealings, h.unsealings)
-
   module _ {P : Type 0} where
     as_new : (told : Option (List AuthIdentity)) (old new : ServerView C P) (o : Option C) →
         IfContext o (λ m. Begun c old.context old.handle (ForServer old.settings.mode told) Inbound None new.handle m) →
@@ -70,7 +64,7 @@ module _ {C : Type 0} (c : Meaning ContextSetting C) where
         OnErr r (BeginRefused c old version new)
     new_refused told (Ok x) old new version none unnoted state unused begun noted same = tt
     new_refused told (Err e) old new version none unnoted state unused begun noted same =
-        let fresh = unsealed_so_far new.context unused in
+        let fresh = unused_counts c new.context unused in
         record {
           handle = λ some. absurd (cc (some, none));
           noted = λ some. noted;
@@ -78,8 +72,7 @@ module _ {C : Type 0} (c : Meaning ContextSetting C) where
           unstepped = subst (λ (o : Option C). UnlessMade c o new.context (IsNew c old new))
               (sym none) (unmade_before new.context _ (as_new told old new new.context begun));
           back = λ own. back_again new.context new.noted version own (same ∙ unnoted);
-          sealings = λ su. fresh.0 ∙ rw none refl;
-          unsealings = λ su. fresh.1 ∙ rw none refl;
+          counts = inl (fresh.0 ∙ rw none refl, fresh.1 ∙ rw none refl);
           bare = not_yet old.state _ state;
         }
 
@@ -144,8 +137,7 @@ module _ {C : Type 0} (c : Meaning ContextSetting C) where
             noted_proved = λ was. absurd (cc (was, proved));
             noted_checked = λ was. absurd (cc (was, checked));
             noted_opened = λ was. absurd (cc (was, opened));
-            sealings = λ su. (more_by_none _ _ new.acts idle (refused.sealings su)).0;
-            unsealings = λ su. (more_by_none _ _ new.acts idle (refused.unsealings su)).1;
+            counts = subst (λ (a : Acts). CountsEachAct c old.state old.context a new.context) (sym idle) refused.counts;
             bare = refused.bare;
             unstepped = λ none. unstepped_still old new no_acts [] refused.unstepped;
             unanswered = λ none. ap (λ (v : ServerView C P). v.output) is;

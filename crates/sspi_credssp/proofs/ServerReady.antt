@@ -1,6 +1,6 @@
 -- A turn of the server that is under way stays so over a step of its context, and while the context only counts.
 use Rattle.std.proofs.Common.{◌≡◌, ℕ, List, Some, refl, sym, ◌∙◌}
-use Rattle.sspi_mech.specs.Calls.{IsUnused}
+use Rattle.sspi_mech.specs.Context.{NeitherSealsNorOpens}
 use Rattle.sspi_mech.specs.Meaning.{Meaning}
 use Rattle.sspi_tsreq.specs.declared.request.TsRequest.{TsRequest}
 use Rattle.sspi_credssp.specs.declared.acts.Acts.{Acts}
@@ -13,9 +13,9 @@ use Rattle.sspi_credssp.proofs.ClientReady.{still_unspent}
 module _ {C P : Type 0} (c : Meaning ContextSetting C) where
   pub ready_stepped : (start now : ServerView C P) (d : TsRequest) (m m2 : C) (acts : Acts) (output : List ℕ) (proxy : P) →
       IsReady c start d now → now.state ≡ NegoToken → now.context ≡ Some m →
-      (IsUnused (c.counts m) → IsUnused (c.counts m2)) →
+      NeitherSealsNorOpens (c.counts m) (c.counts m2) →
       IsReady c start d (record now { context = Some m2; acts = acts; output = output; proxy = proxy })
-  ready_stepped start now d m m2 acts output proxy ready nego here stays =
+  ready_stepped start now d m m2 acts output proxy ready nego here silent =
       record {
         same = ready.same;
         handle = λ h. ((ready.handle h).0, refl);
@@ -25,5 +25,5 @@ module _ {C P : Type 0} (c : Meaning ContextSetting C) where
         young = ready.young;
         passed = ready.passed;
         begun = refl;
-        unspent = still_unspent c _ _ _ _ _ m m2 ready.unspent nego (sym ready.state ∙ nego) here stays;
+        unspent = still_unspent c _ _ _ m m2 ready.unspent (sym ready.state ∙ nego) here silent;
       }

@@ -50,7 +50,7 @@ module _ {C : Type 0} (c : Meaning ContextSetting C) (laws : IsContext c) where
       (at ∙ ap (λ (a : Acts). record v { context = Some m2; acts = record a { negotiated = true } }) idle) in
       let again : c.waits m2 ≡ true = subst (λ (x : ClientView C). is_waiting_in c x.context ≡ true) moved waits in
       let ready2 = ready_stepped c start v d m m2 (record no_acts { negotiated = true }) ready nego here
-      (λ unused. laws.resume_unused m m2 reply _ unused resumed) in
+      (laws.resume_silent m m2 reply _ resumed) in
       let under : IsUnderway c start d (record v { context = Some m2; acts = record no_acts { negotiated = true }; kept = new.kept }) =
       record {
         ready = ready_forgot c start _ d (record no_acts { negotiated = true }) v.output new.kept ready2;

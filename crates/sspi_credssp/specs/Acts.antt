@@ -1,8 +1,10 @@
 -- What an end did on its security context in one call, and how many messages a context has made and taken.
-use Rattle.std.specs.Prelude.{ℕ, ◌+◌, Bool, true, false, None, ◌≡◌, List, Option, Some}
+use Rattle.std.specs.Prelude.{ℕ, ◌+◌, ◌⊎◌, Bool, true, false, None, ◌≡◌, List, Option, Some}
 use Rattle.sspi_mech.specs.Calls.{Counts, IsUnused}
 use Rattle.sspi_mech.specs.Meaning.{Meaning}
 use Rattle.sspi_credssp.specs.declared.acts.Acts.{Acts}
+use Rattle.sspi_credssp.specs.declared.state.CredSspState.{CredSspState}
+use Rattle.sspi_credssp.specs.declared.state.CredSspState.TheVariants.{NegoToken}
 
 abbrev pub no_acts : Acts
 no_acts = record { status = None; negotiated = false; proved = false; checked = false; sealed = false; opened = false }
@@ -32,6 +34,15 @@ module _ {S C : Type 0} (c : Meaning S C) where
   abbrev pub unsealings_in : Option C → ℕ
   unsealings_in None = 0
   unsealings_in (Some m) = (c.counts m).unsealings
+
+  -- the counts are those before and the acts
+  abbrev pub AddsActs : Option C → Acts → Option C → Type 0
+  AddsActs before acts now =
+      (sealings_in now ≡ sealings_in before + sealings_by acts) × (unsealings_in now ≡ unsealings_in before + unsealings_by acts)
+
+  -- The counts are those before and the acts; or the acts alone, in the authentication, where a step may take another mechanism.
+  abbrev pub CountsEachAct : CredSspState → Option C → Acts → Option C → Type 0
+  CountsEachAct state before acts now = AddsActs before acts now ⊎ ((state ≡ NegoToken) × AddsActs None acts now)
 
   -- nothing was sealed or opened
   abbrev pub IsUnusedIn : Option C → Type 0

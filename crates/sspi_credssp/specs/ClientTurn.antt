@@ -24,8 +24,7 @@ use Rattle.sspi_credssp.specs.declared.turn.End.TheVariants.{Client}
 use Rattle.sspi_credssp.specs.declared.turn.Outcome.{Outcome}
 use Rattle.sspi_credssp.specs.declared.turn.Outcome.TheVariants as outcome
 use Rattle.sspi_credssp.specs.declared.turn.Turn.{Turn}
-use Rattle.sspi_credssp.specs.Acts.{silent, no_acts, sealings_by, unsealings_by, sealings_in, unsealings_in, IsUnusedIn, SameBut}
-use Rattle.sspi_credssp.specs.Acts.{is_waiting_in}
+use Rattle.sspi_credssp.specs.Acts.{silent, no_acts, sealings_in, unsealings_in, CountsEachAct, SameBut, is_waiting_in}
 use Rattle.sspi_credssp.specs.Context.{Begun, IfContext, ContextSetting, ForClient}
 use Rattle.sspi_credssp.specs.Ends.{ClientView}
 use Rattle.sspi_credssp.specs.Noted.{is_altered_in, is_old_in, noted_in}
@@ -133,10 +132,6 @@ module _ {C : Type 0} (c : Meaning ContextSetting C) where
   abbrev pub KeepsHandle : ClientView C → ClientView C → Type 0
   KeepsHandle old new = IsSome old.context → (new.handle ≡ old.handle) × IsSome new.context
 
-  -- in the authentication nothing was sealed or opened yet; so it is unless a call was refused after it had proved
-  abbrev pub StartsUnused : ClientView C → Type 0
-  StartsUnused old = old.state ≡ NegoToken → IsUnusedIn c old.context
-
   -- the version that is noted where a call looks at the delivered one
   abbrev pub noted_next : ClientView C → TsRequest → Option ℕ
   noted_next old d = noted_in old.context old.settings.least old.noted d.version
@@ -155,8 +150,7 @@ module _ {C : Type 0} (c : Meaning ContextSetting C) where
     pub noted_proved : new.acts.proved ≡ true → new.noted ≡ noted_next old d
     pub noted_checked : new.acts.checked ≡ true → new.noted ≡ noted_next old d
     pub begun : UnlessRefused out (IsSome new.context)
-    pub sealings : StartsUnused old → sealings_in c new.context ≡ sealings_in c old.context + sealings_by new.acts
-    pub unsealings : StartsUnused old → unsealings_in c new.context ≡ unsealings_in c old.context + unsealings_by new.acts
+    pub counts : CountsEachAct c old.state old.context new.acts new.context
     -- no step of the context follows its first message
     pub bare : OnceNegotiated old.state (SameBut c old.context new.context)
     -- a call that took no step only has the context count, and one whose step gave no answer has no token
@@ -179,7 +173,7 @@ module _ {C : Type 0} (c : Meaning ContextSetting C) where
     pub young : is_old_in start.context start.settings.least start.noted d.version ≡ false
     pub passed : is_altered_in start.context start.noted d.version ≡ false
     pub begun : IsSome now.context
-    pub unspent : IsUnspent c (StartsUnused start) start.state start.context now.state now.context
+    pub unspent : IsUnspent c start.state start.context now.context
 
   -- a turn on d that began at `start` is suspended
   pub record IsUnderway (start : ClientView C) (d : TsRequest) (now : ClientView C) : Type 0 where

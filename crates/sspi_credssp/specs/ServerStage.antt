@@ -17,14 +17,14 @@ use Rattle.sspi_credssp.specs.Context.{Begun, IfContext, OnContext, ContextSetti
 use Rattle.sspi_credssp.specs.Noted.{differs, is_old, noted_with}
 use Rattle.sspi_credssp.specs.Proxy.{ProxyMeaning, IsTold}
 use Rattle.sspi_credssp.specs.Ends.{ServerView}
-use Rattle.sspi_credssp.specs.ServerTurn.{server_setting, Completed, Accepted, AcceptedSoFar, HoldsIdentity, KeepsHandle, StartsUnused}
+use Rattle.sspi_credssp.specs.ServerTurn.{server_setting, Completed, Accepted, AcceptedSoFar, HoldsIdentity, KeepsHandle}
 use Rattle.sspi_credssp.specs.ServerTurn.{ServerTurn, IsUnstepped}
 use Rattle.sspi_credssp.specs.declared.mode.ServerMode.{ServerMode}
 use Rattle.sspi_credssp.specs.declared.mode.ServerMode.TheVariants as modes
 use Rattle.sspi_credssp.specs.declared.public_key.EndpointType.TheVariants.{Server}
 use Rattle.sspi_credssp.specs.declared.server_negotiation.Answer.{Answer}
 use Rattle.sspi_credssp.specs.declared.server_negotiation.Answer.TheVariants as answers
-use Rattle.sspi_credssp.specs.Acts.{no_acts, count_of, sealings_in, unsealings_in, SameBut, SealsIn}
+use Rattle.sspi_credssp.specs.Acts.{no_acts, count_of, sealings_in, unsealings_in, CountsEachAct, SameBut, SealsIn}
 use Rattle.sspi_credssp.specs.Requests.{error_request, version_back, IsLong, nonce_of}
 use Rattle.sspi_credssp.specs.Exchange.{prescribed}
 use Rattle.sspi_credssp.specs.Turn.{AtNoted, IsUnspent, OnceNegotiated, HasNonce, Proven}
@@ -58,8 +58,7 @@ module _ {C : Type 0} (c : Meaning ContextSetting C) where
       pub unnoted : new.context ≡ None → new.noted ≡ old.noted
       pub unstepped : IsUnstepped c old new
       pub back : (own : ℕ) → version_back new.context new.noted version own ≡ version
-      pub sealings : StartsUnused c old → sealings_in c new.context ≡ sealings_in c old.context
-      pub unsealings : StartsUnused c old → unsealings_in c new.context ≡ unsealings_in c old.context
+      pub counts : CountsEachAct c old.state old.context no_acts new.context
       pub bare : OnceNegotiated old.state (SameBut c old.context new.context)
 
 module _ {P : Type 0} (p : ProxyMeaning P) where
@@ -129,7 +128,7 @@ module _ {C : Type 0} (c : Meaning ContextSetting C) where
       pub young : is_old start.settings.least start.noted d.version ≡ false
       pub passed : differs start.noted d.version ≡ false
       pub begun : IsSome now.context
-      pub unspent : IsUnspent c (StartsUnused c start) start.state start.context now.state now.context
+      pub unspent : IsUnspent c start.state start.context now.context
 
     pub record ServerProves (old : ServerView C P) (d : TsRequest) (blob : List ℕ) (new : ServerView C P) : Type 0 where
       pub checked : new.acts.checked ≡ true

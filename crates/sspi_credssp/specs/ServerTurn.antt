@@ -1,5 +1,5 @@
 -- A server's turn (MS-CSSP 3.1.5.2), with the step of its context.
-use Rattle.std.specs.Prelude.{◌≡◌, ◌≢◌, ℕ, List, [], map, Option, None, Some, Result, Ok, Err, Bool, true, false, ◌+◌, ◌-◌, IsSome}
+use Rattle.std.specs.Prelude.{◌≡◌, ◌≢◌, ℕ, List, [], map, Option, None, Some, Result, Ok, Err, Bool, true, false, ◌-◌, IsSome}
 use Rattle.sspi_types.specs.declared.credential_use.CredentialUse.TheVariants.{Inbound}
 use Rattle.sspi_types.specs.declared.error.Error.{Error}
 use Rattle.sspi_types.specs.declared.security_status.SecurityStatus.{SecurityStatus}
@@ -23,7 +23,7 @@ use Rattle.sspi_credssp.specs.declared.turn.End.TheVariants.{Server}
 use Rattle.sspi_credssp.specs.declared.turn.Outcome.{Outcome}
 use Rattle.sspi_credssp.specs.declared.turn.Outcome.TheVariants as outcome
 use Rattle.sspi_credssp.specs.declared.turn.Turn.{Turn}
-use Rattle.sspi_credssp.specs.Acts.{silent, sealings_by, unsealings_by, sealings_in, unsealings_in, IsUnusedIn, SameBut, cleared}
+use Rattle.sspi_credssp.specs.Acts.{silent, sealings_in, unsealings_in, CountsEachAct, SameBut, cleared}
 use Rattle.sspi_credssp.specs.Context.{Begun, IfContext, OnContext, ContextSetting, ForServer}
 use Rattle.sspi_credssp.specs.Ends.{ServerView}
 use Rattle.sspi_credssp.specs.Exchange.{OpensIdentity}
@@ -183,10 +183,6 @@ module _ {C : Type 0} (c : Meaning ContextSetting C) where
     abbrev pub KeepsHandle : ServerView C P → ServerView C P → Type 0
     KeepsHandle old new = IsSome old.context → (new.handle ≡ old.handle) × IsSome new.context
 
-    -- in the authentication nothing was sealed or opened yet; so it is unless a call was refused after it had opened a proof
-    abbrev pub StartsUnused : ServerView C P → Type 0
-    StartsUnused old = old.state ≡ NegoToken → IsUnusedIn c old.context
-
     -- the context is the one that the server had, but for its counts, or a new one that has acquired credentials; or there is none
     pub data IsNew (old new : ServerView C P) (m : C) : Type 0 where
       is_made : (told : Option (List AuthIdentity)) →
@@ -206,8 +202,7 @@ module _ {C : Type 0} (c : Meaning ContextSetting C) where
       pub noted_proved : new.acts.proved ≡ true → new.noted ≡ noted_with old.settings.least old.noted d.version
       pub noted_checked : new.acts.checked ≡ true → new.noted ≡ noted_with old.settings.least old.noted d.version
       pub noted_opened : new.acts.opened ≡ true → new.noted ≡ noted_with old.settings.least old.noted d.version
-      pub sealings : StartsUnused old → sealings_in c new.context ≡ sealings_in c old.context + sealings_by new.acts
-      pub unsealings : StartsUnused old → unsealings_in c new.context ≡ unsealings_in c old.context + unsealings_by new.acts
+      pub counts : CountsEachAct c old.state old.context new.acts new.context
       -- no step of the context follows its first message, but in the authentication
       pub bare : OnceNegotiated old.state (SameBut c old.context new.context)
       -- a call that took no step makes a context at most, or has it count; and one whose step gave no answer has no token

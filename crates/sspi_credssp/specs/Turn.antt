@@ -12,7 +12,7 @@ use Rattle.sspi_credssp.specs.declared.state.CredSspState.TheVariants.{NegoToken
 use Rattle.sspi_credssp.specs.declared.turn.Outcome.{Outcome}
 use Rattle.sspi_credssp.specs.declared.turn.Outcome.TheVariants as outcome
 use Rattle.sspi_credssp.specs.declared.turn.Turn.{Turn}
-use Rattle.sspi_credssp.specs.Acts.{sealings_in, unsealings_in, IsUnusedIn, SameBut, SealsIn, OpensIn}
+use Rattle.sspi_credssp.specs.Acts.{no_acts, CountsEachAct, SameBut, SealsIn, OpensIn}
 use Rattle.sspi_credssp.specs.Context.{ContextSetting}
 use Rattle.sspi_credssp.specs.Ends.{ClientSettings, ServerSettings}
 use Rattle.sspi_credssp.specs.Exchange.{delegated_text, IfText, prescribed}
@@ -67,13 +67,10 @@ ClientFrame C = Frame ClientSettings C
 abbrev pub ServerFrame : Type 0 → Type 0
 ServerFrame C = Frame ServerSettings C
 
--- What the context of an end keeps until a turn uses it: one that nothing was sealed or opened with stays so, and past the
--- authentication it differs in its counts alone.
-pub record IsUnspent {S C : Type 0} (c : Meaning S C) (Unused : Type 0) (start : CredSspState) (before : Option C)
-    (state : CredSspState) (context : Option C) : Type 0 where
-  pub sealings : Unused → sealings_in c context ≡ sealings_in c before
-  pub unsealings : Unused → unsealings_in c context ≡ unsealings_in c before
-  pub unused : Unused → state ≡ NegoToken → IsUnusedIn c context
+-- What the context of an end keeps until a turn uses it: nothing was sealed or opened yet, and past the authentication it
+-- differs in its counts alone.
+pub record IsUnspent {S C : Type 0} (c : Meaning S C) (start : CredSspState) (before context : Option C) : Type 0 where
+  pub counts : CountsEachAct c start before no_acts context
   pub bare : OnceNegotiated start (SameBut c before context)
 
 -- ---- What recorded bytes can show of a turn, whatever context, key and nonce stand behind it: which acts it may have done, and

@@ -7,8 +7,7 @@ ghost use Rattle.sspi_names.specs.declared.identity.AuthIdentity.{AuthIdentity};
 ghost use Rattle.sspi_credssp.specs.Refusal.{IsRefusedBy};
 ghost use Rattle.sspi_credssp.specs.Context.{either, ForClient, ForServer};
 ghost use Rattle.sspi_credssp.specs.ServerStage.{IsListed};
-ghost use Rattle.sspi_mech.specs.Context.{IsContext};
-ghost use Rattle.sspi_mech.specs.Calls.{IsUnused};
+ghost use Rattle.sspi_mech.specs.Context.{IsContext, NeitherSealsNorOpens};
 ghost use Rattle.sspi_negotiate.specs.Identity.{is_refused_identity};
 ghost use Rattle.sspi_credssp.specs.PackageName.{package_name_of, protocol_of};
 
@@ -106,7 +105,7 @@ impl<N: Mechanism, K: Mechanism> SspiContext<N, K> {
     ) -> Result<Option<CredentialsBuffers>, Error>
         ensures acquired { IfOk result (λ buffers.
             (either N.REQUESTS N.meaning K.meaning).acquires self.old credential_use (option_copied auth_data.entry) buffers self.new) }
-        ensures unused { let c = either N.REQUESTS N.meaning K.meaning in IsUnused (c.counts self.old) → IsUnused (c.counts self.new) }
+        ensures silent { let c = either N.REQUESTS N.meaning K.meaning in NeitherSealsNorOpens (c.counts self.old) (c.counts self.new) }
         ensures err { OnErr result (self.new ≡ self.old) }
         ensures cause { IsRefusedBy result ((either N.REQUESTS N.meaning K.meaning).refuses self.old
             (ToAcquire credential_use (option_copied auth_data.entry))) }

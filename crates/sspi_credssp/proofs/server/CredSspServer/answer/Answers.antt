@@ -1,4 +1,4 @@
-use Rattle.std.proofs.Common.{◌≡◌, ◌≢◌, Some, None, Ok, Err, IfErr, ap, sym, subst, rules}
+use Rattle.std.proofs.Common.{◌≡◌, ◌≢◌, Some, None, Ok, Err, IfErr, true, ap, sym, subst, rules}
 use Rattle.std.proofs.lemmas.Result.{err_from_is_err_and}
 use Rattle.sspi_types.specs.declared.credential_use.CredentialUse.TheVariants.{Inbound}
 use Rattle.sspi_types.specs.declared.error_kind.ErrorKind.TheVariants.{InsufficientMemory}
@@ -23,7 +23,7 @@ returns-clause-turn g c = λ start d same ready nego output.
     let ready_inside = subst (λ v. IsReady it start d v) (sym c.self.view_is) ready in
     c.answer_step.ensures.turn start d (search rules)
     (ready_stepped it start _ d c.in-Some.context c.accept.new.context _ _ _ ready_inside nego_inside here
-    (λ unused. laws.accept_unused _ _ _ _ unused c.in_ok-step.ensures.step))
+    (laws.accept_silent _ _ _ _ c.in_ok-step.ensures.step))
     (search rules)
 
 pub returns-clause-step : goal.returns-clause-step
@@ -37,6 +37,19 @@ returns-clause-step g c = λ start d token at.
     (accepted c.in-Some.context _ _ (context_here _ _ _ here begun_inside)
     (subst (λ t. it.accepts c.in-Some.context (server_args c.self.inside.credentials_handle t) (Ok c.in_ok-step.step) c.accept.new.context)
     (sym token) c.in_ok-step.ensures.step))
+
+pub returns-in_err-step-clause-turn : goal.returns-in_err-step-clause-turn
+returns-in_err-step-clause-turn g c = λ start d same ready nego output.
+    let it = either g.N.Mechanism.REQUESTS g.N.Mechanism.meaning g.K.Mechanism.meaning in
+    let laws = lawful _ _ g.N.Mechanism.meaning g.K.Mechanism.meaning g.met.N.Mechanism.laws g.met.K.Mechanism.laws in
+    let here : c.self.inside.context ≡ Some c.in-Some.context = search rules in
+    let nego_inside : c.self.inside.state ≡ NegoToken = search rules in
+    let ready_inside = subst (λ v. IsReady it start d v) (sym c.self.view_is) ready in
+    let stepped = ready_stepped it start _ d c.in-Some.context c.accept.new.context (record c.self.inside.acts { negotiated = true })
+    c.self.inside.output c.self.inside.credentials ready_inside nego_inside here
+    (laws.accept_silent _ _ _ _ c.in_err-step.ensures.step) in
+    let p = err_from_is_err_and c.from_residual.result c.from_residual.ensures.1 in
+    rw (p.1, p.2) (search rules)
 
 pub returns-in_err-step-clause-step : goal.returns-in_err-step-clause-step
 returns-in_err-step-clause-step g c = λ start d token at.

@@ -5,14 +5,17 @@ use Rattle.sspi_mech.specs.declared.step.Step.{Step}
 use Rattle.sspi_mech.specs.Calls.{ToComplete}
 use Rattle.sspi_mech.specs.Answered.{answered}
 use Rattle.sspi_credssp.specs.declared.server_negotiation.Answer.{Answer}
+use Rattle.sspi_mech.proofs.ContextLaws.{silent_by}
+use Rattle.sspi_credssp.specs.declared.state.CredSspState.TheVariants.{NegoToken}
 use Rattle.sspi_credssp.specs.Context.{either}
-use Rattle.sspi_credssp.specs.ServerStage.{IsLater, CompletedStep}
+use Rattle.sspi_credssp.specs.ServerStage.{IsLater, CompletedStep, IsReady}
 use Rattle.sspi_credssp.specs.ServerCause.{IdentifyCause, unknown, incomplete}
 use Rattle.sspi_credssp.specs.ServerTurn.{AcceptedSoFar, Unknown, Identified, Completed, Accepted, HasCome, IsIdentified, identified}
 use Rattle.sspi_credssp.specs.ServerTurn.{completed, so_far}
 use Rattle.sspi_credssp.proofs.ClientReady.{context_here}
 use Rattle.sspi_credssp.proofs.ContextLaws.{lawful}
 use Rattle.sspi_credssp.proofs.ServerCauses.{known_causes, identified_since}
+use Rattle.sspi_credssp.proofs.ServerReady.{ready_stepped}
 use Rattle.sspi_credssp.proofs.ServerWalks.{accepted_on, completed_on, come_on}
 use Rattle.sspi_credssp.proofs.server.CredSspServer.complete.Goals as goal
 
@@ -63,6 +66,18 @@ returns-clause-step g c = λ start token answer later accepted.
     (Some c.complete_auth_token.new.self) _
     c.answer_peer.ensures.moved
     (subst (λ m. Accepted it tells start c.args.self.now.handle token Completed answer m) (sym c.complete_auth_token.ensures.same) done)
+
+pub returns-in_err-complete_auth_token-clause-turn : goal.returns-in_err-complete_auth_token-clause-turn
+returns-in_err-complete_auth_token-clause-turn g c = λ start d same ready nego over.
+    let it = either g.N.Mechanism.REQUESTS g.N.Mechanism.meaning g.K.Mechanism.meaning in
+    let here : c.self.inside.context ≡ Some c.in-Some.context = search rules in
+    let nego_inside : c.self.inside.state ≡ NegoToken = search rules in
+    let ready_inside = subst (λ v. IsReady it start d v) (sym c.self.view_is) ready in
+    let named = ready_stepped it start _ d c.in-Some.context c.identify.new.context c.self.inside.acts
+    c.self.inside.output c.identify.new.proxy ready_inside nego_inside here
+    (silent_by _ _ c.identify.ensures.counts) in
+    let p = err_from_is_err_and c.from_residual-in_err-complete_auth_token.result c.from_residual-in_err-complete_auth_token.ensures.1 in
+    rw (p.1, p.2) (search rules)
 
 pub returns-in_err-complete_auth_token-clause-step : goal.returns-in_err-complete_auth_token-clause-step
 returns-in_err-complete_auth_token-clause-step g c = λ start token answer later accepted.
