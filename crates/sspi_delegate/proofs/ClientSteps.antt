@@ -1,16 +1,18 @@
 -- One more turn of a client: what holds of its turns so far holds of them with this one.
 use Rattle.std.proofs.Common.{◌≡◌, ℕ, ◌+◌, Bool, true, false, ◌&&◌, List, [], ◌∷◌, sym, ◌∙◌, ap, subst, refl, Option, None, Some}
-use Rattle.std.proofs.Common.{is_some, IsSome, Ok, if◌then◌else◌}
+use Rattle.std.proofs.Common.{is_some, IsSome, Ok, add-zero, if◌then◌else◌}
 use Rattle.sspi_types.specs.declared.security_status.SecurityStatus.{SecurityStatus}
 use Rattle.sspi_types.specs.declared.security_status.SecurityStatus.TheVariants as statuses
 use Rattle.sspi_mech.specs.Context.{IsContext}
 use Rattle.sspi_mech.specs.Meaning.{Meaning}
 use Rattle.sspi_tsreq.specs.declared.request.TsRequest.{TsRequest}
+use Rattle.sspi_credssp.specs.declared.acts.Acts.{Acts}
 use Rattle.sspi_credssp.specs.declared.state.CredSspState.{CredSspState}
 use Rattle.sspi_credssp.specs.declared.state.CredSspState.TheVariants.{NegoToken, PubKeyInfo, AuthInfo, Final}
-use Rattle.sspi_credssp.specs.Acts.{sealings_by, unsealings_by, sealings_in, unsealings_in, SameBut, silent, is_waiting_in}
+use Rattle.sspi_credssp.specs.Acts.{sealings_by, unsealings_by, sealings_in, unsealings_in, no_acts, AddsActs, CountsEachAct}
+use Rattle.sspi_credssp.specs.Acts.{SameBut, silent, is_waiting_in}
 use Rattle.sspi_credssp.specs.Ends.{ClientSettings, ClientView, IsFreshClient}
-use Rattle.sspi_credssp.specs.ClientTurn.{ClientTurn, IsUnderway, StartsUnused, client_frame, client_turn, noted_next, state_after}
+use Rattle.sspi_credssp.specs.ClientTurn.{ClientTurn, IsUnderway, client_frame, client_turn, noted_next, state_after}
 use Rattle.sspi_credssp.specs.ClientTurn.{client_args, Asked, Walked, stepped, resumed, still_asked, recounted, DoneStep}
 use Rattle.sspi_names.specs.declared.credentials.CredentialsBuffers.{CredentialsBuffers}
 use Rattle.sspi_mech.specs.declared.step.Answer.{Answer}
@@ -25,6 +27,7 @@ use Rattle.sspi_delegate.specs.EndRun.{ClientEnd, client_end, client_state, clie
 use Rattle.sspi_delegate.specs.EndRun.{ClientRan, HasBegun, ClientFollows}
 use Rattle.sspi_delegate.specs.Turns.{made_in, opened_in, is_replied, is_ended, any_proved, any_ended, OthersGoOn, GoesOn, AllGoOn}
 use Rattle.sspi_delegate.specs.History.{StepsSo}
+use Rattle.sspi_credssp.proofs.Counting.{counted_by}
 use Rattle.sspi_delegate.proofs.Alternating.{others_go}
 use Rattle.sspi_delegate.proofs.ClientOver.{client_over}
 use Rattle.sspi_delegate.proofs.EndSteps.{none_ran, or_false, or_not, is_false, IsQuiet, AllQuiet, quiet_made, Touched, touched, untouched}
@@ -125,12 +128,16 @@ module _ {C : Type 0} (c : Meaning ContextSetting C) where
         all_quiet e past each.1 went.1 p.1 q.1,
       )
 
-  starts_unused : (first old : ClientView C) (past : List Turn) → ClientFollows c first old past → StartsUnused c old
-  starts_unused first old past follows nego =
+  -- nothing was sealed or opened in the authentication, so the acts come on top of what was counted
+  counts_on : (first old : ClientView C) (past : List Turn) (acts : Acts) (now : Option C) → ClientFollows c first old past →
+      CountsEachAct c old.state old.context acts now → AddsActs c old.context acts now
+  counts_on first old past acts now follows counts = counted_by c old.state old.context acts now
+      (λ nego.
       let s = state_nego (any_ended past) (any_proved past) (sym follows.state ∙ nego) in
       let quiet = all_quiet (client_end old) past follows.ran.each follows.going s.1 s.0 in
       let none = quiet_made past quiet in
-      unused_in c old.context (follows.ran.made ∙ none.0) (follows.ran.opened ∙ none.1)
+      unused_in c old.context (follows.ran.made ∙ none.0) (follows.ran.opened ∙ none.1))
+      counts
 
   -- ---- the turns before, over the context that the newest one left
 
@@ -181,12 +188,12 @@ module _ {C : Type 0} (c : Meaning ContextSetting C) where
   pub client_turned : (law : IsContext c) (first old new : ClientView C) (past : List Turn) (d : TsRequest) (out : Outcome) →
       ClientFollows c first old past → ClientTurn c old d out new → ClientRan c first new (client_turn c d out new ∷ past)
   client_turned law first old new past d out follows turn =
-      let unused = starts_unused first old past follows in
       let t : Turn = client_turn c d out new in
+      let counted = counts_on first old past new.acts new.context follows turn.moves.counts in
       let made : sealings_in c new.context ≡ made_in past + sealings_by new.acts =
-      turn.moves.sealings unused ∙ ap (λ (n : ℕ). n + sealings_by new.acts) follows.ran.made in
+      counted.0 ∙ ap (λ (n : ℕ). n + sealings_by new.acts) follows.ran.made in
       let opened : unsealings_in c new.context ≡ opened_in past + unsealings_by new.acts =
-      turn.moves.unsealings unused ∙ ap (λ (n : ℕ). n + unsealings_by new.acts) follows.ran.opened in
+      counted.1 ∙ ap (λ (n : ℕ). n + unsealings_by new.acts) follows.ran.opened in
       let noted : noted_next c old d ≡ client_noted new.settings.least (t ∷ past) = noted_of first old new t past follows turn.moves.same in
       record {
         same = turn.moves.same ∙ follows.ran.same;
@@ -311,11 +318,11 @@ module _ {C : Type 0} (c : Meaning ContextSetting C) where
   pub client_underway : (law : IsContext c) (first old now : ClientView C) (past : List Turn) (d : TsRequest) →
       ClientFollows c first old past → IsUnderway c old d now → ClientRan c first now past
   client_underway law first old now past d follows way =
-      let unused = starts_unused first old past follows in
+      let counted = counts_on first old past no_acts now.context follows way.ready.unspent.counts in
       record {
         same = way.ready.same ∙ follows.ran.same;
-        made = way.ready.unspent.sealings unused ∙ follows.ran.made;
-        opened = way.ready.unspent.unsealings unused ∙ follows.ran.opened;
+        made = counted.0 ∙ add-zero _ ∙ follows.ran.made;
+        opened = counted.1 ∙ add-zero _ ∙ follows.ran.opened;
         each = each_over law (client_end old) (client_end now) past way.ready.same
             (touched_by (client_end old) old.state past (SameBut c old.context now.context) follows.state follows.ran.each follows.going
             way.ready.unspent.bare)

@@ -6,19 +6,21 @@ use Rattle.sspi_types.specs.declared.security_status.SecurityStatus.TheVariants 
 use Rattle.sspi_mech.specs.Context.{IsContext}
 use Rattle.sspi_mech.specs.Meaning.{Meaning}
 use Rattle.sspi_tsreq.specs.declared.request.TsRequest.{TsRequest}
+use Rattle.sspi_credssp.specs.declared.acts.Acts.{Acts}
 use Rattle.sspi_credssp.specs.declared.state.CredSspState.{CredSspState}
 use Rattle.sspi_credssp.specs.declared.state.CredSspState.TheVariants.{NegoToken, PubKeyInfo, AuthInfo, Final}
-use Rattle.sspi_credssp.specs.Acts.{sealings_by, unsealings_by, sealings_in, unsealings_in, SameBut}
+use Rattle.sspi_credssp.specs.Acts.{sealings_by, unsealings_by, sealings_in, unsealings_in, AddsActs, CountsEachAct, SameBut}
 use Rattle.sspi_credssp.specs.Context.{ContextSetting}
 use Rattle.sspi_credssp.specs.Noted.{noted_with}
 use Rattle.sspi_credssp.specs.Ends.{ServerSettings, ServerView, IsFreshServer}
-use Rattle.sspi_credssp.specs.ServerTurn.{ServerTurn, StartsUnused, server_frame, server_turn, after_reply}
+use Rattle.sspi_credssp.specs.ServerTurn.{ServerTurn, server_frame, server_turn, after_reply}
 use Rattle.sspi_credssp.specs.Turn.{IsOver, MayCheck, ShowsAnswer, ShowsNegoBack, ShowsServerActs, ShowsStateBack, server_shown}
 use Rattle.sspi_credssp.specs.Turn.{ServerFrame, UnlessRefused, FitsNoted, OnceNegotiated}
 use Rattle.sspi_delegate.specs.Turns.{made_in, opened_in, is_replied, is_finished, any_proved, any_finished, OthersUnrefused, IsUnrefused}
 use Rattle.sspi_delegate.specs.Turns.{NoneRefused}
 use Rattle.sspi_delegate.specs.EndRun.{ServerEnd, server_end, is_over, any_over, server_state, server_noted, server_frame_at}
 use Rattle.sspi_delegate.specs.EndRun.{EachServerTurn, ServerRan, ServerFollows}
+use Rattle.sspi_credssp.proofs.Counting.{counted_by}
 use Rattle.sspi_delegate.proofs.EndSteps.{none_ran, IsQuiet, AllQuiet, or_false, or_not, is_false, quiet_made, unused_in, same_but, Touched}
 use Rattle.sspi_delegate.proofs.EndSteps.{touched, untouched, unless_given, unless_map, made_by_proof, opened_by_check}
 use Rattle.sspi_delegate.proofs.ServerOver.{OnceRefused, server_over}
@@ -213,11 +215,15 @@ module _ {C : Type 0} (c : Meaning ContextSetting C) where
   touched_by e Final past Q is each went bare = touched Q past bare
 
   module _ {P : Type 0} where
-    starts_unused : (first old : ServerView C P) (past : List Turn) → ServerFollows c first old past → StartsUnused c old
-    starts_unused first old past follows nego =
+    -- nothing was sealed or opened in the authentication, so the acts come on top of what was counted
+    counts_on : (first old : ServerView C P) (past : List Turn) (acts : Acts) (now : Option C) → ServerFollows c first old past →
+        CountsEachAct c old.state old.context acts now → AddsActs c old.context acts now
+    counts_on first old past acts now follows counts = counted_by c old.state old.context acts now
+        (λ nego.
         let s = state_nego (any_finished past) (any_proved past) (any_over past) (sym follows.state ∙ nego) in
         let none = quiet_made past (all_quiet (server_end old) past follows.ran.each follows.unrefused s.0 s.1 s.2) in
-        unused_in c old.context (follows.ran.made ∙ none.0) (follows.ran.opened ∙ none.1)
+        unused_in c old.context (follows.ran.made ∙ none.0) (follows.ran.opened ∙ none.1))
+        counts
 
     -- ---- one more turn
 
@@ -231,12 +237,12 @@ module _ {C : Type 0} (c : Meaning ContextSetting C) where
     pub server_turned : (law : IsContext c) (first old new : ServerView C P) (past : List Turn) (d : TsRequest) (out : Outcome) →
         ServerFollows c first old past → ServerTurn c old d out new → ServerRan c first new (server_turn c d out new ∷ past)
     server_turned law first old new past d out follows turn =
-        let unused = starts_unused first old past follows in
         let t : Turn = server_turn c d out new in
+        let counted = counts_on first old past new.acts new.context follows turn.moves.counts in
         let made : sealings_in c new.context ≡ made_in past + sealings_by new.acts =
-        turn.moves.sealings unused ∙ ap (λ (n : ℕ). n + sealings_by new.acts) follows.ran.made in
+        counted.0 ∙ ap (λ (n : ℕ). n + sealings_by new.acts) follows.ran.made in
         let opened : unsealings_in c new.context ≡ opened_in past + unsealings_by new.acts =
-        turn.moves.unsealings unused ∙ ap (λ (n : ℕ). n + unsealings_by new.acts) follows.ran.opened in
+        counted.1 ∙ ap (λ (n : ℕ). n + unsealings_by new.acts) follows.ran.opened in
         let noted : noted_with old.settings.least old.noted d.version ≡ server_noted new.settings.least (t ∷ past) =
         noted_of first old new t past follows turn.moves.same in
         record {
