@@ -13,12 +13,13 @@ use Rattle.sspi_mech.specs.Meaning.{Meaning}
 use Rattle.sspi_credssp.specs.declared.public_key.EndpointType.TheVariants.{Server}
 use Rattle.sspi_credssp.specs.declared.state.CredSspState.{CredSspState}
 use Rattle.sspi_credssp.specs.declared.state.CredSspState.TheVariants.{NegoToken, AuthInfo}
-use Rattle.sspi_credssp.specs.Acts.{sealings_by, unsealings_by, sealings_in, unsealings_in, SealsIn, SameBut, cleared}
+use Rattle.sspi_credssp.specs.Acts.{sealings_by, unsealings_by, sealings_in, unsealings_in, AddsActs, CountsEachAct}
+use Rattle.sspi_credssp.specs.Acts.{SealsIn, SameBut, cleared}
 use Rattle.sspi_credssp.specs.Context.{BeginCause, ContextSetting, ForClient, MadeOr}
 use Rattle.sspi_credssp.specs.Ends.{ClientSettings, ClientView}
 use Rattle.sspi_credssp.specs.ClientCause.{ClientCause, StateCause, DeliverCause, BlobOpens, SealsCause}
 use Rattle.sspi_credssp.specs.Noted.{OrMemory}
-use Rattle.sspi_credssp.specs.ClientTurn.{StartsUnused, client_frame, client_turn}
+use Rattle.sspi_credssp.specs.ClientTurn.{client_frame, client_turn}
 use Rattle.sspi_credssp.specs.Turn.{ClientFrame, OnceNegotiated, ShowsNego, client_shown}
 use Rattle.sspi_credssp.specs.Exchange.{delegated_text, IfText, BlobStops, opens_other, altered, unsealed, CheckedCause, ProofCause}
 use Rattle.sspi_credssp.specs.Exchange.{prescribed}
@@ -27,6 +28,7 @@ use Rattle.sspi_credssp.specs.declared.turn.Outcome.{Outcome}
 use Rattle.sspi_credssp.specs.declared.turn.Outcome.TheVariants as outcome
 use Rattle.sspi_delegate.specs.Chain.{KdcCalls}
 use Rattle.sspi_delegate.specs.History.{ClientMakes}
+use Rattle.sspi_credssp.proofs.Counting.{counted_by}
 use Rattle.sspi_completeness.proofs.Ends.{Comes, is_false, stops_later, made_past, sealed_few, Holds, IsMaker, IsTaker, holds_still}
 use Rattle.sspi_completeness.proofs.Ends.{sealed_field, ClientIs}
 use Rattle.sspi_completeness.proofs.Replies.{final_is}
@@ -67,8 +69,8 @@ module _ {C D : Type 0} (c : Meaning ContextSetting C) (k : KdcCalls D) where
         let nego = reply_nego (client_frame c old mid) (client_turn c d (outcome.Reply r) mid) mid.acts.status r makes.0.turn.shown.reply in
         let auth = given.is.state_is in cc
 
-    unused : StartsUnused c old
-    unused = λ nego. let auth = given.is.state_is in absurd cc
+    counts_on : (mid : View) → CountsEachAct c old.state old.context mid.acts mid.context → AddsActs c old.context mid.acts mid.context
+    counts_on mid = counted_by c old.state old.context mid.acts mid.context (λ nego. let auth = given.is.state_is in absurd cc)
 
     held_now : (mid : View) → OnceNegotiated old.state (SameBut c old.context mid.context) → Holds c mid.context y
     held_now mid bare = holds_still c old.context mid.context y (bare_at old.state _ given.is.state_is bare) given.holds
@@ -87,7 +89,7 @@ module _ {C D : Type 0} (c : Meaning ContextSetting C) (k : KdcCalls D) where
         let answered = turn.turn.shown.acts.answered (rw (turn.turn.shown.acts.proved was).0 refl) in
         let nego = turn.turn.shown.acts.negotiated answered in let auth = given.is.state_is in cc) in
         let one : sealings_by mid.acts ≡ 1 = rw (unproved, final.sealed) refl in
-        let sealed_now : sealings_in c mid.context ≡ 2 = turn.moves.sealings unused ∙ (rw (given.is.sealed_is, one) refl) in
+        let sealed_now : sealings_in c mid.context ≡ 2 = (counts_on mid turn.moves.counts).0 ∙ (rw (given.is.sealed_is, one) refl) in
         let seals = subst (λ (x : Result (List ℕ) Error). IfText x
         (λ text. SealsIn c mid.context (sealings_in c mid.context - 1) text r.auth_info))
         (texts_of mid turn.moves.same) turn.turn.held.reply in
@@ -152,8 +154,8 @@ module _ {C D : Type 0} (c : Meaning ContextSetting C) (k : KdcCalls D) where
         let at = subst (λ (p : List ℕ). ProofCause c mid.acts.checked holds.held blob p
         (SealsCause c holds.held (delegated_text mid.settings.credentials mid.settings.delegation) error.error_type)
         error.error_type) proof_is opens in
-        let sealed = turn.moves.sealings unused in
-        let opened = turn.moves.unsealings unused in
+        let sealed = (counts_on mid turn.moves.counts).0 in
+        let opened = (counts_on mid turn.moves.counts).1 in
         let sealed_before = given.is.sealed_is in
         let opened_before = given.is.unsealed_is in
         let sealed_here : sealings_in c mid.context ≡ (c.counts holds.held).sealings = ap (sealings_in c) holds.there in

@@ -18,12 +18,12 @@ use Rattle.sspi_mech.specs.Meaning.{Meaning}
 use Rattle.sspi_credssp.specs.declared.public_key.EndpointType.TheVariants.{Client}
 use Rattle.sspi_credssp.specs.declared.state.CredSspState.{CredSspState}
 use Rattle.sspi_credssp.specs.declared.state.CredSspState.TheVariants.{NegoToken, AuthInfo}
-use Rattle.sspi_credssp.specs.Acts.{sealings_by, unsealings_by, sealings_in, SealsIn, is_waiting_in, cleared}
+use Rattle.sspi_credssp.specs.Acts.{sealings_by, unsealings_by, sealings_in, SealsIn, is_waiting_in, cleared, AddsActs, CountsEachAct}
 use Rattle.sspi_credssp.specs.Context.{BeginCause, ContextSetting, ForClient, MadeOr}
 use Rattle.sspi_credssp.specs.Ends.{ClientSettings, ClientView}
 use Rattle.sspi_credssp.specs.ClientCause.{ClientCause, StateCause, NegoCause, ProveCause}
 use Rattle.sspi_credssp.specs.ClientTurn.{Asked, Walked, stepped, resumed, still_asked, recounted, StepsTo, DoneStep, OnStep}
-use Rattle.sspi_credssp.specs.ClientTurn.{refused_answer, client_args, ClientTurn, StartsUnused, client_frame, client_turn, noted_next}
+use Rattle.sspi_credssp.specs.ClientTurn.{refused_answer, client_args, ClientTurn, client_frame, client_turn, noted_next}
 use Rattle.sspi_credssp.specs.Noted.{noted_in, OrMemory}
 use Rattle.sspi_credssp.specs.Exchange.{prescribed}
 use Rattle.sspi_credssp.specs.Requests.{is_code, unless_empty}
@@ -33,6 +33,7 @@ use Rattle.sspi_credssp.specs.declared.turn.Outcome.{Outcome}
 use Rattle.sspi_credssp.specs.declared.turn.Outcome.TheVariants as outcome
 use Rattle.sspi_delegate.specs.Chain.{KdcCalls}
 use Rattle.sspi_delegate.specs.History.{ClientMakes}
+use Rattle.sspi_credssp.proofs.Counting.{counted_by}
 use Rattle.sspi_completeness.proofs.Ends.{Comes, in_context, is_false, stops_later, made_past, sealed_few, noted_at, Holds, IsMaker}
 use Rattle.sspi_completeness.proofs.Ends.{sealed_field, unused_in, ClientIs, takes_later, takes_noted}
 use Rattle.sspi_completeness.proofs.Replies.{proof_is, token_is}
@@ -93,8 +94,9 @@ module _ {C : Type 0} (c : Meaning ContextSetting C) (laws : IsContext c) where
 
     module _ (a old : View) (w : ℕ) (first : Bool) (kdc : D) (d : TsRequest) (step : Step) (y : C) (handle : Option CredentialsBuffers)
         (After : D → Type 0) (given : NegoGiven a old w first kdc d step y handle After) where
-      unused : StartsUnused c old
-      unused = λ nego. unused_in c old.context given.is.sealed_is given.is.unsealed_is
+      counts_on : (mid : View) → CountsEachAct c old.state old.context mid.acts mid.context → AddsActs c old.context mid.acts mid.context
+      counts_on mid = counted_by c old.state old.context mid.acts mid.context
+          (λ nego. unused_in c old.context given.is.sealed_is given.is.unsealed_is)
 
       walked_at : (mid : View) (kdc2 : D) (st : SecurityStatus) (log : List Asked) → k.replies kdc log kdc2 →
           StepsTo c old d 0 log (Done (record { status = st; output = mid.output })) mid → (st ≡ step.status) ×
@@ -212,8 +214,8 @@ module _ {C : Type 0} (c : Meaning ContextSetting C) (laws : IsContext c) where
               fits = later.fits;
               young = later.young;
               notes = later.notes;
-              sealed_is = turn.moves.sealings unused ∙ (rw (given.is.sealed_is, none_sealed) refl);
-              unsealed_is = turn.moves.unsealings unused ∙ (rw (given.is.unsealed_is, none_opened) refl);
+              sealed_is = (counts_on mid turn.moves.counts).0 ∙ (rw (given.is.sealed_is, none_sealed) refl);
+              unsealed_is = (counts_on mid turn.moves.counts).1 ∙ (rw (given.is.unsealed_is, none_opened) refl);
             },
             s.1.holds,
             s.1.handle_is,
@@ -256,7 +258,7 @@ module _ {C : Type 0} (c : Meaning ContextSetting C) (laws : IsContext c) where
             let quiet = nego_acts frame t turn.turn.shown.acts given.is.state_is in
             let one : sealings_by mid.acts ≡ 1 = rw (proof.proved, quiet.1) refl in
             let none_opened : unsealings_by mid.acts ≡ 0 = rw (quiet.0, quiet.2) refl in
-            let sealed_now : sealings_in c mid.context ≡ 1 = turn.moves.sealings unused ∙ (rw (given.is.sealed_is, one) refl) in
+            let sealed_now : sealings_in c mid.context ≡ 1 = (counts_on mid turn.moves.counts).0 ∙ (rw (given.is.sealed_is, one) refl) in
             let noted : mid.noted ≡ Some w = noted_now mid turn.moves.noted_going ∙ ap (λ (x : Bool). noted_at x w) later in
             let more = takes_noted c mid s.1.holds.held w s.1.holds.there noted in
             let same = turn.moves.same ∙ given.is.same in
@@ -275,7 +277,7 @@ module _ {C : Type 0} (c : Meaning ContextSetting C) (laws : IsContext c) where
                 young = more.young;
                 notes = more.notes;
                 sealed_is = sealed_now;
-                unsealed_is = turn.moves.unsealings unused ∙ (rw (given.is.unsealed_is, none_opened) refl);
+                unsealed_is = (counts_on mid turn.moves.counts).1 ∙ (rw (given.is.unsealed_is, none_opened) refl);
               },
               s.1.holds,
               s.1.after,
@@ -297,7 +299,7 @@ module _ {C : Type 0} (c : Meaning ContextSetting C) (laws : IsContext c) where
             let x = refusal mid kdc2 kind makes others in
             let noted : mid.noted ≡ Some w =
             noted_now mid (x.turn.moves.noted ∙ (rw (given.is.idle, given.code) refl)) ∙ ap (λ (b : Bool). noted_at b w) later in
-            let sealed = x.turn.moves.sealings unused in
+            let sealed = (counts_on mid x.turn.moves.counts).0 in
             let before = given.is.sealed_is in
             let two = sealed_few mid.acts in
             let here : sealings_in c mid.context ≡ (c.counts x.left.holds.held).sealings = ap (sealings_in c) x.left.holds.there in

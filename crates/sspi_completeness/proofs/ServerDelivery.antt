@@ -14,11 +14,12 @@ use Rattle.sspi_credssp.specs.Exchange.{delegated_identity, OpensIdentity, opens
 use Rattle.sspi_credssp.specs.Proxy.{ProxyMeaning}
 use Rattle.sspi_credssp.specs.Ends.{ServerView}
 use Rattle.sspi_credssp.specs.ServerCause.{UnreadCause, unread, OpenedCause}
-use Rattle.sspi_credssp.specs.ServerTurn.{StartsUnused, HoldsIdentity, server_frame, server_turn}
+use Rattle.sspi_credssp.specs.ServerTurn.{HoldsIdentity, server_frame, server_turn}
 use Rattle.sspi_credssp.specs.Turn.{OnceNegotiated, MayCheck, ShowsStateBack, server_shown}
 use Rattle.sspi_credssp.specs.declared.turn.Outcome.{Outcome}
 use Rattle.sspi_credssp.specs.declared.turn.Outcome.TheVariants as outcome
 use Rattle.sspi_delegate.specs.History.{ServerMakes}
+use Rattle.sspi_credssp.proofs.Counting.{counted_by}
 use Rattle.sspi_completeness.proofs.Ends.{Ends, is_false, stops_later, Holds, IsTaker, holds_still, ServerIs}
 use Rattle.sspi_completeness.proofs.ServerTurns.{cause_past}
 
@@ -85,8 +86,8 @@ module _ {C P : Type 0} (c : Meaning ContextSetting C) (laws : IsContext c) (p :
         let later = stops_later _ InvalidToken error.error_type _ (given.taker.long 1 text) at_blob in
         let h = held_now mid turn.moves.bare in
         let at = subst (λ (o : Option C). OpenedCause c mid.acts.opened o (peers 1 text) error.error_type) h.there later in
-        let start : StartsUnused c old = λ nego. let auth = given.is.state_is in absurd cc in
-        let opened = turn.moves.unsealings start in
+        let opened = (counted_by c old.state old.context mid.acts mid.context (λ nego. let auth = given.is.state_is in absurd cc)
+        turn.moves.counts).1 in
         let before = given.is.unsealed_is in
         let here : unsealings_in c mid.context ≡ (c.counts h.held).unsealings = ap (unsealings_in c) h.there in
         let unchecked : mid.acts.checked ≡ false = is_false mid.acts.checked (λ was.

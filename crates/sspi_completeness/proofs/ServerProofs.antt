@@ -14,7 +14,8 @@ use Rattle.sspi_mech.specs.Meaning.{Meaning}
 use Rattle.sspi_credssp.specs.declared.public_key.EndpointType.TheVariants.{Client, Server}
 use Rattle.sspi_credssp.specs.declared.state.CredSspState.{CredSspState}
 use Rattle.sspi_credssp.specs.declared.state.CredSspState.TheVariants.{PubKeyInfo, AuthInfo}
-use Rattle.sspi_credssp.specs.Acts.{sealings_by, unsealings_by, sealings_in, unsealings_in, SealsIn, SameBut, cleared}
+use Rattle.sspi_credssp.specs.Acts.{sealings_by, unsealings_by, sealings_in, unsealings_in, AddsActs, CountsEachAct}
+use Rattle.sspi_credssp.specs.Acts.{SealsIn, SameBut, cleared}
 use Rattle.sspi_credssp.specs.Context.{IfContext, ContextSetting}
 use Rattle.sspi_credssp.specs.Exchange.{CheckedCause, ProofCause, opens_other, altered, unsealed, prescribed}
 use Rattle.sspi_credssp.specs.Requests.{nonce_of, IsLong}
@@ -22,7 +23,7 @@ use Rattle.sspi_credssp.specs.Proxy.{ProxyMeaning}
 use Rattle.sspi_credssp.specs.Ends.{ServerSettings, ServerView}
 use Rattle.sspi_credssp.specs.ServerCause.{IdentifyCause, OverCause, unknown, incomplete, known, AfterCause, ExchangeCause}
 use Rattle.sspi_credssp.specs.ServerCause.{BlobCause, lacks_nonce}
-use Rattle.sspi_credssp.specs.ServerTurn.{Unknown, Identified, Completed, StartsUnused, ServerTurn, after_status, server_frame, server_turn}
+use Rattle.sspi_credssp.specs.ServerTurn.{Unknown, Identified, Completed, ServerTurn, after_status, server_frame, server_turn}
 use Rattle.sspi_credssp.specs.Noted.{noted_with}
 use Rattle.sspi_credssp.specs.Turn.{IsOver, ShowsOver, ShowsProofBack, ShowsStateBack, server_shown, AtNoted, OnceNegotiated}
 use Rattle.sspi_credssp.specs.Turn.{HoldsProofBack}
@@ -30,11 +31,12 @@ use Rattle.sspi_mech.specs.Calls.{ToComplete, ToSeal}
 use Rattle.sspi_credssp.specs.declared.turn.Outcome.{Outcome}
 use Rattle.sspi_credssp.specs.declared.turn.Outcome.TheVariants as outcome
 use Rattle.sspi_delegate.specs.History.{ServerMakes}
+use Rattle.sspi_credssp.proofs.Counting.{counted_by}
 use Rattle.sspi_completeness.proofs.Accepting.{IsPeer, named_is, come_at}
 use Rattle.sspi_completeness.proofs.Ends.{Comes, is_false, stops_later, sealed_few, Holds, IsMaker, IsTaker, holds_still, sealed_field}
 use Rattle.sspi_completeness.proofs.Ends.{ServerIs}
 use Rattle.sspi_completeness.proofs.ServerTurns.{NegoGiven, nego_acts, server_now, cause_past, over_answer, over_cause}
-use Rattle.sspi_completeness.proofs.ServerTurns.{unused, noted_now, replies, over_left, never_finishes, refusal}
+use Rattle.sspi_completeness.proofs.ServerTurns.{counts_on, noted_now, replies, over_left, never_finishes, refusal}
 use Rattle.sspi_completeness.proofs.Replies.{proof_back_is, token_back_is}
 
 asks_proof : (st : SecurityStatus) → IsOver (Some st) → after_status (Some st) ≡ PubKeyInfo
@@ -116,8 +118,8 @@ module _ {C P : Type 0} (c : Meaning ContextSetting C) (laws : IsContext c) (p :
     -- ---- the proof alone
 
     module _ (is : ServerIs c b old w PubKeyInfo 0 0) (holds : Holds c old.context z) (version : d.version ≡ w) where
-      unstarted : StartsUnused c old
-      unstarted = λ nego. let at = is.state_is in absurd cc
+      counts_alone : (mid : View) → CountsEachAct c old.state old.context mid.acts mid.context → AddsActs c old.context mid.acts mid.context
+      counts_alone mid = counted_by c old.state old.context mid.acts mid.context (λ nego. let at = is.state_is in absurd cc)
 
       bare_at : (state : CredSspState) (Q : Type 0) → state ≡ PubKeyInfo → OnceNegotiated state Q → Q
       bare_at state Q at h = subst (λ (s : CredSspState). OnceNegotiated s Q) at h
@@ -142,12 +144,12 @@ module _ {C P : Type 0} (c : Meaning ContextSetting C) (laws : IsContext c) (p :
           let h = held_now mid turn.moves.bare in
           let one : sealings_by mid.acts ≡ 1 = rw (proof.proved, turn.turn.shown.acts.sealed) refl in
           let opened_one : unsealings_by mid.acts ≡ 1 = rw (proof.checked, unopened mid _ turn) refl in
-          let sealed_now : sealings_in c mid.context ≡ 1 = turn.moves.sealings unstarted ∙ (rw (is.sealed_is, one) refl) in
+          let sealed_now : sealings_in c mid.context ≡ 1 = (counts_alone mid turn.moves.counts).0 ∙ (rw (is.sealed_is, one) refl) in
           let noted = noted_at mid h.held h.there turn.moves.noted in
           let same = turn.moves.same ∙ is.same in (
             answered mid r proof (turn.turn.held.reply proof.proved) h noted same sealed_now,
             server_now c laws p b mid w AuthInfo 1 1 same (turn.moves.state ∙ (rw proof.proved refl)) noted sealed_now
-                (turn.moves.unsealings unstarted ∙ (rw (is.unsealed_is, opened_one) refl)),
+                ((counts_alone mid turn.moves.counts).1 ∙ (rw (is.unsealed_is, opened_one) refl)),
             h,
           )
 
@@ -159,8 +161,8 @@ module _ {C P : Type 0} (c : Meaning ContextSetting C) (laws : IsContext c) (p :
           let cause = cause_past c laws p b old mid w d PubKeyInfo 0 0 makes.0.error_type is version
           (λ none. absurd (cc (none, holds.there))) makes.3.cause others2 in
           let h = held_now mid turn.moves.bare in
-          let sealed = turn.moves.sealings unstarted in
-          let opened = turn.moves.unsealings unstarted in
+          let sealed = (counts_alone mid turn.moves.counts).0 in
+          let opened = (counts_alone mid turn.moves.counts).1 in
           let sealed_before = is.sealed_is in
           let opened_before = is.unsealed_is in
           let two = sealed_few mid.acts in
@@ -237,15 +239,15 @@ module _ {C P : Type 0} (c : Meaning ContextSetting C) (laws : IsContext c) (p :
           let proof : ShowsProofBack (server_shown frame) t r = over_shows mid r makes _ proof_given.proof in
           let left = replied mid r makes in
           let quiet = nego_acts c laws p frame t turn.turn.shown.acts given.is.state_is in
-          let start = unused c laws p b old w d step y handle given in
+          let counted = counts_on c laws p b old w d step y handle given mid turn.moves.counts in
           let one : sealings_by mid.acts ≡ 1 = rw (proof.proved, quiet.0) refl in
           let opened_one : unsealings_by mid.acts ≡ 1 = rw (proof.checked, quiet.1) refl in
-          let sealed_now : sealings_in c mid.context ≡ 1 = turn.moves.sealings start ∙ (rw (given.is.sealed_is, one) refl) in
+          let sealed_now : sealings_in c mid.context ≡ 1 = counted.0 ∙ (rw (given.is.sealed_is, one) refl) in
           let same = turn.moves.same ∙ given.is.same in (
             answered b old w d z own peers proof_given mid r proof
                 (turn.turn.held.reply proof.proved) left.0 left.2 same sealed_now,
             server_now c laws p b mid w AuthInfo 1 1 same (turn.moves.state ∙ (rw proof.proved refl)) left.2 sealed_now
-                (turn.moves.unsealings start ∙ (rw (given.is.unsealed_is, opened_one) refl)),
+                (counted.1 ∙ (rw (given.is.unsealed_is, opened_one) refl)),
             left.0,
           )
 
@@ -261,11 +263,11 @@ module _ {C P : Type 0} (c : Meaning ContextSetting C) (laws : IsContext c) (p :
       exchange_refused mid kind reply still calm makes others =
           let x = refusal c laws p b old w d step y handle given mid kind reply still calm makes others in
           let after = over_after mid kind still calm (over_cause c laws p step.status old d mid kind over x.cause) in
-          let start = unused c laws p b old w d step y handle given in
+          let counted = counts_on c laws p b old w d step y handle given mid x.turn.moves.counts in
           let quiet = nego_acts c laws p (server_frame c old mid)
           (server_turn c d (outcome.Refused kind reply) mid) x.turn.turn.shown.acts given.is.state_is in
-          let sealed = x.turn.moves.sealings start in
-          let opened = x.turn.moves.unsealings start in
+          let sealed = counted.0 in
+          let opened = counted.1 in
           let sealed_before = given.is.sealed_is in
           let opened_before = given.is.unsealed_is in
           let two = sealed_few mid.acts in
@@ -297,7 +299,7 @@ module _ {C P : Type 0} (c : Meaning ContextSetting C) (laws : IsContext c) (p :
           let token = over_shows mid r makes None absent in
           let left = replied mid r makes in
           let quiet = nego_acts c laws p frame t turn.turn.shown.acts given.is.state_is in
-          let start = unused c laws p b old w d step y handle given in
+          let counted = counts_on c laws p b old w d step y handle given mid turn.moves.counts in
           let unchecked : mid.acts.checked ≡ false = is_false mid.acts.checked
           (λ was. subst IsLong absent (turn.turn.shown.acts.checked was).1) in
           let none_sealed : sealings_by mid.acts ≡ 0 = rw (token.0.unproved, quiet.0) refl in
@@ -306,8 +308,8 @@ module _ {C P : Type 0} (c : Meaning ContextSetting C) (laws : IsContext c) (p :
             token_back_is frame t r token.0 ∙ (rw (same, left.1) refl),
             server_now c laws p b mid w PubKeyInfo 0 0 same
                 (turn.moves.state ∙ (rw (given.is.state_is, token.0.unproved, s.status_is) (asks_proof step.status over))) left.2
-                (turn.moves.sealings start ∙ (rw (given.is.sealed_is, none_sealed) refl))
-                (turn.moves.unsealings start ∙ (rw (given.is.unsealed_is, none_opened) refl)),
+                (counted.0 ∙ (rw (given.is.sealed_is, none_sealed) refl))
+                (counted.1 ∙ (rw (given.is.unsealed_is, none_opened) refl)),
             left.0,
           )
 

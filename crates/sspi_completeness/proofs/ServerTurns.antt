@@ -12,18 +12,19 @@ use Rattle.sspi_mech.specs.Context.{IsContext}
 use Rattle.sspi_mech.specs.Meaning.{Meaning}
 use Rattle.sspi_credssp.specs.declared.state.CredSspState.{CredSspState}
 use Rattle.sspi_credssp.specs.declared.state.CredSspState.TheVariants.{NegoToken}
-use Rattle.sspi_credssp.specs.Acts.{sealings_by, unsealings_by, sealings_in, unsealings_in}
+use Rattle.sspi_credssp.specs.Acts.{sealings_by, unsealings_by, sealings_in, unsealings_in, AddsActs, CountsEachAct}
 use Rattle.sspi_credssp.specs.Context.{ContextSetting}
 use Rattle.sspi_credssp.specs.Proxy.{ProxyMeaning}
 use Rattle.sspi_credssp.specs.Ends.{ServerSettings, ServerView}
 use Rattle.sspi_credssp.specs.ServerCause.{ServerCause, MakeCause, StateCause, NegoCause, OverCause}
-use Rattle.sspi_credssp.specs.ServerTurn.{Knowing, Unknown, Completed, DoneStep, HasCome, known_at, ServerTurn, StartsUnused, server_frame}
+use Rattle.sspi_credssp.specs.ServerTurn.{Knowing, Unknown, Completed, DoneStep, HasCome, known_at, ServerTurn, server_frame}
 use Rattle.sspi_credssp.specs.ServerTurn.{server_turn}
 use Rattle.sspi_credssp.specs.Turn.{IsOver, MayCheck, ShowsNegoBack, ShowsOver, ShowsServerActs, ShowsStateBack, server_shown, ServerFrame}
 use Rattle.sspi_credssp.specs.Noted.{noted_with, OrMemory}
 use Rattle.sspi_credssp.specs.declared.turn.Outcome.{Outcome}
 use Rattle.sspi_credssp.specs.declared.turn.Outcome.TheVariants as outcome
 use Rattle.sspi_delegate.specs.History.{ServerMakes}
+use Rattle.sspi_credssp.proofs.Counting.{counted_by}
 use Rattle.sspi_completeness.proofs.Accepting.{Takes, Left, come_at, refused_at}
 use Rattle.sspi_completeness.proofs.Ends.{Comes, is_false, stops_later, made_past, differs_never, Holds, unused_in, ServerIs}
 use Rattle.sspi_completeness.proofs.Replies.{token_back_is}
@@ -114,8 +115,9 @@ module _ {C P : Type 0} (c : Meaning ContextSetting C) (laws : IsContext c) (p :
     abbrev pub Leaves : View → Knowing → Type 0
     Leaves = Left c laws p old d.nego_tokens step y handle given.takes
 
-    pub unused : StartsUnused c old
-    unused = λ nego. unused_in c old.context given.is.sealed_is given.is.unsealed_is
+    pub counts_on : (mid : View) → CountsEachAct c old.state old.context mid.acts mid.context → AddsActs c old.context mid.acts mid.context
+    counts_on mid = counted_by c old.state old.context mid.acts mid.context
+        (λ nego. unused_in c old.context given.is.sealed_is given.is.unsealed_is)
 
     pub noted_now : (mid : View) (m : C) → mid.context ≡ Some m →
         (IsSome mid.context → mid.noted ≡ noted_with old.settings.least old.noted d.version) → mid.noted ≡ Some w
@@ -206,8 +208,8 @@ module _ {C P : Type 0} (c : Meaning ContextSetting C) (laws : IsContext c) (p :
               (rw (same, left.output_is) refl),
           server_now b mid w NegoToken 0 0 same (turn.moves.state ∙ (rw (given.is.state_is, unproved, status) refl))
               (noted_now mid left.held left.there turn.moves.noted)
-              (turn.moves.sealings unused ∙ (rw (given.is.sealed_is, none_sealed) refl))
-              (turn.moves.unsealings unused ∙ (rw (given.is.unsealed_is, none_opened) refl)),
+              ((counts_on mid turn.moves.counts).0 ∙ (rw (given.is.sealed_is, none_sealed) refl))
+              ((counts_on mid turn.moves.counts).1 ∙ (rw (given.is.unsealed_is, none_opened) refl)),
           record { held = left.held; there = left.there; same = left.comes },
           left.handle_is,
         )
