@@ -14,7 +14,7 @@ use Rattle.sspi_negotiate.specs.declared.protocol.NegotiatedProtocol.{Negotiated
 use Rattle.sspi_negotiate.specs.declared.state.NegotiateState.TheVariants as states
 use Rattle.sspi_negotiate.specs.Choices.{chosen_at, excuses_guest}
 use Rattle.sspi_negotiate.specs.Client.{spnego_client, spnego_resumed}
-use Rattle.sspi_negotiate.specs.Does.{Does, Stays, StaysNeeded, StaysPicked, StaysResumed, StaysUnmarked, StaysUnused, told}
+use Rattle.sspi_negotiate.specs.Does.{Does, Stays, StaysNeeded, StaysPicked, StaysResumed, StaysUnmarked, StaysSilent, told}
 use Rattle.sspi_negotiate.specs.Hand.{asks_left, hand_of}
 use Rattle.sspi_negotiate.specs.Holding.{MayHold, MayKeep, user_of, user_url}
 use Rattle.sspi_negotiate.specs.Keeps.{is_answering, is_opening}
@@ -42,7 +42,7 @@ addressed false is ntlm h = absurd (false≢true h)
 module _ {N K : Type 0} (n : Meaning Setting N) (k : Meaning Setting K) (s : Negotiation (NegotiatedProtocol N K)) where
   pub accept_moves : (args : AcceptArgs) (result : Result Step Error) (s2 : Negotiation (NegotiatedProtocol N K)) →
       Does n k (spnego_server (values_of s) args) s (told result) s2 → OnErr result (Stays (values_of s) (values_of s2)) →
-      OnErr result (s2.need ≡ s.need) → StaysUnused n k s s2 → (s.state ≡ states.Initial → StaysUnmarked n k s s2) →
+      OnErr result (s2.need ≡ s.need) → StaysSilent n k s s2 → (s.state ≡ states.Initial → StaysUnmarked n k s s2) →
       (s.state ≢ states.Initial → StaysPicked (values_of s) (values_of s2)) → ServerMoves n k s args result s2
   accept_moves args result s2 follows stays need unused unmarked picked = record {
     moves = record { follows = follows; stays = told_stays _ result stays; unused = unused; unmarked = unmarked; protected = need };
@@ -51,7 +51,7 @@ module _ {N K : Type 0} (n : Meaning Setting N) (k : Meaning Setting K) (s : Neg
 
   pub client_moves : (args : StepArgs) (result : Result Progressing Error) (s2 : Negotiation (NegotiatedProtocol N K)) (ip : Bool) →
       (IsTrue ip ↔ IsNamedByIp args.target) → Does n k (spnego_client ip (values_of s) args) s (answer_of result) s2 →
-      OnErr result (Stays (values_of s) (values_of s2)) → StaysUnused n k s s2 →
+      OnErr result (Stays (values_of s) (values_of s2)) → StaysSilent n k s s2 →
       (s.state ≡ states.Initial → StaysUnmarked n k s s2) →
       (s.state ≢ states.Initial →
       StaysNeeded (excuses_guest (chosen_at s.state args.input) (values_of s) args) (values_of s) (values_of s2)) →
@@ -73,7 +73,7 @@ module _ {N K : Type 0} (n : Meaning Setting N) (k : Meaning Setting K) (s : Neg
 
   pub resume_moves : (reply : Reply) (result : Result Progressing Error) (s2 : Negotiation (NegotiatedProtocol N K)) →
       Does n k (spnego_resumed (values_of s) reply) s (answer_of result) s2 → OnErr result (Stays (values_of s) (values_of s2)) →
-      StaysUnused n k s s2 → (is_answering s.branch ≡ false → StaysUnmarked n k s s2) → s2.need ≡ s.need →
+      StaysSilent n k s s2 → (is_answering s.branch ≡ false → StaysUnmarked n k s s2) → s2.need ≡ s.need →
       (is_opening s.branch ≡ false → StaysPicked (values_of s) (values_of s2)) →
       Moves n k (is_answering s.branch ≡ false) (StaysResumed (values_of s) (values_of s2)) (spnego_resumed (values_of s) reply) s
       (answer_of result) s2

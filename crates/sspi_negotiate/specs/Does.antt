@@ -37,8 +37,8 @@ module _ {N K : Type 0} (n : Meaning Setting N) (k : Meaning Setting K) where
   Does p old r new = Meets (hand n k) p old.mech r (values_of new) new.mech
 
   -- what was sealed and opened is as before, or nothing was, by a mechanism that was just taken
-  abbrev pub StaysUnused : Negotiation (NegotiatedProtocol N K) → Negotiation (NegotiatedProtocol N K) → Type 0
-  StaysUnused old new = NeitherSealsNorOpens ((hand n k).counts old.mech) ((hand n k).counts new.mech)
+  abbrev pub StaysSilent : Negotiation (NegotiatedProtocol N K) → Negotiation (NegotiatedProtocol N K) → Type 0
+  StaysSilent old new = NeitherSealsNorOpens ((hand n k).counts old.mech) ((hand n k).counts new.mech)
 
   -- where no MIC was made or verified, none is
   abbrev pub StaysUnmarked : Negotiation (NegotiatedProtocol N K) → Negotiation (NegotiatedProtocol N K) → Type 0

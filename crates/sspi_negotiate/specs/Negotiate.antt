@@ -14,7 +14,7 @@ use Rattle.sspi_negotiate.specs.declared.state.NegotiateState.TheVariants.{Initi
 use Rattle.sspi_negotiate.specs.Acquire.{Acquires, RefusesToAcquire}
 use Rattle.sspi_negotiate.specs.Choices.{chosen_at, excuses_guest}
 use Rattle.sspi_negotiate.specs.Client.{spnego_client, spnego_resumed}
-use Rattle.sspi_negotiate.specs.Does.{Does, Stays, StaysNeeded, StaysPicked, StaysResumed, StaysUnmarked, StaysUnused, told}
+use Rattle.sspi_negotiate.specs.Does.{Does, Stays, StaysNeeded, StaysPicked, StaysResumed, StaysUnmarked, StaysSilent, told}
 use Rattle.sspi_negotiate.specs.Hand.{hand, asks_left}
 use Rattle.sspi_negotiate.specs.Holding.{StaysHeld}
 use Rattle.sspi_negotiate.specs.Keeps.{is_answering}
@@ -30,7 +30,7 @@ pub record Moves {N K : Type 0} (n : Meaning Setting N) (k : Meaning Setting K) 
     (s : Negotiation (NegotiatedProtocol N K)) (r : Answer) (s2 : Negotiation (NegotiatedProtocol N K)) : Type 0 where
   pub follows : Does n k p s r s2
   pub stays : OnRefused r (Stays (values_of s) (values_of s2))
-  pub unused : StaysUnused n k s s2
+  pub unused : StaysSilent n k s s2
   pub unmarked : IsFirstStep → StaysUnmarked n k s s2
   pub protected : Protected
 

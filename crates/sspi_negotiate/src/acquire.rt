@@ -4,7 +4,7 @@ ghost use Rattle.sspi_names.specs.Identity.{credentials_buffers_of};
 ghost use Rattle.std.specs.Option.{unwrap_or};
 ghost use Rattle.sspi_mech.specs.Calls.{ToAcquire, IsUnused, no_counts};
 ghost use Rattle.sspi_negotiate.specs.Acquire.{is_outbound, lacks, acquired_url, Acquires, RefusesToAcquire};
-ghost use Rattle.sspi_negotiate.specs.Does.{StaysUnused};
+ghost use Rattle.sspi_negotiate.specs.Does.{StaysSilent};
 ghost use Rattle.sspi_negotiate.specs.Hand.{hand, hand_of};
 ghost use Rattle.sspi_negotiate.specs.Rule.{TakenBy};
 ghost use Rattle.sspi_negotiate.specs.Values.{values_of};
@@ -72,7 +72,7 @@ impl<N: Mechanism, K: Mechanism> Negotiate<N, K> {
             Acquires N.meaning K.meaning self.old credential_use (option_copied auth_data.entry) buffers self.new) }
         ensures err { OnErr result (self.new ≡ self.old) }
         // What holds of every answer.
-        ensures unused { StaysUnused N.meaning K.meaning self.old self.new }
+        ensures unused { StaysSilent N.meaning K.meaning self.old self.new }
         // What a refusal says.
         ensures codeless { IfErr result (λ error. error.nstatus ≡ None) }
         ensures cause { IfErr result (λ error. error.error_type ≢ ErrorKind.InsufficientMemory →
@@ -127,7 +127,7 @@ impl<N: Mechanism, K: Mechanism> Negotiate<N, K> {
         ensures kept { OnOk result (self.new ≡ record self.old { kept = kept; mech = self.new.mech }) }
         ensures err { OnErr result (self.new ≡ self.old) }
         // What holds of every answer.
-        ensures unused { IsUnused ((hand N.meaning K.meaning).counts mechanism) → StaysUnused N.meaning K.meaning self.old self.new }
+        ensures unused { IsUnused ((hand N.meaning K.meaning).counts mechanism) → StaysSilent N.meaning K.meaning self.old self.new }
         // What a refusal says.
         ensures cause { IfErr result (λ error. error.error_type ≢ ErrorKind.InsufficientMemory →
             (hand N.meaning K.meaning).refuses mechanism (ToAcquire credential_use (option_copied auth_data.entry)) error.error_type) }
@@ -151,7 +151,7 @@ impl<N: Mechanism, K: Mechanism> Negotiate<N, K> {
         ensures kept { OnOk result (self.new ≡ record self.old { kept = kept; mech = self.new.mech }) }
         ensures err { OnErr result (self.new ≡ self.old) }
         // What holds of every answer.
-        ensures unused { StaysUnused N.meaning K.meaning self.old self.new }
+        ensures unused { StaysSilent N.meaning K.meaning self.old self.new }
         // What a refusal says.
         ensures cause { IfErr result (λ error. error.error_type ≢ ErrorKind.InsufficientMemory →
             (hand N.meaning K.meaning).refuses self.old.mech (ToAcquire credential_use (option_copied auth_data.entry)) error.error_type) }

@@ -13,7 +13,7 @@ ghost use Rattle.sspi_negotiate.specs.Choices.{protocol_of, chosen_in, excuses_g
 ghost use Rattle.sspi_negotiate.specs.Client.{at_progress, chosen, chooses_kerberos, chooses_ntlm, in_kerberos, answers, without_ntlm};
 ghost use Rattle.sspi_negotiate.specs.Client.{stepped, settles, verified, at_verify_mic, confirmed};
 ghost use Rattle.sspi_negotiate.specs.Client.{last_mic, handle_for, resumes_answering, spnego_resumed};
-ghost use Rattle.sspi_negotiate.specs.Does.{Does, Stays, StaysNeeded, StaysPicked, StaysUnmarked, StaysUnused, told};
+ghost use Rattle.sspi_negotiate.specs.Does.{Does, Stays, StaysNeeded, StaysPicked, StaysUnmarked, StaysSilent, told};
 ghost use Rattle.sspi_negotiate.specs.Hand.{hand, hand_of};
 ghost use Rattle.sspi_negotiate.specs.Holding.{MayHold};
 ghost use Rattle.sspi_negotiate.specs.Keeps.{is_answering, is_opening};
@@ -84,7 +84,7 @@ impl<N: Mechanism, K: Mechanism> Negotiate<N, K> {
         ensures step { Does N.meaning K.meaning (at_progress (targ_of args.now.input.now) (values_of self.old) (step_args args.now))
             self.old (answer_of (answered result)) self.new }
         ensures stays { OnErr result (Stays (values_of self.old) (values_of self.new)) }
-        ensures unused { StaysUnused N.meaning K.meaning self.old self.new }
+        ensures unused { StaysSilent N.meaning K.meaning self.old self.new }
         ensures need { let v = values_of self.old in
             StaysNeeded (excuses_guest (chosen_in args.now.input.now) v (step_args args.now)) v (values_of self.new) }
         ensures hand { MayHold ⊥ None (chosen_in args.now.input.now) (hand_of self.old.mech) (hand_of self.new.mech) }
@@ -103,7 +103,7 @@ impl<N: Mechanism, K: Mechanism> Negotiate<N, K> {
             (chosen (option_map kind_of token.supported_mech) token (values_of self.old) (step_args args.now))
             self.old (answer_of (answered result)) self.new }
         ensures stays { OnErr result (Stays (values_of self.old) (values_of self.new)) }
-        ensures unused { StaysUnused N.meaning K.meaning self.old self.new }
+        ensures unused { StaysSilent N.meaning K.meaning self.old self.new }
         ensures need { let v = values_of self.old in StaysNeeded
             (excuses_guest (option_and_then protocol_of (option_map kind_of token.supported_mech)) v (step_args args.now))
             v (values_of self.new) }
@@ -129,7 +129,7 @@ impl<N: Mechanism, K: Mechanism> Negotiate<N, K> {
         ensures step { Does N.meaning K.meaning (chooses_kerberos token (values_of self.old) (step_args args.now))
             self.old (answer_of (answered result)) self.new }
         ensures stays { OnErr result (Stays (values_of self.old) (values_of self.new)) }
-        ensures unused { StaysUnused N.meaning K.meaning self.old self.new }
+        ensures unused { StaysSilent N.meaning K.meaning self.old self.new }
         ensures need { StaysNeeded false (values_of self.old) (values_of self.new) }
         ensures hand { MayHold ⊥ None (Some protocols.Kerberos) (hand_of self.old.mech) (hand_of self.new.mech) }
         ensures kept { self.new.kept ≡ self.old.kept }
@@ -150,7 +150,7 @@ impl<N: Mechanism, K: Mechanism> Negotiate<N, K> {
             (in_kerberos (hand_of self.old.mech) token (without_ntlm (values_of self.old)) (step_args args.now))
             self.old (answer_of (answered result)) self.new }
         ensures stays { self.old.packages.kerberos ≡ true → OnErr result (Stays (values_of self.old) (values_of self.new)) }
-        ensures unused { StaysUnused N.meaning K.meaning self.old self.new }
+        ensures unused { StaysSilent N.meaning K.meaning self.old self.new }
         ensures need { StaysNeeded false (values_of self.old) (values_of self.new) }
         ensures hand { MayHold ⊥ None (Some protocols.Kerberos) (hand_of self.old.mech) (hand_of self.new.mech) }
         ensures kept { self.new.kept ≡ self.old.kept }
@@ -171,7 +171,7 @@ impl<N: Mechanism, K: Mechanism> Negotiate<N, K> {
             (in_kerberos protocols.Ntlm token (without_ntlm (values_of self.old)) (step_args args.now))
             self.old (answer_of (answered result)) self.new }
         ensures stays { self.old.packages.kerberos ≡ true → OnErr result (Stays (values_of self.old) (values_of self.new)) }
-        ensures unused { StaysUnused N.meaning K.meaning self.old self.new }
+        ensures unused { StaysSilent N.meaning K.meaning self.old self.new }
         ensures need { StaysNeeded false (values_of self.old) (values_of self.new) }
         ensures hand { MayHold ⊥ None (Some protocols.Kerberos) (hand_of self.old.mech) (hand_of self.new.mech) }
         ensures kept { self.new.kept ≡ self.old.kept }
@@ -194,7 +194,7 @@ impl<N: Mechanism, K: Mechanism> Negotiate<N, K> {
         ensures step { Does N.meaning K.meaning (answers token (without_ntlm (values_of self.old)) (step_args args.now))
             self.old (answer_of (answered result)) self.new }
         ensures stays { hand_of self.old.mech ≡ protocols.Kerberos → OnErr result (Stays (values_of self.old) (values_of self.new)) }
-        ensures unused { StaysUnused N.meaning K.meaning self.old self.new }
+        ensures unused { StaysSilent N.meaning K.meaning self.old self.new }
         ensures need { StaysNeeded false (values_of self.old) (values_of self.new) }
         ensures picked { StaysPicked (values_of self.old) (values_of self.new) }
     {
@@ -211,7 +211,7 @@ impl<N: Mechanism, K: Mechanism> Negotiate<N, K> {
         ensures step { Does N.meaning K.meaning (chooses_ntlm token (values_of self.old) (step_args args.now))
             self.old (answer_of (answered result)) self.new }
         ensures stays { OnErr result (Stays (values_of self.old) (values_of self.new)) }
-        ensures unused { StaysUnused N.meaning K.meaning self.old self.new }
+        ensures unused { StaysSilent N.meaning K.meaning self.old self.new }
         ensures need { let v = values_of self.old in
             StaysNeeded (excuses_guest (Some protocols.Ntlm) v (step_args args.now)) v (values_of self.new) }
         ensures hand { MayHold ⊥ None (Some protocols.Ntlm) (hand_of self.old.mech) (hand_of self.new.mech) }
@@ -239,7 +239,7 @@ impl<N: Mechanism, K: Mechanism> Negotiate<N, K> {
             }) (step_args args.now)))
             self.old (answer_of (answered result)) self.new }
         ensures stays { self.old.packages.ntlm ≡ true → OnErr result (Stays (values_of self.old) (values_of self.new)) }
-        ensures unused { StaysUnused N.meaning K.meaning self.old self.new }
+        ensures unused { StaysSilent N.meaning K.meaning self.old self.new }
         ensures need { StaysNeeded guest (values_of self.old) (values_of self.new) }
         ensures hand { MayHold ⊥ None (Some protocols.Ntlm) (hand_of self.old.mech) (hand_of self.new.mech) }
         ensures kept { self.new.kept ≡ self.old.kept }
@@ -261,7 +261,7 @@ impl<N: Mechanism, K: Mechanism> Negotiate<N, K> {
             }) (step_args args.now))
             self.old (answer_of (answered result)) self.new }
         ensures stays { hand_of self.old.mech ≡ protocols.Ntlm → OnErr result (Stays (values_of self.old) (values_of self.new)) }
-        ensures unused { StaysUnused N.meaning K.meaning self.old self.new }
+        ensures unused { StaysSilent N.meaning K.meaning self.old self.new }
         ensures need { StaysNeeded guest (values_of self.old) (values_of self.new) }
         ensures picked { StaysPicked (values_of self.old) (values_of self.new) }
     {
@@ -279,7 +279,7 @@ impl<N: Mechanism, K: Mechanism> Negotiate<N, K> {
         ensures step { Does N.meaning K.meaning (answers token (values_of self.old) (step_args args.now))
             self.old (answer_of (answered result)) self.new }
         ensures stays { OnErr result (Stays (values_of self.old) (values_of self.new)) }
-        ensures unused { StaysUnused N.meaning K.meaning self.old self.new }
+        ensures unused { StaysSilent N.meaning K.meaning self.old self.new }
         ensures need { self.new.need ≡ self.old.need }
         ensures picked { StaysPicked (values_of self.old) (values_of self.new) }
     {
@@ -297,7 +297,7 @@ impl<N: Mechanism, K: Mechanism> Negotiate<N, K> {
     fn conclude(&mut self, token: NegTokenTarg, step: Step) -> Result<Step, Refusal>
         ensures step { Does N.meaning K.meaning (stepped token (values_of self.old) step) self.old (told (answered result)) self.new }
         ensures stays { OnErr result (Stays (values_of self.old) (values_of self.new)) }
-        ensures unused { StaysUnused N.meaning K.meaning self.old self.new }
+        ensures unused { StaysSilent N.meaning K.meaning self.old self.new }
         ensures need { self.new.need ≡ self.old.need }
         ensures picked { StaysPicked (values_of self.old) (values_of self.new) }
     {
@@ -319,7 +319,7 @@ impl<N: Mechanism, K: Mechanism> Negotiate<N, K> {
         ensures step { Does N.meaning K.meaning (settles need mic complete (values_of self.old) token) self.old
             (told (answered result)) self.new }
         ensures stays { OnErr result (Stays (values_of self.old) (values_of self.new)) }
-        ensures unused { StaysUnused N.meaning K.meaning self.old self.new }
+        ensures unused { StaysSilent N.meaning K.meaning self.old self.new }
         ensures need { self.new.need ≡ self.old.need }
         ensures picked { StaysPicked (values_of self.old) (values_of self.new) }
     {
@@ -339,7 +339,7 @@ impl<N: Mechanism, K: Mechanism> Negotiate<N, K> {
         ensures step { Does N.meaning K.meaning (verifies mic.now (values_of self.old) (verified complete (values_of self.old) token))
             self.old (told (answered result)) self.new }
         ensures stays { OnErr result (Stays (values_of self.old) (values_of self.new)) }
-        ensures unused { StaysUnused N.meaning K.meaning self.old self.new }
+        ensures unused { StaysSilent N.meaning K.meaning self.old self.new }
         ensures need { self.new.need ≡ self.old.need }
         ensures picked { StaysPicked (values_of self.old) (values_of self.new) }
     {
@@ -350,7 +350,7 @@ impl<N: Mechanism, K: Mechanism> Negotiate<N, K> {
     fn end_verified(&mut self, complete: bool, token: Bytes) -> Result<Step, Refusal>
         ensures step { Does N.meaning K.meaning (verified complete (values_of self.old) token) self.old (told (answered result)) self.new }
         ensures stays { OnErr result (Stays (values_of self.old) (values_of self.new)) }
-        ensures unused { StaysUnused N.meaning K.meaning self.old self.new }
+        ensures unused { StaysSilent N.meaning K.meaning self.old self.new }
         ensures need { self.new.need ≡ self.old.need }
         ensures picked { StaysPicked (values_of self.old) (values_of self.new) }
     {
@@ -368,7 +368,7 @@ impl<N: Mechanism, K: Mechanism> Negotiate<N, K> {
         ensures step { Does N.meaning K.meaning (at_verify_mic (targ_of args.now.input.now) (values_of self.old))
             self.old (answer_of (answered result)) self.new }
         ensures stays { OnErr result (Stays (values_of self.old) (values_of self.new)) }
-        ensures unused { StaysUnused N.meaning K.meaning self.old self.new }
+        ensures unused { StaysSilent N.meaning K.meaning self.old self.new }
         ensures need { self.new.need ≡ self.old.need }
         ensures picked { StaysPicked (values_of self.old) (values_of self.new) }
     {
@@ -379,7 +379,7 @@ impl<N: Mechanism, K: Mechanism> Negotiate<N, K> {
     fn confirm_by(&mut self, token: NegTokenTarg) -> Result<Step, Refusal>
         ensures step { Does N.meaning K.meaning (confirmed token (values_of self.old)) self.old (told (answered result)) self.new }
         ensures stays { OnErr result (Stays (values_of self.old) (values_of self.new)) }
-        ensures unused { StaysUnused N.meaning K.meaning self.old self.new }
+        ensures unused { StaysSilent N.meaning K.meaning self.old self.new }
         ensures need { self.new.need ≡ self.old.need }
         ensures picked { StaysPicked (values_of self.old) (values_of self.new) }
     {
@@ -393,7 +393,7 @@ impl<N: Mechanism, K: Mechanism> Negotiate<N, K> {
     fn confirm_mic(&mut self, mic: Option<Bytes>) -> Result<Step, Refusal>
         ensures step { Does N.meaning K.meaning (last_mic mic (values_of self.old)) self.old (told (answered result)) self.new }
         ensures stays { OnErr result (Stays (values_of self.old) (values_of self.new)) }
-        ensures unused { StaysUnused N.meaning K.meaning self.old self.new }
+        ensures unused { StaysSilent N.meaning K.meaning self.old self.new }
         ensures need { self.new.need ≡ self.old.need }
         ensures picked { StaysPicked (values_of self.old) (values_of self.new) }
     {
@@ -412,7 +412,7 @@ impl<N: Mechanism, K: Mechanism> Negotiate<N, K> {
             (Goes (record (values_of self.old) { state = states.Ok }) (record { status = statuses.Ok; output = [] })))
             self.old (told (answered result)) self.new }
         ensures stays { OnErr result (Stays (values_of self.old) (values_of self.new)) }
-        ensures unused { StaysUnused N.meaning K.meaning self.old self.new }
+        ensures unused { StaysSilent N.meaning K.meaning self.old self.new }
         ensures need { self.new.need ≡ self.old.need }
         ensures picked { StaysPicked (values_of self.old) (values_of self.new) }
     {
@@ -438,7 +438,7 @@ impl<N: Mechanism, K: Mechanism> Negotiate<N, K> {
             (answer_of (answered result)) self.new }
         ensures stays { OnErr result (Stays (values_of self.old) (values_of self.new)) }
         // What every answer keeps.
-        ensures unused { StaysUnused N.meaning K.meaning self.old self.new }
+        ensures unused { StaysSilent N.meaning K.meaning self.old self.new }
         ensures first { is_answering self.old.branch ≡ false → StaysUnmarked N.meaning K.meaning self.old self.new }
         ensures need { self.new.need ≡ self.old.need }
         ensures picked { is_opening self.old.branch ≡ false → StaysPicked (values_of self.old) (values_of self.new) }
@@ -459,7 +459,7 @@ impl<N: Mechanism, K: Mechanism> Negotiate<N, K> {
         ensures step { Does N.meaning K.meaning (resumes_answering token (values_of self.old) reply.now)
             self.old (answer_of (answered result)) self.new }
         ensures stays { OnErr result (Stays (values_of self.old) (values_of self.new)) }
-        ensures unused { StaysUnused N.meaning K.meaning self.old self.new }
+        ensures unused { StaysSilent N.meaning K.meaning self.old self.new }
         ensures need { self.new.need ≡ self.old.need }
         ensures picked { StaysPicked (values_of self.old) (values_of self.new) }
     {

@@ -8,7 +8,7 @@ ghost use Rattle.sspi_mech.specs.Answered.{answered};
 ghost use Rattle.sspi_negotiate.specs.declared.protocol.Protocol.TheVariants as protocols;
 ghost use Rattle.sspi_negotiate.specs.Choices.{chosen_at, excuses_guest};
 ghost use Rattle.sspi_negotiate.specs.Client.{is_closed, spnego_client, by_target, with_handle, keeps, ruled, client_at};
-ghost use Rattle.sspi_negotiate.specs.Does.{Does, Stays, StaysNeeded, StaysUnmarked, StaysUnused};
+ghost use Rattle.sspi_negotiate.specs.Does.{Does, Stays, StaysNeeded, StaysUnmarked, StaysSilent};
 ghost use Rattle.sspi_negotiate.specs.Hand.{hand_of};
 ghost use Rattle.sspi_negotiate.specs.Holding.{MayHold, MayKeep, user_of, user_url};
 ghost use Rattle.sspi_negotiate.specs.Negotiate.{negotiate};
@@ -70,7 +70,7 @@ impl<N: Mechanism, K: Mechanism> Negotiate<N, K> {
             self.old (answer_of (answered result)) self.new }
         ensures stays { OnErr result (Stays (values_of self.old) (values_of self.new)) }
         // What every answer keeps.
-        ensures unused { StaysUnused N.meaning K.meaning self.old self.new }
+        ensures unused { StaysSilent N.meaning K.meaning self.old self.new }
         ensures first { self.old.state ≡ states.Initial → StaysUnmarked N.meaning K.meaning self.old self.new }
         ensures need { let v = values_of self.old in self.old.state ≢ states.Initial →
             StaysNeeded (excuses_guest (chosen_at self.old.state args.now.input.now) v (step_args args.now)) v (values_of self.new) }
@@ -97,7 +97,7 @@ impl<N: Mechanism, K: Mechanism> Negotiate<N, K> {
             self.old (answer_of (answered result)) self.new }
         ensures stays { OnErr result (Stays (values_of self.old) (values_of self.new)) }
         // What every answer keeps.
-        ensures unused { StaysUnused N.meaning K.meaning self.old self.new }
+        ensures unused { StaysSilent N.meaning K.meaning self.old self.new }
         ensures first { self.old.state ≡ states.Initial → StaysUnmarked N.meaning K.meaning self.old self.new }
         ensures need { let v = values_of self.old in self.old.state ≢ states.Initial →
             StaysNeeded (excuses_guest (chosen_at self.old.state args.now.input.now) v (step_args args.now)) v (values_of self.new) }
@@ -126,7 +126,7 @@ impl<N: Mechanism, K: Mechanism> Negotiate<N, K> {
             self.old (answer_of (answered result)) self.new }
         ensures stays { self.old.packages.ntlm ≡ true → OnErr result (Stays (values_of self.old) (values_of self.new)) }
         // What every answer keeps.
-        ensures unused { StaysUnused N.meaning K.meaning self.old self.new }
+        ensures unused { StaysSilent N.meaning K.meaning self.old self.new }
         ensures first { self.old.state ≡ states.Initial → StaysUnmarked N.meaning K.meaning self.old self.new }
         ensures need { let v = values_of self.old in self.old.state ≢ states.Initial →
             StaysNeeded (excuses_guest (chosen_at self.old.state args.now.input.now) v (step_args args.now)) v (values_of self.new) }
@@ -148,7 +148,7 @@ impl<N: Mechanism, K: Mechanism> Negotiate<N, K> {
             self.old (answer_of (answered result)) self.new }
         ensures stays { hand_of self.old.mech ≡ protocols.Ntlm → OnErr result (Stays (values_of self.old) (values_of self.new)) }
         // What every answer keeps.
-        ensures unused { StaysUnused N.meaning K.meaning self.old self.new }
+        ensures unused { StaysSilent N.meaning K.meaning self.old self.new }
         ensures first { self.old.state ≡ states.Initial → StaysUnmarked N.meaning K.meaning self.old self.new }
         ensures need { let v = values_of self.old in self.old.state ≢ states.Initial →
             StaysNeeded (excuses_guest (chosen_at self.old.state args.now.input.now) v (step_args args.now)) v (values_of self.new) }
@@ -168,7 +168,7 @@ impl<N: Mechanism, K: Mechanism> Negotiate<N, K> {
             self.old (answer_of (answered result)) self.new }
         ensures stays { OnErr result (Stays (values_of self.old) (values_of self.new)) }
         // What every answer keeps.
-        ensures unused { StaysUnused N.meaning K.meaning self.old self.new }
+        ensures unused { StaysSilent N.meaning K.meaning self.old self.new }
         ensures first { self.old.state ≡ states.Initial → StaysUnmarked N.meaning K.meaning self.old self.new }
         ensures need { let v = values_of self.old in self.old.state ≢ states.Initial →
             StaysNeeded (excuses_guest (chosen_at self.old.state args.now.input.now) v (step_args args.now)) v (values_of self.new) }
@@ -195,7 +195,7 @@ impl<N: Mechanism, K: Mechanism> Negotiate<N, K> {
             self.old (answer_of (answered result)) self.new }
         ensures stays { OnErr result (Stays (values_of self.old) (values_of self.new)) }
         // What every answer keeps.
-        ensures unused { StaysUnused N.meaning K.meaning self.old self.new }
+        ensures unused { StaysSilent N.meaning K.meaning self.old self.new }
         ensures first { self.old.state ≡ states.Initial → StaysUnmarked N.meaning K.meaning self.old self.new }
         ensures need { let v = values_of self.old in self.old.state ≢ states.Initial →
             StaysNeeded (excuses_guest (chosen_at self.old.state args.now.input.now) v (step_args args.now)) v (values_of self.new) }
@@ -219,7 +219,7 @@ impl<N: Mechanism, K: Mechanism> Negotiate<N, K> {
             self.old (answer_of (answered result)) self.new }
         ensures stays { OnErr result (Stays (values_of self.old) (values_of self.new)) }
         // What every answer keeps.
-        ensures unused { StaysUnused N.meaning K.meaning self.old self.new }
+        ensures unused { StaysSilent N.meaning K.meaning self.old self.new }
         ensures first { self.old.state ≡ states.Initial → StaysUnmarked N.meaning K.meaning self.old self.new }
         ensures need { let v = values_of self.old in self.old.state ≢ states.Initial →
             StaysNeeded (excuses_guest (chosen_at self.old.state args.now.input.now) v (step_args args.now)) v (values_of self.new) }
@@ -242,7 +242,7 @@ impl<N: Mechanism, K: Mechanism> Negotiate<N, K> {
             self.old (answer_of (answered result)) self.new }
         ensures stays { OnErr result (Stays (values_of self.old) (values_of self.new)) }
         // What every answer keeps.
-        ensures unused { StaysUnused N.meaning K.meaning self.old self.new }
+        ensures unused { StaysSilent N.meaning K.meaning self.old self.new }
         ensures first { self.old.state ≡ states.Initial → StaysUnmarked N.meaning K.meaning self.old self.new }
         ensures need { let v = values_of self.old in self.old.state ≢ states.Initial →
             StaysNeeded (excuses_guest (chosen_at self.old.state args.now.input.now) v (step_args args.now)) v (values_of self.new) }
@@ -261,7 +261,7 @@ impl<N: Mechanism, K: Mechanism> Negotiate<N, K> {
             self.old (answer_of (answered result)) self.new }
         ensures stays { OnErr result (Stays (values_of self.old) (values_of self.new)) }
         // What every answer keeps.
-        ensures unused { StaysUnused N.meaning K.meaning self.old self.new }
+        ensures unused { StaysSilent N.meaning K.meaning self.old self.new }
         ensures first { self.old.state ≡ states.Initial → StaysUnmarked N.meaning K.meaning self.old self.new }
         ensures need { let v = values_of self.old in self.old.state ≢ states.Initial →
             StaysNeeded (excuses_guest (chosen_at self.old.state args.now.input.now) v (step_args args.now)) v (values_of self.new) }

@@ -4,7 +4,7 @@ ghost use Rattle.sspi_mech.specs.Calls.{one_signing, ToSign};
 ghost use Rattle.sspi_mech.specs.Answered.{answered};
 ghost use Rattle.sspi_negotiate.specs.Hand.{hand, hand_of};
 ghost use Rattle.sspi_names.specs.declared.credentials.Credentials.TheVariants as credentials;
-ghost use Rattle.sspi_negotiate.specs.Does.{Does, Stays, StaysPicked, StaysUnused, told};
+ghost use Rattle.sspi_negotiate.specs.Does.{Does, Stays, StaysPicked, StaysSilent, told};
 ghost use Rattle.sspi_negotiate.specs.Passes.{Passes};
 ghost use Rattle.sspi_negotiate.specs.Rows.{identifies_among, identifies, verifies, checks};
 ghost use Rattle.sspi_negotiate.specs.Rows.{writes, targ, if_some, answers_signed, completes_signed, hands_mic};
@@ -52,7 +52,7 @@ impl<N: Mechanism, K: Mechanism> Negotiate<N, K> {
             (answered result) self.new }
         // What every answer keeps.
         ensures stays { Stays (values_of self.old) (values_of self.new) }
-        ensures unused { StaysUnused N.meaning K.meaning self.old self.new }
+        ensures unused { StaysSilent N.meaning K.meaning self.old self.new }
         ensures picked { StaysPicked (values_of self.old) (values_of self.new) }
         ensures need { self.new.need ≡ self.old.need }
     {
@@ -66,7 +66,7 @@ impl<N: Mechanism, K: Mechanism> Negotiate<N, K> {
             (answered result) self.new }
         // What every answer keeps.
         ensures stays { Stays (values_of self.old) (values_of self.new) }
-        ensures unused { StaysUnused N.meaning K.meaning self.old self.new }
+        ensures unused { StaysSilent N.meaning K.meaning self.old self.new }
         ensures picked { StaysPicked (values_of self.old) (values_of self.new) }
         ensures need { self.new.need ≡ self.old.need }
     {
@@ -81,7 +81,7 @@ impl<N: Mechanism, K: Mechanism> Negotiate<N, K> {
             (values_of self.old) self.old (answered result) self.new }
         // What every answer keeps.
         ensures stays { Stays (values_of self.old) (values_of self.new) }
-        ensures unused { StaysUnused N.meaning K.meaning self.old self.new }
+        ensures unused { StaysSilent N.meaning K.meaning self.old self.new }
         ensures picked { StaysPicked (values_of self.old) (values_of self.new) }
         ensures need { self.new.need ≡ self.old.need }
     {
@@ -99,7 +99,7 @@ impl<N: Mechanism, K: Mechanism> Negotiate<N, K> {
             (values_of self.old) self.old (answered result) self.new }
         // What every answer keeps.
         ensures stays { Stays (values_of self.old) (values_of self.new) }
-        ensures unused { StaysUnused N.meaning K.meaning self.old self.new }
+        ensures unused { StaysSilent N.meaning K.meaning self.old self.new }
         ensures picked { StaysPicked (values_of self.old) (values_of self.new) }
         ensures need { self.new.need ≡ self.old.need }
     {
@@ -113,7 +113,7 @@ impl<N: Mechanism, K: Mechanism> Negotiate<N, K> {
             (answered result) self.new }
         // What every answer keeps.
         ensures stays { Stays (values_of self.old) (values_of self.new) }
-        ensures unused { StaysUnused N.meaning K.meaning self.old self.new }
+        ensures unused { StaysSilent N.meaning K.meaning self.old self.new }
         ensures picked { StaysPicked (values_of self.old) (values_of self.new) }
         ensures need { self.new.need ≡ self.old.need }
     {
@@ -127,7 +127,7 @@ impl<N: Mechanism, K: Mechanism> Negotiate<N, K> {
             (values_of self.old) self.old (answered result) self.new }
         // What every answer keeps.
         ensures stays { Stays (values_of self.old) (values_of self.new) }
-        ensures unused { StaysUnused N.meaning K.meaning self.old self.new }
+        ensures unused { StaysSilent N.meaning K.meaning self.old self.new }
         ensures picked { StaysPicked (values_of self.old) (values_of self.new) }
         ensures need { self.new.need ≡ self.old.need }
     {
@@ -151,7 +151,7 @@ impl<N: Mechanism, K: Mechanism> Negotiate<N, K> {
             (answers_signed result_field state status (values_of self.old) token) self.old (told (answered result)) self.new }
         ensures stays { OnErr result (Stays (values_of self.old) (values_of self.new)) }
         // What every answer keeps.
-        ensures unused { StaysUnused N.meaning K.meaning self.old self.new }
+        ensures unused { StaysSilent N.meaning K.meaning self.old self.new }
         ensures picked { StaysPicked (values_of self.old) (values_of self.new) }
         ensures need { self.new.need ≡ self.old.need }
     {
@@ -173,7 +173,7 @@ impl<N: Mechanism, K: Mechanism> Negotiate<N, K> {
             self.old (told (answered result)) self.new }
         ensures stays { OnErr result (Stays (values_of self.old) (values_of self.new)) }
         // What every answer keeps.
-        ensures unused { StaysUnused N.meaning K.meaning self.old self.new }
+        ensures unused { StaysSilent N.meaning K.meaning self.old self.new }
         ensures picked { StaysPicked (values_of self.old) (values_of self.new) }
         ensures need { self.new.need ≡ self.old.need }
     {
@@ -193,7 +193,7 @@ impl<N: Mechanism, K: Mechanism> Negotiate<N, K> {
         ensures step { Does N.meaning K.meaning (completes_signed (values_of self.old) token) self.old (told (answered result)) self.new }
         ensures stays { OnErr result (Stays (values_of self.old) (values_of self.new)) }
         // What every answer keeps.
-        ensures unused { StaysUnused N.meaning K.meaning self.old self.new }
+        ensures unused { StaysSilent N.meaning K.meaning self.old self.new }
         ensures picked { StaysPicked (values_of self.old) (values_of self.new) }
         ensures need { self.new.need ≡ self.old.need }
     {
@@ -211,7 +211,7 @@ impl<N: Mechanism, K: Mechanism> Negotiate<N, K> {
         ensures step { Does N.meaning K.meaning (hands_mic (values_of self.old) token) self.old (told (answered result)) self.new }
         ensures stays { OnErr result (Stays (values_of self.old) (values_of self.new)) }
         // What every answer keeps.
-        ensures unused { StaysUnused N.meaning K.meaning self.old self.new }
+        ensures unused { StaysSilent N.meaning K.meaning self.old self.new }
         ensures picked { StaysPicked (values_of self.old) (values_of self.new) }
         ensures need { self.new.need ≡ self.old.need }
     {

@@ -1,6 +1,6 @@
 ghost use Rattle.std.specs.Prelude.{◌≡◌, [], true, None, OnErr};
 ghost use Rattle.sspi_mech.specs.Answered.{answered};
-ghost use Rattle.sspi_negotiate.specs.Does.{Does, Stays, StaysPicked, StaysUnmarked, StaysUnused, told};
+ghost use Rattle.sspi_negotiate.specs.Does.{Does, Stays, StaysPicked, StaysUnmarked, StaysSilent, told};
 ghost use Rattle.sspi_negotiate.specs.Passes.{Passes};
 ghost use Rattle.sspi_negotiate.specs.declared.protocol.Protocol.TheVariants as protocols;
 ghost use Rattle.sspi_negotiate.specs.Hand.{hand_of, asks_left};
@@ -105,7 +105,7 @@ impl<N: Mechanism, K: Mechanism> Negotiate<N, K> {
             (record (values_of self.old) { hand = protocols.Ntlm }) self.old (answered result) self.new }
         // What every answer keeps.
         ensures stays { self.old.packages.ntlm ≡ true → Stays (values_of self.old) (values_of self.new) }
-        ensures unused { StaysUnused N.meaning K.meaning self.old self.new }
+        ensures unused { StaysSilent N.meaning K.meaning self.old self.new }
         ensures unmarked { StaysUnmarked N.meaning K.meaning self.old self.new }
         ensures need { self.new.need ≡ self.old.need }
         // What a refusal leaves.
@@ -123,7 +123,7 @@ impl<N: Mechanism, K: Mechanism> Negotiate<N, K> {
             (record (values_of self.old) { hand = protocols.Ntlm }) self.old (answered result) self.new }
         // What every answer keeps.
         ensures stays { self.old.packages.ntlm ≡ true → Stays (values_of self.old) (values_of self.new) }
-        ensures unused { StaysUnused N.meaning K.meaning self.old self.new }
+        ensures unused { StaysSilent N.meaning K.meaning self.old self.new }
         ensures unmarked { StaysUnmarked N.meaning K.meaning self.old self.new }
         ensures need { self.new.need ≡ self.old.need }
         // What a refusal leaves.
@@ -149,7 +149,7 @@ impl<N: Mechanism, K: Mechanism> Negotiate<N, K> {
         ensures need { OnErr result (self.new.need ≡ self.old.need) }
         ensures same { need ≡ self.old.need → self.new.need ≡ self.old.need }
         // What every answer keeps.
-        ensures unused { StaysUnused N.meaning K.meaning self.old self.new }
+        ensures unused { StaysSilent N.meaning K.meaning self.old self.new }
         ensures unmarked { StaysUnmarked N.meaning K.meaning self.old self.new }
         ensures picked { StaysPicked (values_of self.old) (values_of self.new) }
     {
@@ -168,7 +168,7 @@ impl<N: Mechanism, K: Mechanism> Negotiate<N, K> {
         ensures need { OnErr result (self.new.need ≡ self.old.need) }
         ensures same { need ≡ self.old.need → self.new.need ≡ self.old.need }
         // What every answer keeps.
-        ensures unused { StaysUnused N.meaning K.meaning self.old self.new }
+        ensures unused { StaysSilent N.meaning K.meaning self.old self.new }
         ensures picked { StaysPicked (values_of self.old) (values_of self.new) }
     {
         let token = NegTokenTarg {
@@ -188,7 +188,7 @@ impl<N: Mechanism, K: Mechanism> Negotiate<N, K> {
             self.old (told (answered result)) self.new }
         ensures stays { OnErr result (Stays (values_of self.old) (values_of self.new)) }
         // What every answer keeps.
-        ensures unused { StaysUnused N.meaning K.meaning self.old self.new }
+        ensures unused { StaysSilent N.meaning K.meaning self.old self.new }
         ensures picked { StaysPicked (values_of self.old) (values_of self.new) }
         ensures need { self.new.need ≡ self.old.need }
     {
@@ -206,7 +206,7 @@ impl<N: Mechanism, K: Mechanism> Negotiate<N, K> {
         ensures step { Does N.meaning K.meaning (carries_on (values_of self.old) token status) self.old (told (answered result)) self.new }
         ensures stays { OnErr result (Stays (values_of self.old) (values_of self.new)) }
         // What every answer keeps.
-        ensures unused { StaysUnused N.meaning K.meaning self.old self.new }
+        ensures unused { StaysSilent N.meaning K.meaning self.old self.new }
         ensures picked { StaysPicked (values_of self.old) (values_of self.new) }
         ensures need { self.new.need ≡ self.old.need }
     {

@@ -4,7 +4,7 @@ ghost use Rattle.sspi_mech.specs.Calls.{accept_args};
 ghost use Rattle.sspi_mech.specs.Context.{NeitherSealsNorOpens};
 ghost use Rattle.sspi_mech.specs.Answered.{answered};
 ghost use Rattle.sspi_tokens.specs.Reading.{init_of};
-ghost use Rattle.sspi_negotiate.specs.Does.{Does, Stays, StaysPicked, StaysUnmarked, StaysUnused, told};
+ghost use Rattle.sspi_negotiate.specs.Does.{Does, Stays, StaysPicked, StaysUnmarked, StaysSilent, told};
 ghost use Rattle.sspi_negotiate.specs.declared.protocol.Protocol.TheVariants as protocols;
 ghost use Rattle.sspi_negotiate.specs.Hand.{hand, hand_of};
 ghost use Rattle.sspi_negotiate.specs.Negotiate.{negotiate};
@@ -99,7 +99,7 @@ impl<N: Mechanism, K: Mechanism> Negotiate<N, K> {
         ensures stays { OnErr result (Stays (values_of self.old) (values_of self.new)) }
         ensures need { OnErr result (self.new.need ≡ self.old.need) }
         // What every answer keeps.
-        ensures unused { StaysUnused N.meaning K.meaning self.old self.new }
+        ensures unused { StaysSilent N.meaning K.meaning self.old self.new }
         ensures first { self.old.state ≡ states.Initial → StaysUnmarked N.meaning K.meaning self.old self.new }
         ensures picked { self.old.state ≢ states.Initial → StaysPicked (values_of self.old) (values_of self.new) }
     {
@@ -123,7 +123,7 @@ impl<N: Mechanism, K: Mechanism> Negotiate<N, K> {
         ensures stays { OnErr result (Stays (values_of self.old) (values_of self.new)) }
         ensures need { OnErr result (self.new.need ≡ self.old.need) }
         // What every answer keeps.
-        ensures unused { StaysUnused N.meaning K.meaning self.old self.new }
+        ensures unused { StaysSilent N.meaning K.meaning self.old self.new }
         ensures unmarked { StaysUnmarked N.meaning K.meaning self.old self.new }
     {
         let token = NegTokenInit::decode(self.alloc, args.input)?;
@@ -145,7 +145,7 @@ impl<N: Mechanism, K: Mechanism> Negotiate<N, K> {
         ensures stays { OnErr result (Stays (values_of self.old) (values_of self.new)) }
         ensures need { OnErr result (self.new.need ≡ self.old.need) }
         // What every answer keeps.
-        ensures unused { StaysUnused N.meaning K.meaning self.old self.new }
+        ensures unused { StaysSilent N.meaning K.meaning self.old self.new }
         ensures unmarked { StaysUnmarked N.meaning K.meaning self.old self.new }
     {
         match list {
@@ -173,7 +173,7 @@ impl<N: Mechanism, K: Mechanism> Negotiate<N, K> {
         ensures stays { IsUsable self.old.packages picked → OnErr result (Stays (values_of self.old) (values_of self.new)) }
         ensures need { OnErr result (self.new.need ≡ self.old.need) }
         // What every answer keeps.
-        ensures unused { StaysUnused N.meaning K.meaning self.old self.new }
+        ensures unused { StaysSilent N.meaning K.meaning self.old self.new }
         ensures unmarked { StaysUnmarked N.meaning K.meaning self.old self.new }
     {
         match picked {
@@ -198,7 +198,7 @@ impl<N: Mechanism, K: Mechanism> Negotiate<N, K> {
             OnErr result (Stays (values_of self.old) (values_of self.new)) }
         ensures need { OnErr result (self.new.need ≡ self.old.need) }
         // What every answer keeps.
-        ensures unused { StaysUnused N.meaning K.meaning self.old self.new }
+        ensures unused { StaysSilent N.meaning K.meaning self.old self.new }
         ensures unmarked { StaysUnmarked N.meaning K.meaning self.old self.new }
     {
         match picked.choice {
@@ -221,7 +221,7 @@ impl<N: Mechanism, K: Mechanism> Negotiate<N, K> {
         ensures stays { self.old.packages.ntlm ≡ true → OnErr result (Stays (values_of self.old) (values_of self.new)) }
         ensures need { OnErr result (self.new.need ≡ self.old.need) }
         // What every answer keeps.
-        ensures unused { StaysUnused N.meaning K.meaning self.old self.new }
+        ensures unused { StaysSilent N.meaning K.meaning self.old self.new }
         ensures unmarked { StaysUnmarked N.meaning K.meaning self.old self.new }
     {
         self.take_ntlm()?;
@@ -241,7 +241,7 @@ impl<N: Mechanism, K: Mechanism> Negotiate<N, K> {
         ensures stays { OnErr result (Stays (values_of self.old) (values_of self.new)) }
         ensures need { OnErr result (self.new.need ≡ self.old.need) }
         // What every answer keeps.
-        ensures unused { StaysUnused N.meaning K.meaning self.old self.new }
+        ensures unused { StaysSilent N.meaning K.meaning self.old self.new }
         ensures unmarked { StaysUnmarked N.meaning K.meaning self.old self.new }
     {
         if picked.index == 0 {
@@ -265,7 +265,7 @@ impl<N: Mechanism, K: Mechanism> Negotiate<N, K> {
         ensures stays { OnErr result (Stays (values_of self.old) (values_of self.new)) }
         ensures need { OnErr result (self.new.need ≡ self.old.need) }
         // What every answer keeps.
-        ensures unused { StaysUnused N.meaning K.meaning self.old self.new }
+        ensures unused { StaysSilent N.meaning K.meaning self.old self.new }
         ensures unmarked { StaysUnmarked N.meaning K.meaning self.old self.new }
     {
         let incomplete = NegResult::AcceptIncomplete;
@@ -280,7 +280,7 @@ impl<N: Mechanism, K: Mechanism> Negotiate<N, K> {
         ensures stays { OnErr result (Stays (values_of self.old) (values_of self.new)) }
         ensures need { OnErr result (self.new.need ≡ self.old.need) }
         // What every answer keeps.
-        ensures unused { StaysUnused N.meaning K.meaning self.old self.new }
+        ensures unused { StaysSilent N.meaning K.meaning self.old self.new }
         ensures unmarked { StaysUnmarked N.meaning K.meaning self.old self.new }
     {
         self.go_on_with(picked, None, true, NegotiateState::InProgress)
@@ -299,7 +299,7 @@ impl<N: Mechanism, K: Mechanism> Negotiate<N, K> {
         ensures stays { OnErr result (Stays (values_of self.old) (values_of self.new)) }
         ensures need { OnErr result (self.new.need ≡ self.old.need) }
         // What every answer keeps.
-        ensures unused { StaysUnused N.meaning K.meaning self.old self.new }
+        ensures unused { StaysSilent N.meaning K.meaning self.old self.new }
         ensures unmarked { StaysUnmarked N.meaning K.meaning self.old self.new }
     {
         match token {
@@ -329,7 +329,7 @@ impl<N: Mechanism, K: Mechanism> Negotiate<N, K> {
         ensures stays { OnErr result (Stays (values_of self.old) (values_of self.new)) }
         ensures need { OnErr result (self.new.need ≡ self.old.need) }
         // What every answer keeps.
-        ensures unused { StaysUnused N.meaning K.meaning self.old self.new }
+        ensures unused { StaysSilent N.meaning K.meaning self.old self.new }
         ensures unmarked { StaysUnmarked N.meaning K.meaning self.old self.new }
     {
         let need = self.needs_mic(args);
@@ -350,7 +350,7 @@ impl<N: Mechanism, K: Mechanism> Negotiate<N, K> {
         ensures stays { OnErr result (Stays (values_of self.old) (values_of self.new)) }
         ensures need { OnErr result (self.new.need ≡ self.old.need) }
         // What every answer keeps.
-        ensures unused { StaysUnused N.meaning K.meaning self.old self.new }
+        ensures unused { StaysSilent N.meaning K.meaning self.old self.new }
         ensures unmarked { StaysUnmarked N.meaning K.meaning self.old self.new }
     {
         let step = accept_with(&mut self.protocol, args, &token)?;
@@ -369,7 +369,7 @@ impl<N: Mechanism, K: Mechanism> Negotiate<N, K> {
         ensures stays { OnErr result (Stays (values_of self.old) (values_of self.new)) }
         ensures need { OnErr result (self.new.need ≡ self.old.need) }
         // What every answer keeps.
-        ensures unused { StaysUnused N.meaning K.meaning self.old self.new }
+        ensures unused { StaysSilent N.meaning K.meaning self.old self.new }
         ensures unmarked { StaysUnmarked N.meaning K.meaning self.old self.new }
     {
         let need = self.needs_mic(args);
@@ -382,7 +382,7 @@ impl<N: Mechanism, K: Mechanism> Negotiate<N, K> {
         ensures stays { OnErr result (Stays (values_of self.old) (values_of self.new)) }
         ensures need { OnErr result (self.new.need ≡ self.old.need) }
         // What every answer keeps.
-        ensures unused { StaysUnused N.meaning K.meaning self.old self.new }
+        ensures unused { StaysSilent N.meaning K.meaning self.old self.new }
         ensures unmarked { StaysUnmarked N.meaning K.meaning self.old self.new }
     {
         if is_over(step.status) {
@@ -403,7 +403,7 @@ impl<N: Mechanism, K: Mechanism> Negotiate<N, K> {
         ensures stays { OnErr result (Stays (values_of self.old) (values_of self.new)) }
         ensures need { OnErr result (self.new.need ≡ self.old.need) }
         // What every answer keeps.
-        ensures unused { StaysUnused N.meaning K.meaning self.old self.new }
+        ensures unused { StaysSilent N.meaning K.meaning self.old self.new }
         ensures unmarked { StaysUnmarked N.meaning K.meaning self.old self.new }
     {
         self.go_on_with(picked, Some(step.output), need, NegotiateState::InProgress)
@@ -416,7 +416,7 @@ impl<N: Mechanism, K: Mechanism> Negotiate<N, K> {
         ensures stays { OnErr result (Stays (values_of self.old) (values_of self.new)) }
         ensures need { OnErr result (self.new.need ≡ self.old.need) }
         // What every answer keeps.
-        ensures unused { StaysUnused N.meaning K.meaning self.old self.new }
+        ensures unused { StaysSilent N.meaning K.meaning self.old self.new }
         ensures unmarked { StaysUnmarked N.meaning K.meaning self.old self.new }
     {
         self.go_on_with(picked, Some(step.output), true, NegotiateState::VerifyMic)
@@ -429,7 +429,7 @@ impl<N: Mechanism, K: Mechanism> Negotiate<N, K> {
         ensures stays { OnErr result (Stays (values_of self.old) (values_of self.new)) }
         ensures need { OnErr result (self.new.need ≡ self.old.need) }
         // What every answer keeps.
-        ensures unused { StaysUnused N.meaning K.meaning self.old self.new }
+        ensures unused { StaysSilent N.meaning K.meaning self.old self.new }
         ensures unmarked { StaysUnmarked N.meaning K.meaning self.old self.new }
     {
         let output = Some(step.output);

@@ -3,7 +3,7 @@ ghost use Rattle.std.specs.Prelude.{◌≡◌, [], None, Some, OnErr};
 ghost use Rattle.sspi_mech.specs.Calls.{accept_args};
 ghost use Rattle.sspi_mech.specs.Answered.{answered};
 ghost use Rattle.sspi_tokens.specs.Reading.{targ_of};
-ghost use Rattle.sspi_negotiate.specs.Does.{Does, Stays, StaysPicked, StaysUnused, told};
+ghost use Rattle.sspi_negotiate.specs.Does.{Does, Stays, StaysPicked, StaysSilent, told};
 ghost use Rattle.sspi_negotiate.specs.Plan.{Accepts, Names, Goes};
 ghost use Rattle.sspi_negotiate.specs.Rows.{or_empty, checks, completes_signed};
 ghost use Rattle.sspi_negotiate.specs.Server.{excuses, without_mic, settles, accepted, at_progress, last_mic, at_verify_mic};
@@ -31,7 +31,7 @@ impl<N: Mechanism, K: Mechanism> Negotiate<N, K> {
         ensures stays { OnErr result (Stays (values_of self.old) (values_of self.new)) }
         ensures need { OnErr result (self.new.need ≡ self.old.need) }
         // What every answer keeps.
-        ensures unused { StaysUnused N.meaning K.meaning self.old self.new }
+        ensures unused { StaysSilent N.meaning K.meaning self.old self.new }
         ensures picked { StaysPicked (values_of self.old) (values_of self.new) }
     {
         let token = NegTokenTarg::decode(self.alloc, args.input)?;
@@ -51,7 +51,7 @@ impl<N: Mechanism, K: Mechanism> Negotiate<N, K> {
         ensures stays { OnErr result (Stays (values_of self.old) (values_of self.new)) }
         ensures need { OnErr result (self.new.need ≡ self.old.need) }
         // What every answer keeps.
-        ensures unused { StaysUnused N.meaning K.meaning self.old self.new }
+        ensures unused { StaysSilent N.meaning K.meaning self.old self.new }
         ensures picked { StaysPicked (values_of self.old) (values_of self.new) }
     {
         let step = accept_with(&mut self.protocol, args, &token.response_token)?;
@@ -64,7 +64,7 @@ impl<N: Mechanism, K: Mechanism> Negotiate<N, K> {
         ensures stays { OnErr result (Stays (values_of self.old) (values_of self.new)) }
         ensures need { OnErr result (self.new.need ≡ self.old.need) }
         // What every answer keeps.
-        ensures unused { StaysUnused N.meaning K.meaning self.old self.new }
+        ensures unused { StaysSilent N.meaning K.meaning self.old self.new }
         ensures picked { StaysPicked (values_of self.old) (values_of self.new) }
     {
         if is_over(step.status) {
@@ -88,7 +88,7 @@ impl<N: Mechanism, K: Mechanism> Negotiate<N, K> {
         ensures stays { OnErr result (Stays (values_of self.old) (values_of self.new)) }
         ensures need { OnErr result (self.new.need ≡ self.old.need) }
         // What every answer keeps.
-        ensures unused { StaysUnused N.meaning K.meaning self.old self.new }
+        ensures unused { StaysSilent N.meaning K.meaning self.old self.new }
         ensures picked { StaysPicked (values_of self.old) (values_of self.new) }
     {
         if need {
@@ -108,7 +108,7 @@ impl<N: Mechanism, K: Mechanism> Negotiate<N, K> {
         ensures stays { OnErr result (Stays (values_of self.old) (values_of self.new)) }
         ensures need { OnErr result (self.new.need ≡ self.old.need) }
         // What every answer keeps.
-        ensures unused { StaysUnused N.meaning K.meaning self.old self.new }
+        ensures unused { StaysSilent N.meaning K.meaning self.old self.new }
         ensures picked { StaysPicked (values_of self.old) (values_of self.new) }
     {
         self.check(mic)?;
@@ -123,7 +123,7 @@ impl<N: Mechanism, K: Mechanism> Negotiate<N, K> {
         ensures stays { OnErr result (Stays (values_of self.old) (values_of self.new)) }
         ensures need { OnErr result (self.new.need ≡ self.old.need) }
         // What every answer keeps.
-        ensures unused { StaysUnused N.meaning K.meaning self.old self.new }
+        ensures unused { StaysSilent N.meaning K.meaning self.old self.new }
         ensures picked { StaysPicked (values_of self.old) (values_of self.new) }
     {
         if complete {
@@ -140,7 +140,7 @@ impl<N: Mechanism, K: Mechanism> Negotiate<N, K> {
         ensures stays { OnErr result (Stays (values_of self.old) (values_of self.new)) }
         ensures need { OnErr result (self.new.need ≡ self.old.need) }
         // What every answer keeps.
-        ensures unused { StaysUnused N.meaning K.meaning self.old self.new }
+        ensures unused { StaysSilent N.meaning K.meaning self.old self.new }
         ensures picked { StaysPicked (values_of self.old) (values_of self.new) }
     {
         let name = self.protocol.names()?;
@@ -153,7 +153,7 @@ impl<N: Mechanism, K: Mechanism> Negotiate<N, K> {
         ensures stays { OnErr result (Stays (values_of self.old) (values_of self.new)) }
         ensures need { OnErr result (self.new.need ≡ self.old.need) }
         // What every answer keeps.
-        ensures unused { StaysUnused N.meaning K.meaning self.old self.new }
+        ensures unused { StaysSilent N.meaning K.meaning self.old self.new }
         ensures picked { StaysPicked (values_of self.old) (values_of self.new) }
     {
         if is_guest_text(name.inner()) {
@@ -170,7 +170,7 @@ impl<N: Mechanism, K: Mechanism> Negotiate<N, K> {
         ensures stays { OnErr result (Stays (values_of self.old) (values_of self.new)) }
         ensures need { OnErr result (self.new.need ≡ self.old.need) }
         // What every answer keeps.
-        ensures unused { StaysUnused N.meaning K.meaning self.old self.new }
+        ensures unused { StaysSilent N.meaning K.meaning self.old self.new }
         ensures picked { StaysPicked (values_of self.old) (values_of self.new) }
     {
         let token = NegTokenTarg::decode(self.alloc, args.input)?;
@@ -183,7 +183,7 @@ impl<N: Mechanism, K: Mechanism> Negotiate<N, K> {
         ensures stays { OnErr result (Stays (values_of self.old) (values_of self.new)) }
         ensures need { OnErr result (self.new.need ≡ self.old.need) }
         // What every answer keeps.
-        ensures unused { StaysUnused N.meaning K.meaning self.old self.new }
+        ensures unused { StaysSilent N.meaning K.meaning self.old self.new }
         ensures picked { StaysPicked (values_of self.old) (values_of self.new) }
     {
         match mic {
@@ -201,7 +201,7 @@ impl<N: Mechanism, K: Mechanism> Negotiate<N, K> {
         ensures stays { OnErr result (Stays (values_of self.old) (values_of self.new)) }
         ensures need { OnErr result (self.new.need ≡ self.old.need) }
         // What every answer keeps.
-        ensures unused { StaysUnused N.meaning K.meaning self.old self.new }
+        ensures unused { StaysSilent N.meaning K.meaning self.old self.new }
         ensures picked { StaysPicked (values_of self.old) (values_of self.new) }
     {
         self.check(mic)?;
