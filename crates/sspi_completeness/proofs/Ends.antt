@@ -10,7 +10,8 @@ use Rattle.sspi_mech.specs.Meaning.{Meaning}
 use Rattle.sspi_credssp.specs.declared.acts.Acts.{Acts}
 use Rattle.sspi_credssp.specs.declared.state.CredSspState.{CredSspState}
 use Rattle.sspi_credssp.specs.declared.state.CredSspState.TheVariants.{NegoToken}
-use Rattle.sspi_credssp.specs.Acts.{count_of, sealings_by, sealings_in, unsealings_in, IsUnusedIn, SameBut, SealsIn, is_waiting_in, silent}
+use Rattle.sspi_credssp.specs.Acts.{count_of, sealings_by, sealings_in, unsealings_in, SameBut, SealsIn, is_waiting_in, silent}
+use Rattle.sspi_credssp.specs.Unused.{IsUnusedIn}
 use Rattle.sspi_credssp.specs.Acts.{cleared}
 use Rattle.sspi_credssp.specs.Context.{IfContext, MadeOr, ContextSetting}
 use Rattle.sspi_credssp.specs.Ends.{ClientView, IsFreshClient, ServerView, IsFreshServer}

@@ -4,7 +4,8 @@ use Rattle.sspi_mech.specs.Meaning.{Meaning}
 use Rattle.sspi_credssp.specs.declared.acts.Acts.{Acts}
 use Rattle.sspi_credssp.specs.declared.state.CredSspState.{CredSspState}
 use Rattle.sspi_credssp.specs.declared.state.CredSspState.TheVariants.{NegoToken}
-use Rattle.sspi_credssp.specs.Acts.{no_acts, sealings_by, unsealings_by, sealings_in, unsealings_in, IsUnusedIn, AddsActs, CountsEachAct}
+use Rattle.sspi_credssp.specs.Acts.{no_acts, sealings_by, unsealings_by, sealings_in, unsealings_in, AddsActs, CountsEachAct}
+use Rattle.sspi_credssp.specs.Unused.{IsUnusedIn}
 
 module _ {S C : Type 0} (c : Meaning S C) where
   pub unused_counts : (o : Option C) → IsUnusedIn c o → (sealings_in c o ≡ 0) × (unsealings_in c o ≡ 0)

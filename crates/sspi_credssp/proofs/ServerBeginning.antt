@@ -11,7 +11,8 @@ use Rattle.sspi_credssp.specs.declared.server_state.ServerError.{ServerError}
 use Rattle.sspi_credssp.specs.declared.state.CredSspState.{CredSspState}
 use Rattle.sspi_credssp.specs.declared.state.CredSspState.TheVariants.{NegoToken}
 use Rattle.sspi_credssp.specs.declared.turn.Outcome.TheVariants as outcome
-use Rattle.sspi_credssp.specs.Acts.{no_acts, IsUnusedIn, CountsEachAct}
+use Rattle.sspi_credssp.specs.Acts.{no_acts, CountsEachAct}
+use Rattle.sspi_credssp.specs.Unused.{IsUnusedIn}
 use Rattle.sspi_credssp.specs.Context.{Begun, IfContext, OnContext, ContextSetting, ForServer}
 use Rattle.sspi_credssp.specs.Requests.{error_request, version_back}
 use Rattle.sspi_credssp.specs.Noted.{noted_with}

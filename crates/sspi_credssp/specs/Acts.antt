@@ -1,6 +1,6 @@
 -- What an end did on its security context in one call, and how many messages a context has made and taken.
 use Rattle.std.specs.Prelude.{ℕ, ◌+◌, ◌⊎◌, Bool, true, false, None, ◌≡◌, List, Option, Some}
-use Rattle.sspi_mech.specs.Calls.{Counts, IsUnused}
+use Rattle.sspi_mech.specs.Calls.{Counts}
 use Rattle.sspi_mech.specs.Meaning.{Meaning}
 use Rattle.sspi_credssp.specs.declared.acts.Acts.{Acts}
 use Rattle.sspi_credssp.specs.declared.state.CredSspState.{CredSspState}
@@ -43,11 +43,6 @@ module _ {S C : Type 0} (c : Meaning S C) where
   -- The counts are those before and the acts; or the acts alone, in the authentication, where a step may take another mechanism.
   abbrev pub CountsEachAct : CredSspState → Option C → Acts → Option C → Type 0
   CountsEachAct state before acts now = AddsActs before acts now ⊎ ((state ≡ NegoToken) × AddsActs None acts now)
-
-  -- nothing was sealed or opened
-  abbrev pub IsUnusedIn : Option C → Type 0
-  IsUnusedIn None = Unit {0}
-  IsUnusedIn (Some m) = IsUnused (c.counts m)
 
   -- the context but for what it sealed and opened
   abbrev pub cleared : C → C

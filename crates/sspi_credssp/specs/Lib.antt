@@ -21,3 +21,4 @@ pub mod ServerCause
 pub mod ServerStage
 pub mod ServerTurn
 pub mod Table
+pub mod Unused

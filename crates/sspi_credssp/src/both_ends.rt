@@ -3,8 +3,9 @@ ghost use Rattle.std.specs.Prelude.{◌≡◌, ◌≢◌, [], OnOk, OnErr, IfErr
 ghost use Rattle.std.specs.Option.{option_copied};
 ghost use Rattle.sspi_mech.specs.Calls.{ToAcquire};
 ghost use Rattle.sspi_mech.specs.Calls.{IsUnused};
-ghost use Rattle.sspi_credssp.specs.Acts.{no_acts, IsUnusedIn};
+ghost use Rattle.sspi_credssp.specs.Acts.{no_acts};
 ghost use Rattle.sspi_credssp.specs.Context.{IfContext, either};
+ghost use Rattle.sspi_credssp.specs.Unused.{IsUnusedIn};
 
 use crate::acts::Acts;
 use crate::context::SspiContext;

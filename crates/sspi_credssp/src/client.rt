@@ -1,7 +1,8 @@
 ghost use Rattle.std.specs.Prelude.{◌≡◌, [], None, Some, false, IsSome, IfErr, OnOk, OnErr};
 ghost use Rattle.std.specs.Prelude.{length, string_bytes};
 ghost use Rattle.sspi_types.specs.declared.credential_use.CredentialUse.TheVariants as purposes;
-ghost use Rattle.sspi_credssp.specs.Acts.{no_acts, IsUnusedIn, is_waiting_in, left_in};
+ghost use Rattle.sspi_credssp.specs.Unused.{IsUnusedIn};
+ghost use Rattle.sspi_credssp.specs.Acts.{no_acts, is_waiting_in, left_in};
 ghost use Rattle.sspi_credssp.specs.Ends.{ClientView};
 ghost use Rattle.sspi_credssp.specs.Context.{either, ForClient};
 ghost use Rattle.sspi_credssp.specs.Noted.{is_altered_in, is_old_in, noted_in, VersionStopsIn, OrMemory};

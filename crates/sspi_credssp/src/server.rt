@@ -1,10 +1,11 @@
 ghost use Rattle.std.specs.Prelude.{◌≡◌, ◌≢◌, [], None, true, false, IsSome, IfErr, OnOk, OnErr};
 ghost use Rattle.sspi_types.specs.declared.credential_use.CredentialUse.TheVariants as purposes;
-ghost use Rattle.sspi_credssp.specs.Acts.{no_acts, IsUnusedIn};
+ghost use Rattle.sspi_credssp.specs.Acts.{no_acts};
 ghost use Rattle.sspi_credssp.specs.Proxy.{Asks, list_calls, lists_in};
 ghost use Rattle.sspi_credssp.specs.Context.{Begun, IfContext, MadeOr, either};
 ghost use Rattle.sspi_credssp.specs.Noted.{differs, is_old, VersionStops, OrMemory};
 ghost use Rattle.sspi_credssp.specs.Refused.{IsRefusedFor};
+ghost use Rattle.sspi_credssp.specs.Unused.{IsUnusedIn};
 ghost use Rattle.sspi_mech.specs.Answered.{answered};
 
 use crate::acts::Acts;
