@@ -66,7 +66,7 @@ module _ {C D : Type 0} (c : Meaning ContextSetting C) (k : KdcCalls D) where
 
     never_replies : (mid : View) (kdc2 : D) (r : TsRequest) → ClientMakes c k old kdc d (outcome.Reply r) mid kdc2 → ⊥
     never_replies mid kdc2 r makes =
-        let nego = reply_nego (client_frame c old mid) (client_turn c d (outcome.Reply r) mid) mid.acts.status r makes.0.turn.shown.reply in
+        let nego = reply_nego (client_frame c old mid) (client_turn c d (outcome.Reply r) mid) mid.acts.status r makes.turn.turn.shown.reply in
         let auth = given.is.state_is in cc
 
     counts_on : (mid : View) → CountsEachAct c old.state old.context mid.acts mid.context → AddsActs c old.context mid.acts mid.context
@@ -82,7 +82,7 @@ module _ {C D : Type 0} (c : Meaning ContextSetting C) (k : KdcCalls D) where
     delivered : (mid : View) (kdc2 : D) (r : TsRequest) → ClientMakes c k old kdc d (outcome.Final r) mid kdc2 →
         r ≡ record d { version = a.settings.version; nego_tokens = None; pub_key_auth = None; auth_info = Some (own 1 text) }
     delivered mid kdc2 r makes =
-        let turn = makes.0 in
+        let turn = makes.turn in
         let final = turn.turn.shown.reply in
         let holds = held_now mid turn.moves.bare in
         let unproved : mid.acts.proved ≡ false = is_false mid.acts.proved (λ was.
@@ -138,9 +138,9 @@ module _ {C D : Type 0} (c : Meaning ContextSetting C) (k : KdcCalls D) where
         kind ≢ InsufficientMemory → ⊥
     delivery_refused mid kdc2 kind makes others =
         let error = makes.0 in
-        let turn = makes.2 in
+        let turn = makes.2.turn in
         let others2 : error.error_type ≢ InsufficientMemory = λ memory. others (sym makes.1 ∙ memory) in
-        let cause = deliver_cause mid error.error_type makes.3.cause others2 in
+        let cause = deliver_cause mid error.error_type makes.2.cause.kind others2 in
         let blob = peers 0 proof_text in
         let stops = subst (λ (x : Option (List ℕ)). BlobStops x error.error_type
         (λ b. BlobOpens c mid.noted mid.context b mid error.error_type)) given.proof cause in

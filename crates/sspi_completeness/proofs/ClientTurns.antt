@@ -164,21 +164,21 @@ module _ {C : Type 0} (c : Meaning ContextSetting C) (laws : IsContext c) where
           kind ≢ InsufficientMemory → Refusal mid kdc2 kind
       refusal mid kdc2 kind makes others =
           let error = makes.0 in
-          let turn = makes.2 in
-          let steps = makes.3.steps in
+          let takes = makes.2 in
+          let turn = takes.turn in
           let others2 : error.error_type ≢ InsufficientMemory = λ memory. others (sym makes.1 ∙ memory) in
-          let cause = nego_cause mid error.error_type makes.3.cause others2 in
+          let cause = nego_cause mid error.error_type takes.cause.kind others2 in
           let was = began mid.acts.status mid error.error_type refl turn.turn.shown.acts.answered cause in
-          let s = refused_at mid kdc2 mid.acts.status mid.acts.negotiated steps.asked error steps.replied was others2 steps.step in
+          let s = refused_at mid kdc2 mid.acts.status mid.acts.negotiated takes.asked error takes.replied was others2 takes.step in
           record {
-            turn = turn;
+            turn = subst (λ (e : ErrorKind). ClientTurn c old d (outcome.Refused e None) mid) makes.1 turn;
             left = s.1;
             cause = subst (λ (x : ErrorKind). NegoCause c (Some step.status) mid x) makes.1
                 (subst (λ (x : Option SecurityStatus). NegoCause c x mid error.error_type) s.0 cause);
           }
 
       never_ends : (mid : View) (kdc2 : D) (r : TsRequest) → ClientMakes c k old kdc d (outcome.Final r) mid kdc2 → ⊥
-      never_ends mid kdc2 r makes = let auth = makes.0.turn.shown.reply.state in let nego = given.is.state_is in cc
+      never_ends mid kdc2 r makes = let auth = makes.turn.turn.shown.reply.state in let nego = given.is.state_is in cc
 
       noted_now : (mid : View) → mid.noted ≡ noted_next c old d → mid.noted ≡ noted_at first w
       noted_now mid noted = noted ∙ ap (noted_in old.context old.settings.least old.noted) given.version ∙ given.is.notes
@@ -192,10 +192,10 @@ module _ {C : Type 0} (c : Meaning ContextSetting C) (laws : IsContext c) where
           Holds c mid.context y
           × (mid.handle ≡ handle) × After kdc2
       token_replied w2 mid kdc2 r goes peer takes makes =
-          let turn = makes.0 in
+          let turn = makes.turn in
           let frame = client_frame c old mid in
           let t = client_turn c d (outcome.Reply r) mid in
-          let s = replied_at mid kdc2 mid.acts.status makes.1.asked r makes.1.replied turn.turn.shown.reply makes.1.step in
+          let s = replied_at mid kdc2 mid.acts.status makes.asked r makes.replied turn.turn.shown.reply makes.step in
           let status : mid.acts.status ≡ Some statuses.ContinueNeeded = s.0 ∙ ap Some goes in
           let token : ShowsToken (client_shown frame) t r = subst
           (λ (x : Option SecurityStatus). ShowsNego (client_shown frame) t x r) status turn.turn.shown.reply in
@@ -247,10 +247,10 @@ module _ {C : Type 0} (c : Meaning ContextSetting C) (laws : IsContext c) where
               pub_key_auth = Some (blob 0 (prescribed Client w a.settings.nonce a.settings.public_key));
             }) × ClientIs c a mid w false AuthInfo 1 0 × Holds c mid.context y × After kdc2
         proof_replied mid kdc2 r ends makes =
-            let turn = makes.0 in
+            let turn = makes.turn in
             let frame = client_frame c old mid in
             let t = client_turn c d (outcome.Reply r) mid in
-            let s = replied_at mid kdc2 mid.acts.status makes.1.asked r makes.1.replied turn.turn.shown.reply makes.1.step in
+            let s = replied_at mid kdc2 mid.acts.status makes.asked r makes.replied turn.turn.shown.reply makes.step in
             let status : mid.acts.status ≡ Some statuses.Ok = s.0 ∙ ap Some ends in
             let proof : ShowsProof (client_shown frame) t r =
             subst (λ (x : Option SecurityStatus). ShowsNego (client_shown frame) t x r) status turn.turn.shown.reply in

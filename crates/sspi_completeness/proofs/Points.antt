@@ -19,6 +19,7 @@ use Rattle.sspi_credssp.specs.declared.turn.Turn.{Turn}
 use Rattle.sspi_delegate.specs.Chain.{KdcCalls}
 use Rattle.sspi_delegate.specs.Causes.{one_of, turns_of}
 use Rattle.sspi_delegate.specs.Turns.{onto_client, onto_server, client_turns, server_turns, other, next_end, GoesOn, AllGoOn, Alternates}
+use Rattle.sspi_delegate.proofs.Histories.{server_asks}
 use Rattle.sspi_delegate.specs.History.{ClientMakes, ClientMade, ClientHistory, ServerMakes, ServerMade, ServerHistory}
 use Rattle.sspi_delegate.specs.Log.{IsDelivered, Logged}
 use Rattle.sspi_completeness.specs.Matching.{AreWholePast}
@@ -148,7 +149,8 @@ module _ {C D P : Type 0} (c : Meaning ContextSetting C) (k : KdcCalls D) (p : P
       let before = proxy_same history.0 past history.1 in
       let made = history.2 in
       subst (λ (v : SView). ProxySame v) (sym made.rest)
-      (record { told_same = made.proxy.told_same ∙ before.told_same; counted = omega (arith, made.proxy.faults_stay, before.counted) })
+      (let asks = server_asks c p history.0 made.mid t.delivered t.outcome made.makes in
+      record { told_same = asks.told_same ∙ before.told_same; counted = omega (arith, asks.faults_stay, before.counted) })
 
   -- the proxy has no fault in the exchange
   pub record IsCalmAt (y : SView) : Type 0 where
@@ -161,7 +163,8 @@ module _ {C D P : Type 0} (c : Meaning ContextSetting C) (k : KdcCalls D) (p : P
       record { still = ap (λ (v : SView). p.faults v.proxy) (sym same) ∙ calm.still; few = calm.few }
   calm_before t x x2 kdc kdc2 y y2 (by_server e made same same_kdc) proxy calm =
       let rest : p.faults y2.proxy ≡ p.faults made.mid.proxy = ap (λ (v : SView). p.faults v.proxy) made.rest in
-      record { still = omega (arith, rest, made.proxy.faults_stay, proxy.counted, calm.still); few = calm.few }
+      let asks = server_asks c p y made.mid t.delivered t.outcome made.makes in
+      record { still = omega (arith, rest, asks.faults_stay, proxy.counted, calm.still); few = calm.few }
 
   module _ (last : ℕ) (identity : AuthIdentity) (known : IsKnown last identity) where
     -- the ends between two turns that went on: before the client's turn of a round, or the server's
@@ -204,11 +207,12 @@ module _ {C D P : Type 0} (c : Meaning ContextSetting C) (k : KdcCalls D) (p : P
         (known.server_ends i y made.mid t.delivered t.outcome is server given made.makes))
     server_turned base log t past x2 kdc2 y y2 i false is client server count given e made proxy calm =
         let rest : p.faults y2.proxy ≡ p.faults made.mid.proxy = ap (λ (v : SView). p.faults v.proxy) made.rest in
-        let still : p.faults made.mid.proxy ≡ p.faults y.proxy = omega (arith, rest, made.proxy.faults_stay, proxy.counted, calm.still) in
+        let asks = server_asks c p y made.mid t.delivered t.outcome made.makes in
+        let still : p.faults made.mid.proxy ≡ p.faults y.proxy = omega (arith, rest, asks.faults_stay, proxy.counted, calm.still) in
         server_turn i is e count (client is)
         (subst (λ (v : SView). Comes t.outcome (λ r. (r ≡ known.down i) × known.ServerAt (known.next i) v)) (sym made.rest)
         (known.server_goes i y made.mid t.delivered t.outcome is server given proxy.told_same still
-        (omega (arith, rest, made.proxy.faults_stay, proxy.counted, calm.still, calm.few)) made.makes))
+        (omega (arith, rest, asks.faults_stay, proxy.counted, calm.still, calm.few)) made.makes))
 
     pub turned : (base : List Carried) (t : Turn) (past : List Turn) (log : List Carried) (x x2 : CView) (kdc kdc2 : D) (y y2 : SView) →
         Stands past x kdc y →

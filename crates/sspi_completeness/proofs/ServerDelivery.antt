@@ -45,7 +45,7 @@ module _ {C P : Type 0} (c : Meaning ContextSetting C) (laws : IsContext c) (p :
     never_replies : (mid : View) (r : TsRequest) → ServerMakes c p old d (outcome.Reply r) mid → ⊥
     never_replies mid r makes =
         subst (λ (s : CredSspState). ShowsStateBack (server_shown (server_frame c old mid)) (server_turn c d (outcome.Reply r) mid) s r)
-        given.is.state_is makes.0.turn.shown.reply
+        given.is.state_is makes.turn.turn.shown.reply
 
     held_now : (mid : View) → OnceNegotiated old.state (SameBut c old.context mid.context) → Holds c mid.context z
     held_now mid bare = holds_still c old.context mid.context z (bare_at old.state _ given.is.state_is bare) given.holds
@@ -58,7 +58,7 @@ module _ {C P : Type 0} (c : Meaning ContextSetting C) (laws : IsContext c) (p :
     gives : (mid : View) (identity2 : AuthIdentity) → ServerMakes c p old d outcome.Finished mid →
         HoldsIdentity c mid.context d.auth_info identity2 → identity2 ≡ identity
     gives mid identity2 makes holds =
-        let h = held_now mid makes.0.moves.bare in
+        let h = held_now mid makes.1.turn.0.moves.bare in
         identity_of h.held identity2 h.same
         (subst (λ (f : Option (List ℕ)). HoldsIdentity c (Some h.held) f identity2) given.field
         (subst (λ (o : Option C). HoldsIdentity c o d.auth_info identity2) h.there holds))
@@ -77,10 +77,10 @@ module _ {C P : Type 0} (c : Meaning ContextSetting C) (laws : IsContext c) (p :
         ServerMakes c p old d (outcome.Refused kind reply) mid → kind ≢ InsufficientMemory → ⊥
     delivery_refused mid kind reply makes others =
         let error = makes.0 in
-        let turn = makes.2 in
+        let turn = makes.2.turn in
         let others2 : error.error_type ≢ InsufficientMemory = λ memory. others (sym makes.1 ∙ memory) in
         let cause = cause_past c laws p b old mid w d AuthInfo 1 1 error.error_type given.is given.version
-        (λ none. absurd (cc (none, given.holds.there))) makes.3.cause others2 in
+        (λ none. absurd (cc (none, given.holds.there))) makes.2.cause.kind others2 in
         let at_blob = subst (λ (f : Option (List ℕ)). BlobStops f error.error_type
         (λ blob. OpenedCause c mid.acts.opened mid.context blob error.error_type)) given.field cause in
         let later = stops_later _ InvalidToken error.error_type _ (given.taker.long 1 text) at_blob in

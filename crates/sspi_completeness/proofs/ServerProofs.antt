@@ -137,7 +137,7 @@ module _ {C P : Type 0} (c : Meaning ContextSetting C) (laws : IsContext c) (p :
       proof_replied : (mid : View) (r : TsRequest) → ServerMakes c p old d (outcome.Reply r) mid →
           (r ≡ answer) × ServerIs c b mid w AuthInfo 1 1 × Holds c mid.context z
       proof_replied mid r makes =
-          let turn = makes.0 in
+          let turn = makes.turn in
           let proof : ShowsProofBack (server_shown (server_frame c old mid)) (server_turn c d (outcome.Reply r) mid) r =
           subst (λ (s : CredSspState). ShowsStateBack (server_shown (server_frame c old mid)) (server_turn c d (outcome.Reply r) mid) s r)
           is.state_is turn.turn.shown.reply in
@@ -156,10 +156,10 @@ module _ {C P : Type 0} (c : Meaning ContextSetting C) (laws : IsContext c) (p :
       proof_refused : (mid : View) (kind : ErrorKind) (reply : Option TsRequest) →
           ServerMakes c p old d (outcome.Refused kind reply) mid → kind ≢ InsufficientMemory → ⊥
       proof_refused mid kind reply makes others =
-          let turn = makes.2 in
+          let turn = makes.2.turn in
           let others2 : makes.0.error_type ≢ InsufficientMemory = λ memory. others (sym makes.1 ∙ memory) in
           let cause = cause_past c laws p b old mid w d PubKeyInfo 0 0 makes.0.error_type is version
-          (λ none. absurd (cc (none, holds.there))) makes.3.cause others2 in
+          (λ none. absurd (cc (none, holds.there))) makes.2.cause.kind others2 in
           let h = held_now mid turn.moves.bare in
           let sealed = (counts_alone mid turn.moves.counts).0 in
           let opened = (counts_alone mid turn.moves.counts).1 in
@@ -173,7 +173,7 @@ module _ {C P : Type 0} (c : Meaning ContextSetting C) (laws : IsContext c) (p :
           rw (unchecked, unopened mid _ turn) refl in omega (arith, opened, opened_before, none)) cause
 
       proof_ends : (mid : View) → ServerMakes c p old d outcome.Finished mid → ⊥
-      proof_ends mid makes = let auth = makes.0.turn.shown.reply.0 in let at = is.state_is in cc
+      proof_ends mid makes = let auth = makes.1.turn.0.turn.shown.reply.0 in let at = is.state_is in cc
 
       pub proof_turn : (out : Outcome) (mid : View) → ServerMakes c p old d out mid →
           Comes out (λ r. (r ≡ answer) × ServerIs c b mid w AuthInfo 1 1 × Holds c mid.context z)
@@ -215,7 +215,7 @@ module _ {C P : Type 0} (c : Meaning ContextSetting C) (laws : IsContext c) (p :
         let left = over_left c laws p b old w d step y handle given mid over done in (
           record { held = left.held; there = left.there; same = named_is c laws (p.told old.proxy) y z left.held peer left.comes },
           left.output_is,
-          noted_now c laws p b old w d step y handle given mid left.held left.there makes.0.moves.noted,
+          noted_now c laws p b old w d step y handle given mid left.held left.there makes.turn.moves.noted,
         )
 
     -- and it answers the client's proof so
@@ -233,7 +233,7 @@ module _ {C P : Type 0} (c : Meaning ContextSetting C) (laws : IsContext c) (p :
       exchange_replied : (mid : View) (r : TsRequest) → ServerMakes c p old d (outcome.Reply r) mid →
           (r ≡ answer b old w d z own peers proof_given) × ServerIs c b mid w AuthInfo 1 1 × Holds c mid.context z
       exchange_replied mid r makes =
-          let turn = makes.0 in
+          let turn = makes.turn in
           let frame = server_frame c old mid in
           let t = server_turn c d (outcome.Reply r) mid in
           let proof : ShowsProofBack (server_shown frame) t r = over_shows mid r makes _ proof_given.proof in
@@ -292,7 +292,7 @@ module _ {C P : Type 0} (c : Meaning ContextSetting C) (laws : IsContext c) (p :
           (r ≡ record d { version = b.settings.version; nego_tokens = Some step.output }) × ServerIs c b mid w PubKeyInfo 0 0 ×
           Holds c mid.context z
       over_replied mid r makes =
-          let turn = makes.0 in
+          let turn = makes.turn in
           let frame = server_frame c old mid in
           let t = server_turn c d (outcome.Reply r) mid in
           let s = replies c laws p b old w d step y handle given mid r makes in

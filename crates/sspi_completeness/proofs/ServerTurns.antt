@@ -139,12 +139,13 @@ module _ {C P : Type 0} (c : Meaning ContextSetting C) (laws : IsContext c) (p :
     replies mid r makes =
         let frame = server_frame c old mid in
         let t = server_turn c d (outcome.Reply r) mid in
-        let answer = subst (λ (s : CredSspState). ShowsStateBack (server_shown frame) t s r) given.is.state_is makes.0.turn.shown.reply in
-        let status = out mid mid.acts.status r answer makes.1 in
+        let answer = subst (λ (s : CredSspState). ShowsStateBack (server_shown frame) t s r) given.is.state_is
+        makes.turn.turn.shown.reply in
+        let status = out mid mid.acts.status r answer makes.step in
         record {
           status_is = status;
           answer = subst (λ (x : Option SecurityStatus). ShowsNegoBack (server_shown frame) t x r) status answer;
-          done = subst (λ (x : Option SecurityStatus). DoneStep c p x old d mid) status makes.1;
+          done = subst (λ (x : Option SecurityStatus). DoneStep c p x old d mid) status makes.step;
         }
 
     pub over_left : (mid : View) → IsOver (Some step.status) → DoneStep c p (Some step.status) old d mid → Leaves mid Completed
@@ -152,7 +153,7 @@ module _ {C P : Type 0} (c : Meaning ContextSetting C) (laws : IsContext c) (p :
         (over_done step.status old d mid over done)).1
 
     pub never_finishes : (mid : View) → ServerMakes c p old d outcome.Finished mid → ⊥
-    never_finishes mid makes = let auth = makes.0.turn.shown.reply.0 in let nego = given.is.state_is in cc
+    never_finishes mid makes = let auth = makes.1.turn.0.turn.shown.reply.0 in let nego = given.is.state_is in cc
 
     began : (status : Option SecurityStatus) (mid : View) (kind : ErrorKind) → mid.acts.status ≡ status →
         (IsSome mid.acts.status → mid.acts.negotiated ≡ true) →
@@ -170,15 +171,15 @@ module _ {C P : Type 0} (c : Meaning ContextSetting C) (laws : IsContext c) (p :
         ServerMakes c p old d (outcome.Refused kind reply) mid → kind ≢ InsufficientMemory → Refusal mid kind reply
     refusal mid kind reply still calm makes others =
         let error = makes.0 in
-        let turn = makes.2 in
+        let turn = makes.2.turn in
         let others2 : error.error_type ≢ InsufficientMemory = λ memory. others (sym makes.1 ∙ memory) in
         let cause = cause_past b old mid w d NegoToken 0 0 error.error_type given.is given.version
-        (λ none h. given.begins old.proxy mid.proxy error.error_type still calm h) makes.3.cause others2 in
+        (λ none h. given.begins old.proxy mid.proxy error.error_type still calm h) makes.2.cause.kind others2 in
         let was = began mid.acts.status mid error.error_type refl turn.turn.shown.acts.answered cause in
         let status = refused_at c laws p old d.nego_tokens step y handle given.takes mid mid.acts.status mid.acts.negotiated error was
-        others2 makes.3.step in
+        others2 makes.2.step in
         record {
-          turn = turn;
+          turn = subst (λ (e : ErrorKind). ServerTurn c old d (outcome.Refused e reply) mid) makes.1 turn;
           cause = subst (λ (x : ErrorKind). NegoCause c p (Some step.status) old d mid x) makes.1
               (subst (λ (x : Option SecurityStatus). NegoCause c p x old d mid error.error_type) status cause);
         }
@@ -189,7 +190,7 @@ module _ {C P : Type 0} (c : Meaning ContextSetting C) (laws : IsContext c) (p :
         (r ≡ record d { version = b.settings.version; nego_tokens = Some step.output }) × ServerIs c b mid w NegoToken 0 0 ×
         Holds c mid.context y × (mid.handle ≡ handle)
     token_replied mid r goes makes =
-        let turn = makes.0 in
+        let turn = makes.turn in
         let s = replies mid r makes in
         let answer = subst (λ (x : SecurityStatus). ShowsNegoBack (server_shown (server_frame c old mid))
         (server_turn c d (outcome.Reply r) mid) (Some x) r) goes s.answer in

@@ -122,8 +122,8 @@ module _ {K P : Type 0} (k : Meaning Setting K) (p : ProxyMeaning P) where
       IsFreshServer first → GoesOn out →
       ServerMakes (either 0 ntlm_meaning k) p first d out mid → mid.acts.checked ≡ true → ⊥
   first_checks first mid d (outcome.Reply reply) ntlm fresh went makes checked =
-      first_not_over first mid d mid.acts.status ntlm fresh.context makes.1
-      (nego_check first.state mid.acts.status fresh.state (makes.0.turn.shown.acts.checked checked).0)
+      first_not_over first mid d mid.acts.status ntlm fresh.context makes.step
+      (nego_check first.state mid.acts.status fresh.state (makes.turn.turn.shown.acts.checked checked).0)
   first_checks first mid d (outcome.Final reply) ntlm fresh went makes checked = makes
   first_checks first mid d outcome.Finished ntlm fresh went makes checked = went
   first_checks first mid d (outcome.Refused kind reply) ntlm fresh went makes checked = went

@@ -34,7 +34,7 @@ use Rattle.sspi_delegate.specs.History.{ClientMakes, ClientHistory, ClientLeft, 
 use Rattle.sspi_delegate.specs.History.{ServerMakes, ServerHistory, ServerPast}
 use Rattle.sspi_delegate.specs.History as history
 use Rattle.sspi_delegate.proofs.Alternating.{others_go, rest_unrefused}
-use Rattle.sspi_delegate.proofs.Histories.{client_stopped_history, server_past_history}
+use Rattle.sspi_delegate.proofs.Histories.{client_stopped_history, server_makes_alone, server_past_history}
 use Rattle.sspi_delegate.proofs.HistoryRuns.{history_follows, history_ran, history_proxy, server_history_follows, server_history_ran}
 
 on_context : {C : Type 0} (context : Option C) (P Q : C → Type 0) → ((m : C) → P m → Q m) → IfContext context P → IfContext context Q
@@ -129,20 +129,18 @@ module _ {C : Type 0} (c : Meaning ContextSetting C) where
         ClientMovedBy c k first mid.acts.negotiated mid.acts.status came d.nego_tokens mid.output (client_stage old kdc)
         (client_stage mid kdc2)
     client_moved old mid kdc kdc2 d (outcome.Reply reply) same makes =
-        client_replied old mid kdc kdc2 d reply makes.1.asked mid.acts.negotiated mid.acts.status same makes.1.replied
-        makes.0.turn.shown.acts.answered
-        makes.0.turn.shown.reply makes.1.step
+        client_replied old mid kdc kdc2 d reply makes.asked mid.acts.negotiated mid.acts.status same makes.replied
+        makes.turn.turn.shown.acts.answered makes.turn.turn.shown.reply makes.step
     client_moved old mid kdc kdc2 d (outcome.Final reply) same makes =
-        client_ended old mid kdc kdc2 d reply makes.1.asked mid.acts.negotiated mid.acts.status refl makes.0 makes.1.replied makes.1.unasked
+        client_ended old mid kdc kdc2 d reply makes.asked mid.acts.negotiated mid.acts.status refl makes.turn makes.replied makes.unasked
     client_moved old mid kdc kdc2 d outcome.Finished same makes = absurd makes
     client_moved old mid kdc kdc2 d (outcome.Refused kind None) same makes =
-        let error = makes.0 in
-        let steps = makes.3.steps in
+        let takes = makes.2 in
         subst (λ (e : _). ClientMovedBy c k first mid.acts.negotiated mid.acts.status (outcome.Refused e None) d.nego_tokens mid.output
         (client_stage old kdc) (client_stage mid kdc2))
         makes.1
-        (client_stopped old mid kdc kdc2 d error steps.asked mid.acts.negotiated mid.acts.status refl same
-        (subst (λ (e : _). ClientTurn c old d (outcome.Refused e None) mid) (sym makes.1) makes.2) steps.replied steps.unasked steps.step)
+        (client_stopped old mid kdc kdc2 d makes.0 takes.asked mid.acts.negotiated mid.acts.status refl same takes.turn takes.replied
+        takes.unasked takes.step)
     client_moved old mid kdc kdc2 d (outcome.Refused kind (Some reply)) same makes = absurd makes
 
     module _ (law : IsContext c) (fresh : IsFreshClient first) where
@@ -177,7 +175,7 @@ module _ {C : Type 0} (c : Meaning ContextSetting C) where
           let same = (history_follows c law k first old kdc kdc1 turns fresh went h).ran.same in
           waiting (client_stage old kdc1) d.nego_tokens way.question way.asked_by went
           (client_chained old kdc kdc1 turns (others_go turns went) h)
-          (client_stepped old now kdc1 way.asked_by d way.steps.asked (Ask way.question) same way.steps.replied way.steps.step) way.lost
+          (client_stepped old now kdc1 way.asked_by d way.takes.asked (Ask way.question) same way.takes.replied way.takes.step) way.lost
 
       stops_chained : (now : ClientView C) (kdc kdc2 : D) (turns : List Turn) (error : DelegateError) → OthersGoOn turns →
           ClientStops c k first kdc error turns now kdc2 → ClientChained c k first kdc (Err error) turns (client_stage now kdc2)
@@ -333,17 +331,16 @@ module _ {C : Type 0} (c : Meaning ContextSetting C) where
           accept.MakesAlone c p old mid → ServerMakes c p old d came mid →
           ServerMovedBy c p first mid.acts.negotiated mid.acts.status came d.nego_tokens mid.output (server_stage old) (server_stage mid)
       server_moved old mid d (outcome.Reply reply) same entries alone makes =
-          server_replied old mid d reply mid.acts.negotiated mid.acts.status refl same entries alone makes.0 makes.0.turn.shown.reply refl
-          makes.1
+          server_replied old mid d reply mid.acts.negotiated mid.acts.status refl same entries alone makes.turn
+          makes.turn.turn.shown.reply refl makes.step
       server_moved old mid d (outcome.Final reply) same entries alone makes = absurd makes
       server_moved old mid d outcome.Finished same entries alone makes =
-          server_finished old mid d mid.acts.negotiated mid.acts.status refl same entries alone makes.0
+          server_finished old mid d mid.acts.negotiated mid.acts.status refl same entries alone makes.1.turn.0
       server_moved old mid d (outcome.Refused kind reply) same entries alone makes =
           subst (λ (e : _). ServerMovedBy c p first mid.acts.negotiated mid.acts.status (outcome.Refused e reply) d.nego_tokens mid.output
           (server_stage old) (server_stage mid))
           makes.1
-          (server_stopped old mid d makes.0 reply mid.acts.negotiated mid.acts.status refl same entries alone
-          (subst (λ (e : _). ServerTurn c old d (outcome.Refused e reply) mid) (sym makes.1) makes.2) makes.3.step)
+          (server_stopped old mid d makes.0 reply mid.acts.negotiated mid.acts.status refl same entries alone makes.2.turn makes.2.step)
 
       module _ (law : IsContext c) (fresh : IsFreshServer first) where
         pub server_chained : (now : ServerView C P) (turns : List Turn) → OthersUnrefused turns → ServerHistory c p first turns now →
@@ -364,7 +361,8 @@ module _ {C : Type 0} (c : Meaning ContextSetting C) where
                     (subst (λ (v : ServerView C P). ServerMovedBy c p first made.mid.acts.negotiated made.mid.acts.status t.outcome
                     t.delivered.nego_tokens made.mid.output
                     (server_stage h.0) (server_stage v)) (sym made.rest)
-                    (server_moved h.0 made.mid t.delivered t.outcome same entries made.made made.makes));
+                    (server_moved h.0 made.mid t.delivered t.outcome same entries
+                    (server_makes_alone c p h.0 made.mid t.delivered t.outcome made.makes) made.makes));
                 sealings = ran.made;
                 unsealings = ran.opened;
               },

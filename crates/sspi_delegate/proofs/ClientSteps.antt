@@ -1,6 +1,6 @@
 -- One more turn of a client: what holds of its turns so far holds of them with this one.
 use Rattle.std.proofs.Common.{◌≡◌, ℕ, ◌+◌, Bool, true, false, ◌&&◌, List, [], ◌∷◌, sym, ◌∙◌, ap, subst, refl, Option, None, Some}
-use Rattle.std.proofs.Common.{is_some, IsSome, Ok, add-zero, if◌then◌else◌}
+use Rattle.std.proofs.Common.{is_some, IsSome, add-zero, if◌then◌else◌}
 use Rattle.sspi_types.specs.declared.security_status.SecurityStatus.{SecurityStatus}
 use Rattle.sspi_types.specs.declared.security_status.SecurityStatus.TheVariants as statuses
 use Rattle.sspi_mech.specs.Context.{IsContext}
@@ -18,15 +18,12 @@ use Rattle.sspi_names.specs.declared.credentials.CredentialsBuffers.{Credentials
 use Rattle.sspi_mech.specs.declared.step.Answer.{Answer}
 use Rattle.sspi_mech.specs.declared.step.Answer.TheVariants.{Done}
 use Rattle.sspi_mech.specs.declared.step.Step.{Step}
-use Rattle.sspi_credssp.specs.declared.client_state.ClientState.TheVariants.{ReplyNeeded}
-use Rattle.sspi_credssp.specs.declared.client_state.Progress.TheVariants.{Completed}
 use Rattle.sspi_credssp.specs.Context.{IfContext, ContextSetting}
 use Rattle.sspi_credssp.specs.Noted.{noted_in, noted_with}
 use Rattle.sspi_credssp.specs.Turn.{ClientFrame, UnlessRefused, FitsNoted, OnceNegotiated, ShowsClientActs, ShowsNego, client_shown}
 use Rattle.sspi_delegate.specs.EndRun.{ClientEnd, client_end, client_state, client_noted, has_turn, client_frame_at, EachClientTurn}
 use Rattle.sspi_delegate.specs.EndRun.{ClientRan, HasBegun, ClientFollows}
 use Rattle.sspi_delegate.specs.Turns.{made_in, opened_in, is_replied, is_ended, any_proved, any_ended, OthersGoOn, GoesOn, AllGoOn}
-use Rattle.sspi_delegate.specs.History.{StepsSo}
 use Rattle.sspi_credssp.proofs.Counting.{counted_by}
 use Rattle.sspi_delegate.proofs.Alternating.{others_go}
 use Rattle.sspi_delegate.proofs.ClientOver.{client_over}
@@ -277,20 +274,18 @@ module _ {C : Type 0} (c : Meaning ContextSetting C) where
   waits_same law (Some m) (Some m2) same = sym (law.waits_counted m2 (silent (c.counts m2))) ∙ ap c.waits same ∙ law.waits_counted m
       (silent (c.counts m))
 
-  pub client_replied : (law : IsContext c) (replies : List Asked → Type 0) (first old new : ClientView C) (past : List Turn)
-      (d : TsRequest) (reply : TsRequest) →
-      ClientFollows c first old past → ClientTurn c old d (outcome.Reply reply) new →
-      StepsSo c replies old d (Ok (Completed (ReplyNeeded reply))) new →
-      ClientFollows c first new (client_turn c d (outcome.Reply reply) new ∷ past)
-  client_replied law replies first old new past d reply follows turn steps = record {
+  pub client_replied : (law : IsContext c) (first old new : ClientView C) (past : List Turn) (d : TsRequest) (reply : TsRequest)
+      (asked : List Asked) → ClientFollows c first old past → ClientTurn c old d (outcome.Reply reply) new →
+      DoneStep c new.acts.status old d 0 asked new → ClientFollows c first new (client_turn c d (outcome.Reply reply) new ∷ past)
+  client_replied law first old new past d reply asked follows turn step = record {
     ran = client_turned law first old new past d (outcome.Reply reply) follows turn;
     state = turn.moves.state
         ∙ replied_state (client_frame c old new) (client_turn c d (outcome.Reply reply) new) past reply follows.state refl
         turn.turn.shown.reply;
     noted = turn.moves.noted_going ∙ noted_of first old new (client_turn c d (outcome.Reply reply) new) past follows turn.moves.same;
     begun = turn.moves.begun;
-    idle = idle_in law old d steps.asked new.acts.status new (client_frame c old new)
-        (client_turn c d (outcome.Reply reply) new) reply turn.turn.shown.reply steps.step;
+    idle = idle_in law old d asked new.acts.status new (client_frame c old new)
+        (client_turn c d (outcome.Reply reply) new) reply turn.turn.shown.reply step;
     going = (tt, follows.going);
   }
 

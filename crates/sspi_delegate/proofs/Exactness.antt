@@ -1,6 +1,6 @@
 -- The turns and the log of an exchange leave one answer.
 use Rattle.std.proofs.Common.{◌≡◌, ℕ, ◌+◌, inl, inr, true, false, List, [], ◌∷◌, length, sym, ◌∙◌, ap, refl, arith, Option, None, Some}
-use Rattle.std.proofs.Common.{Result, Ok, Err}
+use Rattle.std.proofs.Common.{Result, Ok, Err, IsOk}
 use Rattle.sspi_types.specs.declared.error_kind.ErrorKind.{ErrorKind}
 use Rattle.sspi_types.specs.declared.error_kind.ErrorKind.TheVariants as kinds
 use Rattle.sspi_ber.specs.declared.wire_kind.WireKind.{WireKind}
@@ -17,7 +17,7 @@ use Rattle.sspi_credssp.specs.declared.turn.Outcome.TheVariants.{Reply, Final, F
 use Rattle.sspi_credssp.specs.declared.turn.Turn.{Turn}
 use Rattle.sspi_delegate.specs.Causes.{NewestIs, IsClientRefusal, IsServerRefusal, IsFinished, MessageFits, NewestFits, TurnLeft, turns_of}
 use Rattle.sspi_delegate.specs.Causes.{for_a_turn, for_a_message, by_the_client, by_the_server}
-use Rattle.sspi_delegate.specs.Causes.{RunEnds, IsOnly, IsAnswerOf, IsClientError, IsServerError, IsOk, Exactly}
+use Rattle.sspi_delegate.specs.Causes.{RunEnds, IsOnly, IsAnswerOf, IsClientError, IsServerError, Exactly}
 use Rattle.sspi_delegate.specs.Log.{is_taken, Logged, LoggedButLast, OpenFor, UnreadFor, IsUnreadable, IsFault}
 use Rattle.sspi_delegate.specs.Turns.{other, next_end, GoesOn, AllGoOn}
 use Rattle.sspi_credssp.specs.Turn.{message_of}
@@ -158,19 +158,18 @@ spent_apart limit turns next spent left = absurd (omega (arith, spent, left next
 -- ---- the answers
 
 module _ (base : List Carried) (start limit : ℕ) where
-  only_ok : (result : Result Delegation DelegateError) (turns : List Turn) (log : List Carried) (now : ℕ) →
-      RunEnds base start limit result turns log now → NewestIs Server IsFinished turns → IsOk result
-  only_ok (Ok delegation) turns log now ends newest = tt
-  only_ok (Err (errors.Client error)) turns log now ends newest =
+  never_err : (error : DelegateError) (turns : List Turn) (log : List Carried) (now : ℕ) →
+      RunEnds base start limit (Err error) turns log now → NewestIs Server IsFinished turns → ⊥
+  never_err (errors.Client error) turns log now ends newest =
       newest_ends (IsClientRefusal error.error_type) IsFinished turns ends.cause.1 newest
-  only_ok (Err (errors.Server error)) turns log now ends newest =
+  never_err (errors.Server error) turns log now ends newest =
       newest_apart Server (IsServerRefusal error.error_type) IsFinished (server_refusal_finished error.error_type) turns ends.cause.1 newest
-  only_ok (Err (errors.Read end kind)) turns log now ends newest =
+  never_err (errors.Read end kind) turns log now ends newest =
       newest_goes_apart Server IsFinished finished_goes turns newest ends.cause.0
-  only_ok (Err (errors.Write end)) turns log now ends newest = newest_goes_apart Server IsFinished finished_goes turns newest ends.cause.0
-  only_ok (Err errors.LinkFault) turns log now ends newest = newest_goes_apart Server IsFinished finished_goes turns newest ends.cause.0
-  only_ok (Err errors.TurnsSpent) turns log now ends newest = newest_goes_apart Server IsFinished finished_goes turns newest ends.cause.0
-  only_ok (Err errors.InsufficientMemory) turns log now ends newest = elim ends.cause [
+  never_err (errors.Write end) turns log now ends newest = newest_goes_apart Server IsFinished finished_goes turns newest ends.cause.0
+  never_err errors.LinkFault turns log now ends newest = newest_goes_apart Server IsFinished finished_goes turns newest ends.cause.0
+  never_err errors.TurnsSpent turns log now ends newest = newest_goes_apart Server IsFinished finished_goes turns newest ends.cause.0
+  never_err errors.InsufficientMemory turns log now ends newest = elim ends.cause [
     | for_a_turn going left entries within calm ↦ newest_goes_apart Server IsFinished finished_goes turns newest going
     | for_a_message going entries fit calm ↦ newest_goes_apart Server IsFinished finished_goes turns newest going
     | by_the_client refusal entries calm ↦ newest_ends (IsClientRefusal kinds.InsufficientMemory) IsFinished turns refusal newest
@@ -178,6 +177,11 @@ module _ (base : List Carried) (start limit : ℕ) where
         newest_apart Server (IsServerRefusal kinds.InsufficientMemory) IsFinished (server_refusal_finished kinds.InsufficientMemory) turns
         refusal newest
   ]
+
+  only_ok : (result : Result Delegation DelegateError) (turns : List Turn) (log : List Carried) (now : ℕ) →
+      RunEnds base start limit result turns log now → NewestIs Server IsFinished turns → IsOk result
+  only_ok (Ok delegation) turns log now ends newest = refl
+  only_ok (Err error) turns log now ends newest = absurd (never_err error turns log now ends newest)
 
   refused_client_goes : (kind : ErrorKind) (turns : List Turn) → NewestIs Client (IsClientRefusal kind) turns → AllGoOn turns → ⊥
   refused_client_goes kind turns newest going = newest_goes_apart Client (IsClientRefusal kind) (client_refusal_goes kind) turns

@@ -1,10 +1,13 @@
 -- What follows from the runs of both ends.
 use Rattle.std.proofs.Common.{◌≡◌, ◌≤◌, ℕ, ◌+◌, Bool, true, false, ◌||◌, ◌&&◌, ◌⊎◌, inl, inr, List, [], ◌∷◌, sym, ◌∙◌, ap, refl, arith}
 use Rattle.std.proofs.Common.{Result, Ok, Err, OnOk, if◌then◌else◌}
+use Rattle.std.proofs.lemmas.Bool.{true≢false}
 use Rattle.sspi_mech.specs.Meaning.{Meaning}
 use Rattle.sspi_credssp.specs.declared.state.CredSspState.TheVariants.{NegoToken, PubKeyInfo, AuthInfo, Final}
+use Rattle.sspi_credssp.specs.declared.acts.Acts.{Acts}
 use Rattle.sspi_credssp.specs.Acts.{count_of}
 use Rattle.sspi_credssp.specs.Context.{ContextSetting}
+use Rattle.sspi_credssp.specs.Requests.{is_code}
 use Rattle.sspi_credssp.specs.Turn.{ClientFrame, ServerFrame, ShowsAnswer, ShowsClientActs, ShowsReply, client_shown, server_shown}
 use Rattle.sspi_delegate.specs.declared.answer.Delegation.{Delegation}
 use Rattle.sspi_delegate.specs.declared.answer.DelegateError.{DelegateError}
@@ -20,7 +23,7 @@ use Rattle.sspi_delegate.specs.EndRun.{ClientEnd, ServerEnd, client_frame_at, Ea
 use Rattle.sspi_delegate.specs.EndRun.{EachServerTurn}
 use Rattle.sspi_delegate.specs.Turns.{onto_client, onto_server, client_turns, server_turns, is_replied, is_ended, any_ended, any_proved}
 use Rattle.sspi_delegate.specs.Turns.{any_finished, OthersGoOn, GoesOn, AllGoOn, Alternates}
-use Rattle.sspi_delegate.specs.Headline.{sealed_turns, NeverSeals, SealsAfterProof, any_exchange, HasExchanged}
+use Rattle.sspi_delegate.specs.Headline.{EachHeedsServer, sealed_turns, SealsAfterProof, any_exchange, HasExchanged}
 use Rattle.sspi_delegate.specs.Log.{HasLog}
 use Rattle.sspi_delegate.proofs.Alternating.{others_go}
 use Rattle.sspi_delegate.proofs.ClientSteps.{state_auth, reply_state}
@@ -47,6 +50,10 @@ sealed_split (t ∷ past) =
     ap (λ (n : ℕ). n + count_of t.acts.sealed) (sealed_split past)
     ∙ sym (split_by t.end t (client_turns past) (server_turns past))
 
+abbrev NeverSeals : List Turn → Type 0
+NeverSeals [] = Unit {0}
+NeverSeals (t ∷ past) = (t.acts.sealed ≡ false) × NeverSeals past
+
 never_seals : (past : List Turn) → NeverSeals past → sealed_of past ≡ 0
 unfolding sealed_of
 never_seals [] never = refl
@@ -69,9 +76,13 @@ module _ {C : Type 0} (c : Meaning ContextSetting C) where
         unsealed_before e past each.1 went.1 s.1,
       )
 
-  pub server_never_seals : (e : ServerEnd C) (past : List Turn) → EachServerTurn c e past → NeverSeals past
-  server_never_seals e [] each = tt
-  server_never_seals e (t ∷ past) each = (each.0.shown.acts.sealed, server_never_seals e past each.1)
+  server_unsealed : (e : ServerEnd C) (past : List Turn) → EachServerTurn c e past → NeverSeals past
+  server_unsealed e [] each = tt
+  server_unsealed e (t ∷ past) each = (each.0.shown.acts.sealed, server_unsealed e past each.1)
+
+  pub server_never_seals : (e : ServerEnd C) (past : List Turn) → EachServerTurn c e past → sealed_turns past ≡ 0
+  server_never_seals e [] each = refl
+  server_never_seals e (t ∷ past) each = rw (server_never_seals e past each.1, each.0.shown.acts.sealed) refl
 
   sealed_last : (e : ClientEnd C) (t : Turn) (past : List Turn) (sealed : Bool) → t.acts.sealed ≡ sealed → EachClientTurn c e (t ∷ past) →
       AllGoOn past →
@@ -92,13 +103,21 @@ module _ {C : Type 0} (c : Meaning ContextSetting C) where
       OthersGoOn (client_turns turns) →
       EachServerTurn c e2 (server_turns turns) → sealed_turns turns ≤ 1
   sealed_once e e2 turns client went server =
-      rw (sealed_split turns, never_seals (server_turns turns) (server_never_seals e2 (server_turns turns) server))
+      rw (sealed_split turns, never_seals (server_turns turns) (server_unsealed e2 (server_turns turns) server))
       (omega (arith, client_once e (client_turns turns) client went))
 
-  pub seals_after_proof : (e : ClientEnd C) (past : List Turn) → EachClientTurn c e past → SealsAfterProof c e past
-  seals_after_proof e [] each = tt
-  seals_after_proof e (t ∷ past) each =
-      ((λ was. ((each.0.shown.acts.checked (each.0.shown.acts.sealed was)).0, each.0.held.sealed was)), seals_after_proof e past each.1)
+  pub seals_after_proof : (e : ClientEnd C) (least : ℕ) (past : List Turn) → EachClientTurn c e past → EachHeedsServer c least past →
+      SealsAfterProof c e past
+  seals_after_proof e least [] each heeds = tt
+  seals_after_proof e least (t ∷ past) each heeds = (
+    (λ was. (
+      (each.0.shown.acts.checked (each.0.shown.acts.sealed was)).0,
+      is_false (is_code t.delivered.error_code) (λ told.
+          true≢false (sym was ∙ ap (λ (a : Acts). a.sealed) (heeds.0.told told))),
+      each.0.held.sealed was,
+    )),
+    seals_after_proof e least past each.1 heeds.1,
+  )
 
   -- ---- the exchange before the credentials
 

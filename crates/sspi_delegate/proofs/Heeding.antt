@@ -1,31 +1,31 @@
 -- Each turn of a run is refused for the age of its peer's version exactly where it finds one.
-use Rattle.std.proofs.Common.{◌≡◌, ℕ, ◌<◌, List, [], ◌∷◌, Bool, true, false, Option, None, Some, IsSome, Result, refl, sym}
-use Rattle.std.proofs.Common.{◌∙◌, ap, subst, nat_lt, if◌then◌else◌}
-use Rattle.std.proofs.lemmas.Bool.{ltb-true, lt-ltb, true≢false}
+use Rattle.std.proofs.Common.{◌≡◌, ℕ, ◌<◌, List, [], ◌∷◌, length, Bool, true, false, not, Option, None, Some, IsSome, Result, Err}
+use Rattle.std.proofs.Common.{refl, sym, ◌∙◌, ap, subst, nat_lt, if◌then◌else◌, arith}
+use Rattle.std.proofs.lemmas.Bool.{eq-eqb, ltb-true, lt-ltb, true≢false}
 use Rattle.sspi_types.specs.declared.error.Error.{Error}
 use Rattle.sspi_mech.specs.Context.{IsContext}
 use Rattle.sspi_mech.specs.Meaning.{Meaning}
 use Rattle.sspi_tsreq.specs.declared.request.TsRequest.{TsRequest}
-use Rattle.sspi_credssp.specs.declared.server_state.ServerState.{ServerState}
 use Rattle.sspi_credssp.specs.declared.turn.Outcome.{Outcome}
 use Rattle.sspi_credssp.specs.declared.turn.Outcome.TheVariants as outcome
 use Rattle.sspi_credssp.specs.declared.turn.Turn.{Turn}
 use Rattle.sspi_credssp.specs.Ends.{ClientSettings, ClientView, IsFreshClient, ServerSettings, ServerView, IsFreshServer}
+use Rattle.sspi_credssp.specs.Acts.{no_acts, is_waiting_in}
+use Rattle.sspi_credssp.specs.ClientCall.{ClientKeeps}
 use Rattle.sspi_credssp.specs.ClientTurn.{client_turn}
 use Rattle.sspi_credssp.specs.Context.{ContextSetting}
-use Rattle.sspi_credssp.specs.Noted.{is_old, is_old_in, noted_with}
+use Rattle.sspi_credssp.specs.Noted.{is_old, is_old_in, differs, is_altered_in, noted_with}
 use Rattle.sspi_credssp.specs.Proxy.{ProxyMeaning}
 use Rattle.sspi_credssp.specs.ServerTurn.{server_turn}
-use Rattle.sspi_credssp.specs.Turn.{AtNoted}
-use Rattle.sspi_credssp.proofs.ClientHeeding.{client_met}
-use Rattle.sspi_credssp.proofs.ServerHeeding.{server_met}
+use Rattle.sspi_credssp.specs.Requests.{is_code}
+use Rattle.sspi_credssp.specs.Turn.{AtNoted, UnlessRefused, FitsNoted}
 use Rattle.sspi_delegate.specs.declared.answer.Delegation.{Delegation}
 use Rattle.sspi_delegate.specs.declared.answer.DelegateError.{DelegateError}
 use Rattle.sspi_delegate.specs.Chain.{KdcCalls}
 use Rattle.sspi_delegate.specs.EndRun.{ClientEnd, client_end, ServerEnd, server_end, client_noted, EachClientTurn, HasBegun, ClientFollows}
 use Rattle.sspi_delegate.specs.EndRun.{server_noted, EachServerTurn, ServerFollows}
 use Rattle.sspi_delegate.specs.Turns.{OthersGoOn, OthersUnrefused, GoesOn, AllGoOn, IsUnrefused, NoneRefused}
-use Rattle.sspi_delegate.specs.Headline.{is_first, is_second, IsDowngrade, FindsOldServer, FindsOldClient, HeedsServer, HeedsClient}
+use Rattle.sspi_delegate.specs.Headline.{IsDowngrade, FindsOldServer, FindsOldClient, HeedsServer, HeedsClient}
 use Rattle.sspi_delegate.specs.Headline.{EachHeedsServer, EachHeedsClient}
 use Rattle.sspi_delegate.specs.History.{ClientMakes, ClientHistory, ClientLeft, between, waiting, ClientPast, ServerMakes}
 use Rattle.sspi_delegate.specs.History.{ServerHistory, ServerPast}
@@ -76,19 +76,52 @@ first_in : {C : Type 0} (context : Option C) (least : ℕ) (noted : Option ℕ) 
 first_in None least noted version none old = absurd (cc (old))
 first_in (Some m) least noted version none old = rw none at old
 
+-- a turn that was not refused
+went_fact : (out : Outcome) (Q : Type 0) → GoesOn out → UnlessRefused out Q → Q
+went_fact (outcome.Reply reply) Q went h = h
+went_fact (outcome.Final reply) Q went h = h
+went_fact outcome.Finished Q went h = absurd went
+went_fact (outcome.Refused kind reply) Q went h = absurd went
+
+unrefused_fact : (out : Outcome) (Q : Type 0) → IsUnrefused out → UnlessRefused out Q → Q
+unrefused_fact (outcome.Reply reply) Q un h = h
+unrefused_fact (outcome.Final reply) Q un h = h
+unrefused_fact outcome.Finished Q un h = h
+unrefused_fact (outcome.Refused kind reply) Q un h = absurd un
+
+fits_same : (noted : Option ℕ) (version : ℕ) → FitsNoted true noted version → differs noted version ≡ true → ⊥
+fits_same None version fits altered = absurd fits
+fits_same (Some n) version fits altered = true≢false (sym altered ∙ ap not (eq-eqb n version (sym fits)))
+
+altered_in : {C : Type 0} (context : Option C) (noted : Option ℕ) (version : ℕ) → IsSome context → differs noted version ≡ true →
+    is_altered_in context noted version ≡ true
+altered_in None noted version begun altered = absurd (cc (begun))
+altered_in (Some m) noted version begun altered = altered
+
 module _ {C : Type 0} (c : Meaning ContextSetting C) where
   -- ---- a client's turns
 
-  second_noted : (least : ℕ) (t : Turn) (past : List Turn) → (is_second past ≡ true → IsSome (client_noted least (t ∷ past))) →
+  -- a turn that went on was told no error, and no other version than the noted one
+  went_untold : (e : ClientEnd C) (t : Turn) (past : List Turn) → EachClientTurn c e (t ∷ past) → GoesOn t.outcome →
+      is_code t.delivered.error_code ≡ true → ⊥
+  went_untold e t past each went told = true≢false (sym told ∙ went_fact t.outcome _ went each.0.shown.code)
+
+  went_same : (e : ClientEnd C) (t : Turn) (past : List Turn) → EachClientTurn c e (t ∷ past) → GoesOn t.outcome →
+      differs (client_noted e.settings.least past) t.delivered.version ≡ true → ⊥
+  went_same e t [] each went altered = absurd (cc (altered))
+  went_same e t (u ∷ []) each went altered = absurd (cc (altered))
+  went_same e t (u ∷ v ∷ past) each went altered =
+      fits_same (client_noted e.settings.least (u ∷ v ∷ past)) t.delivered.version (went_fact t.outcome _ went each.0.shown.version) altered
+
+  second_noted : (least : ℕ) (t : Turn) (past : List Turn) → (length past ≡ 1 → IsSome (client_noted least (t ∷ past))) →
       FindsOldServer least past t → ⊥
-  second_noted least t [] noted found = let s = found.second in absurd (cc (s))
+  second_noted least t [] noted found = absurd (omega (arith, found.second))
   second_noted least t (u ∷ []) noted found = young_noted least t.delivered.version (noted refl) found.old
-  second_noted least t (u ∷ v ∷ past) noted found = let s = found.second in absurd (cc (s))
+  second_noted least t (u ∷ v ∷ past) noted found = absurd (omega (arith, found.second))
 
   some_noted : (e : ClientEnd C) (t : Turn) (past : List Turn) → EachClientTurn c e (t ∷ past) → AllGoOn (t ∷ past) →
-      is_second past ≡ true →
-      IsSome (client_noted e.settings.least (t ∷ past))
-  some_noted e t [] each going second = absurd (cc (second))
+      length past ≡ 1 → IsSome (client_noted e.settings.least (t ∷ past))
+  some_noted e t [] each going second = absurd (omega (arith, second))
   some_noted e t (u ∷ past) each going second = noted_by_two c e t u past each going
 
   -- turns that went on
@@ -98,26 +131,44 @@ module _ {C : Type 0} (c : Meaning ContextSetting C) where
     record {
       refuses = λ found. absurd (second_noted e.settings.least t past (some_noted e t past each going) found);
       only = λ never is. absurd (goes_apart t.outcome going.0 is);
+      told = λ told. absurd (went_untold e t past each going.0 told);
+      altered = λ altered. absurd (went_same e t past each going.0 altered);
     },
     went_heeds e past each.1 going.1,
   )
 
   met_at : (old : ClientView C) (past : List Turn) (version : ℕ) → HasBegun c old.context past →
       old.noted ≡ client_noted old.settings.least past →
-      is_second past ≡ true → nat_lt version old.settings.least ≡ true → is_old_in old.context old.settings.least old.noted version ≡ true
-  met_at old [] version begun noted second below = absurd (cc (second))
+      length past ≡ 1 → nat_lt version old.settings.least ≡ true → is_old_in old.context old.settings.least old.noted version ≡ true
+  met_at old [] version begun noted second below = absurd (omega (arith, second))
   met_at old (u ∷ []) version begun noted second below = old_in old.context old.settings.least old.noted version begun noted below
-  met_at old (u ∷ v ∷ past) version begun noted second below = absurd (cc (second))
+  met_at old (u ∷ v ∷ past) version begun noted second below = absurd (omega (arith, second))
 
   found_at : (old : ClientView C) (past : List Turn) (version : ℕ) → HasBegun c old.context past →
       old.noted ≡ client_noted old.settings.least past →
       EachClientTurn c (client_end old) past → AllGoOn past → is_old_in old.context old.settings.least old.noted version ≡ true →
-      (is_second past ≡ true) × (nat_lt version old.settings.least ≡ true)
+      (length past ≡ 1) × (nat_lt version old.settings.least ≡ true)
   found_at old [] version begun noted each going met = absurd (true≢false (sym met ∙ rw begun refl))
   found_at old (u ∷ []) version begun noted each going met = (refl, first_in old.context old.settings.least old.noted version noted met)
   found_at old (u ∷ v ∷ past) version begun noted each going met =
       absurd (young_in old.context old.settings.least old.noted version
       (rw noted (noted_by_two c (client_end old) u v past each going)) met)
+
+  altered_at : (old : ClientView C) (past : List Turn) (version : ℕ) → HasBegun c old.context past →
+      old.noted ≡ client_noted old.settings.least past →
+      differs (client_noted old.settings.least past) version ≡ true → is_altered_in old.context old.noted version ≡ true
+  altered_at old [] version begun noted altered = absurd (cc (altered))
+  altered_at old (u ∷ past) version begun noted altered = altered_in old.context old.noted version begun (rw noted altered)
+
+  refused_told : (old mid : ClientView C) (d : TsRequest) (error : Error) → is_waiting_in c old.context ≡ false →
+      ClientKeeps c old d (Err error) mid → is_code d.error_code ≡ true → mid.acts ≡ no_acts
+  refused_told old mid d error idle kept told = ap (λ (v : ClientView C). v.acts) (kept.code idle told).0.1
+
+  refused_altered : (code : Bool) (old mid : ClientView C) (d : TsRequest) (error : Error) → is_code d.error_code ≡ code →
+      is_waiting_in c old.context ≡ false → ClientKeeps c old d (Err error) mid →
+      is_altered_in old.context old.noted d.version ≡ true → mid.acts ≡ no_acts
+  refused_altered true old mid d error is idle kept altered = refused_told old mid d error idle kept is
+  refused_altered false old mid d error is idle kept altered = ap (λ (v : ClientView C). v.acts) (kept.altered idle is altered).1
 
   module _ (law : IsContext c) where
     module _ {D : Type 0} (k : KdcCalls D) where
@@ -133,17 +184,20 @@ module _ {C : Type 0} (c : Meaning ContextSetting C) where
           (went_heeds (client_end mid) (client_turn c d (outcome.Final reply) mid ∷ past) after.ran.each after.going).0
       newest_heeds first old mid kdc kdc2 past d outcome.Finished follows makes same = absurd makes
       newest_heeds first old mid kdc kdc2 past d (outcome.Refused kind None) follows makes same =
-          let error : Error = makes.0 in
-          let why = makes.3 in
+          let takes = makes.2 in
           record {
-            refuses = λ found. sym makes.1 ∙ why.heeds (record {
+            refuses = λ found. sym makes.1 ∙ (takes.heeded.refuses (record {
               idle = follows.idle;
               code = found.code;
               old = met_at old past d.version follows.begun follows.noted found.second
                   (lt-ltb d.version old.settings.least (rw (← same) found.old));
-            });
+            })).0;
+            told = refused_told old mid d makes.0 follows.idle takes.kept;
+            altered = λ altered. refused_altered (is_code d.error_code) old mid d makes.0 refl follows.idle takes.kept
+                (altered_at old past d.version follows.begun follows.noted
+                (subst (λ (n : ℕ). differs (client_noted n past) d.version ≡ true) same altered));
             only = λ never is.
-                let met = client_met c never old d 0 why.steps.asked error mid why.cause why.steps.step (makes.1 ∙ is) in
+                let met = takes.heeded.only never (makes.1 ∙ is) in
                 let found = found_at old past d.version follows.begun follows.noted follows.ran.each follows.going met.old in
                 record { second = found.0; code = met.code; old = rw same (ltb-true d.version old.settings.least found.1) };
           }
@@ -170,7 +224,7 @@ module _ {C : Type 0} (c : Meaning ContextSetting C) where
       left_heeds first now kdc kdc2 turns fresh others (between h) = history_heeds first now kdc kdc2 turns fresh others h
       left_heeds first now kdc kdc2 turns fresh others (waiting old kdc1 d went h way) =
           let ran = client_underway c law first old now turns d
-          (history_follows c law k first old kdc kdc1 turns fresh went h) way.underway in
+          (history_follows c law k first old kdc kdc1 turns fresh went h) way.takes.turn.0 in
           went_heeds (client_end now) turns ran.each went
 
       pub client_past_heeds : (first now : ClientView C) (kdc kdc2 : D) (turns : List Turn) (result : Result Delegation DelegateError) →
@@ -184,7 +238,13 @@ module _ {C : Type 0} (c : Meaning ContextSetting C) where
   first_noted : (context : Option C) (least : ℕ) (t : Turn) (past : List Turn) → IsSome (server_noted least (t ∷ past)) →
       FindsOldClient context least past t → ⊥
   first_noted context least t [] noted found = young_noted least t.delivered.version noted found.old
-  first_noted context least t (u ∷ past) noted found = let s = found.first in absurd (cc (s))
+  first_noted context least t (u ∷ past) noted found = absurd (omega (arith, found.first))
+
+  went_same_client : (e : ServerEnd C) (t : Turn) (past : List Turn) → EachServerTurn c e (t ∷ past) → IsUnrefused t.outcome →
+      differs (server_noted e.settings.least past) t.delivered.version ≡ true → ⊥
+  went_same_client e t [] each un altered = absurd (cc (altered))
+  went_same_client e t (u ∷ past) each un altered =
+      fits_same (server_noted e.settings.least (u ∷ past)) t.delivered.version (unrefused_fact t.outcome _ un each.0.shown.version) altered
 
   went_heeds_client : (context : Option C) (e : ServerEnd C) (past : List Turn) → EachServerTurn c e past → NoneRefused past →
       EachHeedsClient c context e.settings.least past
@@ -193,19 +253,19 @@ module _ {C : Type 0} (c : Meaning ContextSetting C) where
     record {
       refuses = λ found. absurd (first_noted context e.settings.least t past (noted_by_one c e t past each going) found);
       only = λ never is. absurd (unrefused_apart t.outcome going.0 is);
+      altered = λ altered. absurd (went_same_client e t past each going.0 altered);
     },
     went_heeds_client context e past each.1 going.1,
   )
 
   met_first : {P : Type 0} (old : ServerView C P) (past : List Turn) (version : ℕ) → old.noted ≡ server_noted old.settings.least past →
-      is_first past ≡ true →
-      nat_lt version old.settings.least ≡ true → is_old old.settings.least old.noted version ≡ true
+      length past ≡ 0 → nat_lt version old.settings.least ≡ true → is_old old.settings.least old.noted version ≡ true
   met_first old [] version noted first below = rw noted below
-  met_first old (u ∷ past) version noted first below = absurd (cc (first))
+  met_first old (u ∷ past) version noted first below = absurd (omega (arith, first))
 
   found_first : {P : Type 0} (old : ServerView C P) (past : List Turn) (version : ℕ) → old.noted ≡ server_noted old.settings.least past →
       EachServerTurn c (server_end old) past → NoneRefused past → is_old old.settings.least old.noted version ≡ true →
-      (is_first past ≡ true) × (nat_lt version old.settings.least ≡ true)
+      (length past ≡ 0) × (nat_lt version old.settings.least ≡ true)
   found_first old [] version noted each going met = (refl, rw noted at met)
   found_first old (u ∷ past) version noted each going met =
       absurd (young_in (Some old) old.settings.least old.noted version (rw noted (noted_by_one c (server_end old) u past each going)) met)
@@ -221,23 +281,24 @@ module _ {C : Type 0} (c : Meaning ContextSetting C) where
     newest_heeds_client first old mid past d (outcome.Final reply) follows makes same = absurd makes
     newest_heeds_client first old mid past d outcome.Finished follows makes same =
         let t : Turn = server_turn c d outcome.Finished mid in
-        let ran = server_turned c law first old mid past d outcome.Finished follows makes.0 in
+        let ran = server_turned c law first old mid past d outcome.Finished follows makes.1.turn.0 in
         record {
           refuses = λ found. absurd (first_noted mid.context mid.settings.least t past
               (at_some (server_noted mid.settings.least (t ∷ past)) _ ran.each.0.shown.version) found);
           only = λ never is. absurd is;
+          altered = λ altered. absurd (went_same_client (server_end mid) t past ran.each tt altered);
         }
     newest_heeds_client first old mid past d (outcome.Refused kind reply) follows makes same =
-        let error : Error = makes.0 in
-        let why = makes.3 in
+        let call = makes.2 in
         record {
-          refuses = λ found. sym makes.1 ∙ why.heeds (record {
+          refuses = λ found. sym makes.1 ∙ (call.heeded.refuses (record {
             begun = found.begun;
             old = met_first old past d.version follows.noted found.first (lt-ltb d.version old.settings.least (rw (← same) found.old));
-          });
+          })).0;
+          altered = λ altered. ap (λ (v : ServerView C P). v.acts) (call.kept.altered (rw follows.noted
+              (subst (λ (n : ℕ). differs (server_noted n past) d.version ≡ true) same altered))).1;
           only = λ never is.
-              let met = server_met c never p ServerState old d error mid (λ some. (makes.2.moves.handle some).1) why.cause why.step
-              (makes.1 ∙ is) in
+              let met = call.heeded.only never (makes.1 ∙ is) in
               let found = found_first old past d.version follows.noted follows.ran.each follows.unrefused met.old in
               record { first = found.0; begun = met.begun; old = rw same (ltb-true d.version old.settings.least found.1) };
         }

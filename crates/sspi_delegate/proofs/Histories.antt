@@ -1,16 +1,16 @@
 -- One more turn in the history of an end.
-use Rattle.std.proofs.Common.{◌≡◌, ap, refl, List, [], ◌∷◌, Option, None, Result, Ok, Err}
+use Rattle.std.proofs.Common.{◌≡◌, ap, refl, List, [], ◌∷◌, None, Result, Ok, Err}
 use Rattle.sspi_types.specs.declared.error.Error.{Error}
 use Rattle.sspi_mech.specs.Meaning.{Meaning}
 use Rattle.sspi_names.specs.declared.identity.AuthIdentity.{AuthIdentity}
 use Rattle.sspi_tsreq.specs.declared.request.TsRequest.{TsRequest}
 use Rattle.sspi_credssp.specs.Ends.{ClientView, ServerView}
-use Rattle.sspi_credssp.specs.ClientTurn.{ClientTurn}
 use Rattle.sspi_credssp.specs.Context.{ContextSetting}
 use Rattle.sspi_credssp.specs.Proxy.{ProxyMeaning, IsAsked, HasAsked, calls_in}
 use Rattle.sspi_credssp.specs.declared.server_state.ServerError.{ServerError}
+use Rattle.sspi_credssp.specs.declared.server_state.ServerState.TheVariants as ends
 use Rattle.sspi_credssp.specs.ServerCall.{ServerCall}
-use Rattle.sspi_credssp.specs.ServerTurn.{DoneStep, MakesAlone, ServerTurn, HoldsIdentity}
+use Rattle.sspi_credssp.specs.ServerTurn.{MakesAlone}
 use Rattle.sspi_credssp.specs.Turn.{UnlessRefused}
 use Rattle.sspi_delegate.specs.declared.answer.Delegation.{Delegation}
 use Rattle.sspi_delegate.specs.declared.answer.DelegateError.{DelegateError}
@@ -21,8 +21,8 @@ use Rattle.sspi_credssp.specs.declared.turn.Outcome.TheVariants as outcome
 use Rattle.sspi_credssp.specs.declared.turn.Turn.{Turn}
 use Rattle.sspi_delegate.specs.Chain.{KdcCalls}
 use Rattle.sspi_delegate.specs.Turns.{client_turns, server_turns}
-use Rattle.sspi_delegate.specs.History.{ClientMakes, ClientHistory, ClientStopped, ClientLeft, between, ClientPast, ServerMakes}
-use Rattle.sspi_delegate.specs.History.{ServerRefuses, ServerHistory, ServerGave, ServerStopped, ServerPast, ClientRefuses}
+use Rattle.sspi_delegate.specs.History.{ClientTakes, ClientMakes, ClientHistory, ClientStopped, ClientLeft, between, ClientPast}
+use Rattle.sspi_delegate.specs.History.{ServerMakes, ServerHistory, ServerGave, ServerStopped, ServerPast}
 use Rattle.sspi_delegate.specs.Rounds.{newest_alone}
 use Rattle.sspi_delegate.specs.LogKeeping.{recorded}
 
@@ -37,10 +37,10 @@ module _ {C D : Type 0} (c : Meaning ContextSetting C) (k : KdcCalls D) where
   pub client_stopped : (first old mid new : ClientView C) (kdc_first kdc kdc2 : D) (d : TsRequest) (error : Error)
       (turns turns2 : List Turn) →
       ClientHistory c k first kdc_first (client_turns turns) old kdc →
-      ClientTurn c old d (outcome.Refused error.error_type None) mid × ClientRefuses c (λ asked. k.replies kdc asked kdc2) old d error mid →
+      ClientTakes c k old kdc d (Err error) mid kdc2 →
       new ≡ record mid { output = [] } → turns2 ≡ recorded Client d mid.acts mid.output (outcome.Refused error.error_type None) ∷ turns →
       ClientStopped c k first kdc_first error (client_turns turns2) new kdc2
-  client_stopped first old mid new kdc_first kdc kdc2 d error turns turns2 history turn rest is = record {
+  client_stopped first old mid new kdc_first kdc kdc2 d error turns turns2 history takes rest is = record {
     old = old;
     kdc1 = kdc;
     mid = mid;
@@ -48,8 +48,7 @@ module _ {C D : Type 0} (c : Meaning ContextSetting C) (k : KdcCalls D) where
     past = client_turns turns;
     newest = ap client_turns is;
     before = history;
-    turn = turn.0;
-    refuses = turn.1;
+    takes = takes;
     rest = rest;
   }
 
@@ -62,11 +61,11 @@ module _ {C D : Type 0} (c : Meaning ContextSetting C) (k : KdcCalls D) where
       client_made old old mid new kdc kdc kdc2 d out [] (newest_alone turns2) (refl, refl) makes rest (ap newest_alone is)
 
   pub client_stopped_alone : (old mid new : ClientView C) (kdc kdc2 : D) (d : TsRequest) (error : Error) (turns turns2 : List Turn) →
-      ClientTurn c old d (outcome.Refused error.error_type None) mid × ClientRefuses c (λ asked. k.replies kdc asked kdc2) old d error mid →
+      ClientTakes c k old kdc d (Err error) mid kdc2 →
       new ≡ record mid { output = [] } → turns2 ≡ recorded Client d mid.acts mid.output (outcome.Refused error.error_type None) ∷ turns →
       ClientStopped c k old kdc error (client_turns (newest_alone turns2)) new kdc2
-  client_stopped_alone old mid new kdc kdc2 d error turns turns2 turn rest is =
-      client_stopped old old mid new kdc kdc kdc2 d error [] (newest_alone turns2) (refl, refl) turn rest (ap newest_alone is)
+  client_stopped_alone old mid new kdc kdc2 d error turns turns2 takes rest is =
+      client_stopped old old mid new kdc kdc kdc2 d error [] (newest_alone turns2) (refl, refl) takes rest (ap newest_alone is)
 
   -- a turn that was refused is one of the history
   pub client_stopped_history : (first now : ClientView C) (kdc kdc2 : D) (error : Error) (turns : List Turn) →
@@ -75,7 +74,7 @@ module _ {C D : Type 0} (c : Meaning ContextSetting C) (k : KdcCalls D) where
     s.old,
     s.kdc1,
     s.before,
-    record { mid = s.mid; turn = refl; makes = (error, refl, s.turn, s.refuses); rest = s.rest },
+    record { mid = s.mid; turn = refl; makes = (error, refl, s.takes); rest = s.rest },
   )
 
   -- whatever the answer, its turns are a history, but for a turn in which it may wait
@@ -93,104 +92,86 @@ module _ {C D : Type 0} (c : Meaning ContextSetting C) (k : KdcCalls D) where
 
 module _ {C : Type 0} (c : Meaning ContextSetting C) where
   module _ {P : Type 0} (p : ProxyMeaning P) where
+    -- how often the turn asked the proxy, and exactly so often, of no call that it tells it fails, where it was not refused
+    pub server_asks : (old mid : ServerView C P) (d : TsRequest) (out : Outcome) → ServerMakes c p old d out mid →
+        IsAsked p (calls_in old mid.acts.status) old.proxy mid.proxy
+    server_asks old mid d (outcome.Reply reply) makes = makes.proxy.at_most
+    server_asks old mid d (outcome.Final reply) makes = absurd makes
+    server_asks old mid d outcome.Finished makes = makes.1.proxy.at_most
+    server_asks old mid d (outcome.Refused kind reply) makes = makes.2.proxy.at_most
+
+    pub server_asked : (old mid : ServerView C P) (d : TsRequest) (out : Outcome) → ServerMakes c p old d out mid →
+        UnlessRefused out (HasAsked p (calls_in old mid.acts.status) old.proxy mid.proxy)
+    server_asked old mid d (outcome.Reply reply) makes = makes.proxy.exactly
+    server_asked old mid d (outcome.Final reply) makes = absurd makes
+    server_asked old mid d outcome.Finished makes = makes.1.proxy.exactly
+    server_asked old mid d (outcome.Refused kind reply) makes = tt
+
+    pub server_makes_alone : (old mid : ServerView C P) (d : TsRequest) (out : Outcome) → ServerMakes c p old d out mid →
+        MakesAlone c p old mid
+    server_makes_alone old mid d (outcome.Reply reply) makes = makes.kept.made
+    server_makes_alone old mid d (outcome.Final reply) makes = absurd makes
+    server_makes_alone old mid d outcome.Finished makes = makes.1.kept.made
+    server_makes_alone old mid d (outcome.Refused kind reply) makes = makes.2.kept.made
+
     pub server_made : (first old mid new : ServerView C P) (d : TsRequest) (out : Outcome) (turns turns2 : List Turn) →
-        ServerHistory c p first (server_turns turns) old → ServerMakes c p old d out mid → MakesAlone c p old mid →
-        IsAsked p (calls_in old mid.acts.status) old.proxy mid.proxy →
-        UnlessRefused out (HasAsked p (calls_in old mid.acts.status) old.proxy mid.proxy) →
+        ServerHistory c p first (server_turns turns) old → ServerMakes c p old d out mid →
         new ≡ record mid { output = [] } → turns2 ≡ recorded Server d mid.acts mid.output out ∷ turns →
         ServerHistory c p first (server_turns turns2) new
-    server_made first old mid new d out turns turns2 history makes alone proxy asked rest is =
-        rw is (old, history, record { mid = mid; turn = refl; makes = makes; made = alone; proxy = proxy; asked = asked; rest = rest })
+    server_made first old mid new d out turns turns2 history makes rest is =
+        rw is (old, history, record { mid = mid; turn = refl; makes = makes; rest = rest })
 
     pub server_gave : (first old mid new : ServerView C P) (d : TsRequest) (identity : AuthIdentity) (turns turns2 : List Turn) →
-        ServerHistory c p first (server_turns turns) old →
-        ServerTurn c old d outcome.Finished mid × HoldsIdentity c mid.context d.auth_info identity →
-        DoneStep c p mid.acts.status old d mid →
-        MakesAlone c p old mid → IsAsked p (calls_in old mid.acts.status) old.proxy mid.proxy →
-        HasAsked p (calls_in old mid.acts.status) old.proxy mid.proxy →
+        ServerHistory c p first (server_turns turns) old → ServerCall c p old d (Ok (ends.Finished identity)) mid →
         new ≡ record mid { output = [] } → turns2 ≡ recorded Server d mid.acts mid.output outcome.Finished ∷ turns →
         ServerGave c p first identity (server_turns turns2) new
-    server_gave first old mid new d identity turns turns2 history turn step alone proxy asked rest is = (
-      server_made first old mid new d outcome.Finished turns turns2 history (turn.0, step, identity, turn.1) alone proxy asked rest is,
-      rw (is, rest) turn.1,
-    )
+    server_gave first old mid new d identity turns turns2 history call rest is =
+        (server_made first old mid new d outcome.Finished turns turns2 history (identity, call) rest is, rw (is, rest) call.turn.1)
 
-    pub server_stopped : (first old mid new : ServerView C P) (d : TsRequest) (error : Error) (reply : Option TsRequest)
-        (turns turns2 : List Turn) →
-        ServerHistory c p first (server_turns turns) old →
-        ServerTurn c old d (outcome.Refused error.error_type reply) mid → ServerRefuses c p old d error mid → MakesAlone c p old mid →
-        IsAsked p (calls_in old mid.acts.status) old.proxy mid.proxy →
-        new ≡ record mid { output = [] } → turns2 ≡ recorded Server d mid.acts mid.output (outcome.Refused error.error_type reply) ∷ turns →
-        ServerStopped c p first error (server_turns turns2) new
-    server_stopped first old mid new d error reply turns turns2 history turn refuses alone proxy rest is = record {
+    pub server_stopped : (first old mid new : ServerView C P) (d : TsRequest) (refusal : ServerError) (turns turns2 : List Turn) →
+        ServerHistory c p first (server_turns turns) old → ServerCall c p old d (Err refusal) mid →
+        new ≡ record mid { output = [] } →
+        turns2 ≡ recorded Server d mid.acts mid.output (outcome.Refused refusal.error.error_type refusal.ts_request) ∷ turns →
+        ServerStopped c p first refusal.error (server_turns turns2) new
+    server_stopped first old mid new d refusal turns turns2 history call rest is = record {
       old = old;
       mid = mid;
       d = d;
-      reply = reply;
+      reply = refusal.ts_request;
       past = server_turns turns;
       newest = ap server_turns is;
       before = history;
-      turn = turn;
-      refuses = refuses;
-      made = alone;
-      proxy = proxy;
+      call = call;
       rest = rest;
-    }
-
-    -- what a refused call says of its refusal
-    pub server_refuses : (old : ServerView C P) (d : TsRequest) (refusal : ServerError) (new : ServerView C P) →
-        ServerCall c p old d (Err refusal) new → ServerRefuses c p old d refusal.error new
-    server_refuses old d refusal new call = record {
-      cause = call.cause.kind;
-      heeds = λ met. (call.heeded.refuses met).0;
-      status = call.cause.codeless;
-      step = call.step;
     }
 
     -- the same of the newest turn alone
     pub server_alone : (old mid new : ServerView C P) (d : TsRequest) (out : Outcome) (turns turns2 : List Turn) →
-        ServerMakes c p old d out mid → MakesAlone c p old mid →
-        IsAsked p (calls_in old mid.acts.status) old.proxy mid.proxy →
-        UnlessRefused out (HasAsked p (calls_in old mid.acts.status) old.proxy mid.proxy) →
+        ServerMakes c p old d out mid →
         new ≡ record mid { output = [] } → turns2 ≡ recorded Server d mid.acts mid.output out ∷ turns →
         ServerHistory c p old (server_turns (newest_alone turns2)) new
-    server_alone old mid new d out turns turns2 makes alone proxy asked rest is =
-        server_made old old mid new d out [] (newest_alone turns2) refl makes alone proxy asked rest (ap newest_alone is)
+    server_alone old mid new d out turns turns2 makes rest is =
+        server_made old old mid new d out [] (newest_alone turns2) refl makes rest (ap newest_alone is)
 
     pub server_gave_alone : (old mid new : ServerView C P) (d : TsRequest) (identity : AuthIdentity) (turns turns2 : List Turn) →
-        ServerTurn c old d outcome.Finished mid × HoldsIdentity c mid.context d.auth_info identity →
-        DoneStep c p mid.acts.status old d mid →
-        MakesAlone c p old mid → IsAsked p (calls_in old mid.acts.status) old.proxy mid.proxy →
-        HasAsked p (calls_in old mid.acts.status) old.proxy mid.proxy →
+        ServerCall c p old d (Ok (ends.Finished identity)) mid →
         new ≡ record mid { output = [] } → turns2 ≡ recorded Server d mid.acts mid.output outcome.Finished ∷ turns →
         ServerGave c p old identity (server_turns (newest_alone turns2)) new
-    server_gave_alone old mid new d identity turns turns2 turn step alone proxy asked rest is =
-        server_gave old old mid new d identity [] (newest_alone turns2) refl turn step alone proxy asked rest (ap newest_alone is)
+    server_gave_alone old mid new d identity turns turns2 call rest is =
+        server_gave old old mid new d identity [] (newest_alone turns2) refl call rest (ap newest_alone is)
 
-    pub server_stopped_alone : (old mid new : ServerView C P) (d : TsRequest) (error : Error) (reply : Option TsRequest)
-        (turns turns2 : List Turn) →
-        ServerTurn c old d (outcome.Refused error.error_type reply) mid → ServerRefuses c p old d error mid → MakesAlone c p old mid →
-        IsAsked p (calls_in old mid.acts.status) old.proxy mid.proxy →
-        new ≡ record mid { output = [] } → turns2 ≡ recorded Server d mid.acts mid.output (outcome.Refused error.error_type reply) ∷ turns →
-        ServerStopped c p old error (server_turns (newest_alone turns2)) new
-    server_stopped_alone old mid new d error reply turns turns2 turn refuses alone proxy rest is =
-        server_stopped old old mid new d error reply [] (newest_alone turns2) refl turn refuses alone proxy rest (ap newest_alone is)
+    pub server_stopped_alone : (old mid new : ServerView C P) (d : TsRequest) (refusal : ServerError) (turns turns2 : List Turn) →
+        ServerCall c p old d (Err refusal) mid →
+        new ≡ record mid { output = [] } →
+        turns2 ≡ recorded Server d mid.acts mid.output (outcome.Refused refusal.error.error_type refusal.ts_request) ∷ turns →
+        ServerStopped c p old refusal.error (server_turns (newest_alone turns2)) new
+    server_stopped_alone old mid new d refusal turns turns2 call rest is =
+        server_stopped old old mid new d refusal [] (newest_alone turns2) refl call rest (ap newest_alone is)
 
     pub server_stopped_history : (first now : ServerView C P) (error : Error) (turns : List Turn) →
         ServerStopped c p first error turns now → ServerHistory c p first turns now
-    server_stopped_history first now error turns s = rw s.newest (
-      s.old,
-      s.before,
-      record {
-        mid = s.mid;
-        turn = refl;
-        makes = (error, refl, s.turn, s.refuses);
-        made = s.made;
-        proxy = s.proxy;
-        asked = tt;
-        rest = s.rest;
-      },
-    )
+    server_stopped_history first now error turns s =
+        rw s.newest (s.old, s.before, record { mid = s.mid; turn = refl; makes = (error, refl, s.call); rest = s.rest })
 
     pub server_past_history : (first now : ServerView C P) (turns : List Turn) (result : Result Delegation DelegateError) →
         ServerPast c p first result turns now → ServerHistory c p first turns now

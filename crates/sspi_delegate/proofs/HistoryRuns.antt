@@ -1,5 +1,6 @@
 -- What the history of a fresh end tells of its run, and of what it gave.
 use Rattle.std.proofs.Common.{sym, refl, subst, arith, List, [], ◌∷◌, None, Some, Result, Ok, Err, IfOk}
+use Rattle.sspi_types.specs.declared.error_kind.ErrorKind.{ErrorKind}
 use Rattle.sspi_mech.specs.Context.{IsContext}
 use Rattle.sspi_mech.specs.Meaning.{Meaning}
 use Rattle.sspi_tsreq.specs.declared.request.TsRequest.{TsRequest}
@@ -16,7 +17,7 @@ use Rattle.sspi_delegate.specs.Turns.{OthersGoOn, OthersUnrefused, GoesOn, AllGo
 use Rattle.sspi_delegate.specs.History.{ClientMakes, ClientHistory, ClientLeft, between, waiting, ClientPast, ServerMakes, ServerHistory}
 use Rattle.sspi_delegate.specs.History.{ServerPast, ProxyStays}
 use Rattle.sspi_delegate.proofs.ClientSteps.{client_fresh, client_turned, client_replied, client_ended, client_underway}
-use Rattle.sspi_delegate.proofs.Histories.{client_past_left, server_past_history}
+use Rattle.sspi_delegate.proofs.Histories.{client_past_left, server_asks, server_past_history}
 use Rattle.sspi_delegate.proofs.Refusing.{proxy_on, proxy_asked}
 use Rattle.sspi_delegate.proofs.ServerSteps.{server_fresh, server_turned, server_follows, server_finished}
 use Rattle.sspi_credssp.specs.declared.turn.Outcome.{Outcome}
@@ -40,18 +41,19 @@ module _ {C : Type 0} (c : Meaning ContextSetting C) (law : IsContext c) where
   module _ {D : Type 0} (k : KdcCalls D) where
     pub client_turn_of : (old mid : ClientView C) (kdc kdc2 : D) (d : TsRequest) (out : Outcome) →
         ClientMakes c k old kdc d out mid kdc2 → ClientTurn c old d out mid
-    client_turn_of old mid kdc kdc2 d (outcome.Reply reply) makes = makes.0
-    client_turn_of old mid kdc kdc2 d (outcome.Final reply) makes = makes.0
+    client_turn_of old mid kdc kdc2 d (outcome.Reply reply) makes = makes.turn
+    client_turn_of old mid kdc kdc2 d (outcome.Final reply) makes = makes.turn
     client_turn_of old mid kdc kdc2 d outcome.Finished makes = absurd makes
-    client_turn_of old mid kdc kdc2 d (outcome.Refused kind None) makes = makes.2
+    client_turn_of old mid kdc kdc2 d (outcome.Refused kind None) makes =
+        subst (λ (e : ErrorKind). ClientTurn c old d (outcome.Refused e None) mid) makes.1 makes.2.turn
     client_turn_of old mid kdc kdc2 d (outcome.Refused kind (Some reply)) makes = absurd makes
 
     pub client_went : (first old mid : ClientView C) (kdc kdc2 : D) (past : List Turn) (d : TsRequest) (out : Outcome) → GoesOn out →
         ClientFollows c first old past → ClientMakes c k old kdc d out mid kdc2 → ClientFollows c first mid (client_turn c d out mid ∷ past)
     client_went first old mid kdc kdc2 past d (outcome.Reply reply) went follows makes =
-        client_replied c law (λ asked. k.replies kdc asked kdc2) first old mid past d reply follows makes.0 makes.1
+        client_replied c law first old mid past d reply makes.asked follows makes.turn makes.step
     client_went first old mid kdc kdc2 past d (outcome.Final reply) went follows makes =
-        client_ended c law first old mid past d reply follows makes.0
+        client_ended c law first old mid past d reply follows makes.turn
     client_went first old mid kdc kdc2 past d outcome.Finished went follows makes = absurd went
     client_went first old mid kdc kdc2 past d (outcome.Refused kind reply) went follows makes = absurd went
 
@@ -82,7 +84,7 @@ module _ {C : Type 0} (c : Meaning ContextSetting C) (law : IsContext c) where
         ClientLeft c k first kdc turns now kdc2 → ClientRan c first now turns
     left_ran first now kdc kdc2 turns fresh others (between h) = history_ran first now kdc kdc2 turns fresh others h
     left_ran first now kdc kdc2 turns fresh others (waiting old kdc1 d went h way) =
-        client_underway c law first old now turns d (history_follows first old kdc kdc1 turns fresh went h) way.underway
+        client_underway c law first old now turns d (history_follows first old kdc kdc1 turns fresh went h) way.takes.turn.0
 
     pub client_past_ran : (first now : ClientView C) (kdc kdc2 : D) (turns : List Turn) (result : Result Delegation DelegateError) →
         IsFreshClient first → OthersGoOn turns → ClientPast c k first kdc result turns now kdc2 → ClientRan c first now turns
@@ -103,17 +105,19 @@ module _ {C : Type 0} (c : Meaning ContextSetting C) (law : IsContext c) where
 
     pub server_turn_of : (old mid : ServerView C P) (d : TsRequest) (out : Outcome) → ServerMakes c p old d out mid →
         ServerTurn c old d out mid
-    server_turn_of old mid d (outcome.Reply reply) makes = makes.0
+    server_turn_of old mid d (outcome.Reply reply) makes = makes.turn
     server_turn_of old mid d (outcome.Final reply) makes = absurd makes
-    server_turn_of old mid d outcome.Finished makes = makes.0
-    server_turn_of old mid d (outcome.Refused kind reply) makes = makes.2
+    server_turn_of old mid d outcome.Finished makes = makes.1.turn.0
+    server_turn_of old mid d (outcome.Refused kind reply) makes =
+        subst (λ (e : ErrorKind). ServerTurn c old d (outcome.Refused e reply) mid) makes.1 makes.2.turn
 
     pub server_went : (first old mid : ServerView C P) (past : List Turn) (d : TsRequest) (out : Outcome) → IsUnrefused out →
         ServerFollows c first old past → ServerMakes c p old d out mid → ServerFollows c first mid (server_turn c d out mid ∷ past)
     server_went first old mid past d (outcome.Reply reply) went follows makes =
-        server_follows c law first old mid past d reply follows makes.0
+        server_follows c law first old mid past d reply follows makes.turn
     server_went first old mid past d (outcome.Final reply) went follows makes = absurd makes
-    server_went first old mid past d outcome.Finished went follows makes = server_finished c law first old mid past d follows makes.0
+    server_went first old mid past d outcome.Finished went follows makes =
+        server_finished c law first old mid past d follows makes.1.turn.0
     server_went first old mid past d (outcome.Refused kind reply) went follows makes = absurd went
 
     pub server_history_follows : (first now : ServerView C P) (turns : List Turn) → IsFreshServer first → NoneRefused turns →
@@ -156,4 +160,5 @@ module _ {C : Type 0} (c : Meaning ContextSetting C) (law : IsContext c) where
     history_proxy first now (t ∷ past) h =
         let made = h.2 in
         subst (λ (v : ServerView C P). ProxyStays p first.proxy v.proxy) (sym made.rest)
-        (proxy_on p first.proxy h.0.proxy made.mid.proxy (history_proxy first h.0 past h.1) (proxy_asked p _ _ _ made.proxy))
+        (proxy_on p first.proxy h.0.proxy made.mid.proxy (history_proxy first h.0 past h.1)
+        (proxy_asked p _ _ _ (server_asks c p h.0 made.mid t.delivered t.outcome made.makes)))

@@ -26,7 +26,7 @@ use Rattle.sspi_delegate.specs.Causes.{RunEnds, IsFinished}
 use Rattle.sspi_delegate.specs.Turns.{onto_server, server_turns, OthersGoOn, AllGoOn, IsUnrefused}
 use Rattle.sspi_delegate.specs.History.{ServerMakes, ServerHistory, ServerMade, ServerPast}
 use Rattle.sspi_delegate.proofs.Alternating.{went_unrefused}
-use Rattle.sspi_delegate.proofs.Histories.{server_past_history}
+use Rattle.sspi_delegate.proofs.Histories.{server_asks, server_asked, server_past_history}
 
 -- by how far the server has come
 abbrev calls_made : {C : Type 0} → Option C → ServerMode → CredSspState → ℕ
@@ -129,9 +129,9 @@ module _ {C : Type 0} (c : Meaning ContextSetting C) where
 
     turn_of : (old mid : ServerView C P) (d : TsRequest) (out : Outcome) → IsUnrefused out → ServerMakes c p old d out mid →
         ServerTurn c old d out mid
-    turn_of old mid d (outcome.Reply reply) un makes = makes.0
+    turn_of old mid d (outcome.Reply reply) un makes = makes.turn
     turn_of old mid d (outcome.Final reply) un makes = absurd makes
-    turn_of old mid d outcome.Finished un makes = makes.0
+    turn_of old mid d outcome.Finished un makes = makes.1.turn.0
     turn_of old mid d (outcome.Refused kind reply) un makes = absurd un
 
     next_so_far : (first old now : ServerView C P) (t : Turn) → IsUnrefused t.outcome → SoFar first old → ServerMade c p old t now →
@@ -141,7 +141,7 @@ module _ {C : Type 0} (c : Meaning ContextSetting C) where
         let begun : IsSome made.mid.context = unless_refused t.outcome _ un turn.moves.begun in
         let stepped : IsSome made.mid.acts.status → old.state ≡ NegoToken =
         λ some. turn.turn.shown.acts.negotiated (turn.turn.shown.acts.answered some) in
-        let more = unless_refused t.outcome _ un made.asked in
+        let more = unless_refused t.outcome _ un (server_asked c p old made.mid t.delivered t.outcome made.makes) in
         let total = has_asked_on p _ _ _ _ _ so_far.told_same so_far.asked more in
         let count = some_calls made.mid.context first.settings.mode made.mid.state _ begun (λ m.
         ap (λ (s : ServerSettings). calls_made old.context first.settings.mode old.state
@@ -151,7 +151,7 @@ module _ {C : Type 0} (c : Meaning ContextSetting C) where
         ∙ ap (calls_made (Some m) first.settings.mode) (sym turn.moves.state)) in
         subst (λ v. SoFar first v) (sym made.rest) (record {
           same = turn.moves.same ∙ so_far.same;
-          told_same = made.proxy.told_same ∙ so_far.told_same;
+          told_same = (server_asks c p old made.mid t.delivered t.outcome made.makes).told_same ∙ so_far.told_same;
           begins = λ none. absurd (cc (none, begun));
           asked = has_asked_as p _ _ _ _ count total;
         })

@@ -23,38 +23,20 @@ module _ {C D P : Type 0} (c : Meaning ContextSetting C) (law : IsContext c) (p 
   client_refused first now kdc kdc2 turns error fresh others s =
       let going : AllGoOn s.past = subst (λ (l : List Turn). OthersGoOn l) s.newest others in
       record {
-        old = s.old;
-        kdc1 = s.kdc1;
-        new = s.mid;
-        d = s.d;
-        past = s.past;
-        newest = s.newest;
+        stopped = s;
         follows = history_follows c law k first s.old kdc s.kdc1 s.past fresh going s.before;
         chain = client_chained c k first law fresh s.old kdc s.kdc1 s.past (others_go s.past going) s.before;
-        refuses = s.refuses;
-        rest = s.rest;
       }
 
   pub server_refused : (first now : ServerView C P) (turns : List Turn) (error : Error) → IsFreshServer first → OthersUnrefused turns →
       ServerStopped c p first error turns now → ServerRefused c p first error now turns
   server_refused first now turns error fresh others s =
-      let stays = history_proxy c law p first s.old s.past s.before in
       let went : NoneRefused s.past = subst (λ (l : List Turn). OthersUnrefused l) s.newest others in
       record {
-        old = s.old;
-        new = s.mid;
-        d = s.d;
-        reply = s.reply;
-        past = s.past;
-        newest = s.newest;
+        stopped = s;
         follows = server_history_follows c law p first s.old s.past fresh went s.before;
         chain = server_chained c p first law fresh s.old s.past (rest_unrefused s.past went) s.before;
-        told_before = stays.told_same;
-        faults_before = stays.counted;
-        cause = s.refuses.cause;
-        status = s.refuses.status;
-        step = s.refuses.step;
-        rest = s.rest;
+        proxy = history_proxy c law p first s.old s.past s.before;
       }
 
   -- the refusal that is answered

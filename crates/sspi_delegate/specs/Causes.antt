@@ -1,5 +1,5 @@
 -- What the turns and the log of an exchange show of its answer, and where each answer must come.
-use Rattle.std.specs.Prelude.{◌≡◌, ◌≢◌, ℕ, ◌+◌, ◌<◌, ◌⊎◌, Bool, true, false, List, [], ◌∷◌, Option, None, Some, Result, Ok, Err}
+use Rattle.std.specs.Prelude.{◌≡◌, ◌≢◌, ℕ, ◌+◌, ◌<◌, ◌⊎◌, Bool, true, false, List, [], ◌∷◌, Option, None, Some, Result, Ok, Err, IsOk}
 use Rattle.sspi_types.specs.declared.error_kind.ErrorKind.{ErrorKind}
 use Rattle.sspi_types.specs.declared.error_kind.ErrorKind.TheVariants as kinds
 use Rattle.sspi_types.specs.Counting.{Counts}
@@ -61,8 +61,7 @@ NewestFits (t ∷ past) fit = MessageFits (message_of t.outcome) fit
 abbrev pub TurnLeft : ℕ → List Turn → Type 0
 TurnLeft limit turns = next_end turns ≡ Client → turns_of Client turns < limit
 
--- base: the log before the exchange; start: the link's count of faults then. A failure of the link counts one fault, and nothing
--- else counts any.
+-- base: the log before the exchange; start: the link's count of faults then, to which a failure of the link alone adds, namely one
 module _ (base : List Carried) (start : ℕ) where
   -- the server has the credentials
   pub record Finishes (turns : List Turn) (log : List Carried) (now : ℕ) : Type 0 where
@@ -71,8 +70,7 @@ module _ (base : List Carried) (start : ℕ) where
     pub entries : LoggedButLast base turns log
     pub calm : now ≡ start
 
-  -- What came of giving the newest turn's message to the link: an entry, whose delivery was not asked for, or none, since it
-  -- does not fit, since the link failed, or for want of memory. It is measured before memory is taken.
+  -- What giving the newest turn's message to the link came to: an unread entry, or none. It is measured before memory is taken.
   pub data Given (turns : List Turn) (log : List Carried) (now : ℕ) : Type 0 where
     carried : Logged base turns log → UnreadFor turns log → now ≡ start → Given turns log now
     too_long : LoggedButLast base turns log → NewestFits turns false → now ≡ start → Given turns log now
@@ -139,10 +137,6 @@ IsClientError kind error = ⊥
 abbrev pub IsServerError : ErrorKind → DelegateError → Type 0
 IsServerError kind (errors.Server error) = error.error_type ≡ kind
 IsServerError kind error = ⊥
-
-abbrev pub IsOk : Result Delegation DelegateError → Type 0
-IsOk (Ok delegation) = Unit {0}
-IsOk (Err error) = ⊥
 
 -- base: the log before the exchange; limit: how many turns the client may make
 pub record Exactly (base : List Carried) (limit : ℕ) (result : Result Delegation DelegateError) (turns : List Turn)

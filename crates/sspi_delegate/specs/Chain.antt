@@ -33,8 +33,7 @@ pub record KdcCalls (D : Type 0) : Type 1 where
   pub replies : D → List Asked → D → Type 0
   pub lost : D → D → Type 0
 
--- where the replies are told, this is the one that is told of the question as the call of that number, and the count of faults
--- rises only with a failure
+-- where the replies are told, this is the one told of the question as that call, and the count of faults rises only with a failure
 abbrev pub RepliesAsTold : Option (ℕ → NetworkRequest → Reply) → ℕ → NetworkRequest → Reply → ℕ → ℕ → Type 0
 RepliesAsTold None call question reply before now = Unit {0}
 RepliesAsTold (Some told) call question (Answered bytes) before now = (told call question ≡ Answered bytes) × (now ≡ before)
@@ -98,8 +97,7 @@ module _ {C D : Type 0} (c : Meaning ContextSetting C) (k : KdcCalls D) (first :
   abbrev pub client_at : ClientStage C D → ClientView C
   client_at stage = record first { context = stage.context; handle = stage.handle }
 
-  -- One step of the context that is there, or of the one that is made first: it took this token and came to this answer. Each of
-  -- its questions went to the KDC, one after another, and it went on with the reply.
+  -- One step, of the context that is there or is made first, took this token and came to this answer; the KDC replied to its questions.
   pub record ClientStepped (stage : ClientStage C D) (token : Option (List ℕ)) (answer : Answer) (next : ClientStage C D) : Type 0 where
     pub asked : List Asked
     pub replied : k.replies stage.kdc asked next.kdc
@@ -111,8 +109,7 @@ module _ {C D : Type 0} (c : Meaning ContextSetting C) (k : KdcCalls D) (first :
     pub handle : IsSome stage.context → next.handle ≡ stage.handle
     pub unasked : k.replies stage.kdc [] next.kdc
 
-  -- By whether the turn negotiated, and to which status: this status and the turn's output are the answer of the step, also where
-  -- the turn was refused after it. Without a status the step itself was refused, and with the kind of the turn.
+  -- A status and the turn's output are the answer of its step, also where the turn was refused after it; with none the step was refused.
   abbrev pub ClientMovedBy : Bool → Option SecurityStatus → Outcome → Option (List ℕ) → List ℕ → ClientStage C D → ClientStage C D → Type 0
   ClientMovedBy false status came token output stage next = ClientRested stage next
   ClientMovedBy true (Some status) came token output stage next =
@@ -132,8 +129,7 @@ module _ {C D : Type 0} (c : Meaning ContextSetting C) (k : KdcCalls D) (first :
   ClientChain kdc [] stage = stage ≡ client_stage first kdc
   ClientChain kdc (t ∷ past) next = (stage : ClientStage C D) × ClientChain kdc past stage × ClientLink past t stage next
 
-  -- Where there was no memory: the stage of all turns, or in one further turn, which has no record, a step that waits for a reply
-  -- of the KDC.
+  -- where there was no memory: the stage of all turns, or in one further turn, without a record, a step that waits for its KDC
   pub data ClientChainLeft (kdc : D) (turns : List Turn) (now : ClientStage C D) : Type 0 where
     at_rest : ClientChain kdc turns now → ClientChainLeft kdc turns now
     waiting : (stage : ClientStage C D) (token : Option (List ℕ)) (question : NetworkRequest) (asked : D) → AllGoOn turns →
@@ -151,8 +147,7 @@ module _ {C P : Type 0} (c : Meaning ContextSetting C) (p : ProxyMeaning P) (fir
   abbrev pub server_at : ServerStage C → ServerView C P
   server_at stage = record first { context = stage.context; handle = stage.handle }
 
-  -- One step of the context that is there, or of the one that is made first: it took this token and came to this answer, and after
-  -- it the server came to know so much of its peer.
+  -- One step, of the context that is there or is made first, took this token and came to this answer; then the peer is known so far.
   abbrev pub ServerStepped : Knowing → ServerStage C → Option (List ℕ) → Result Step Error → ServerStage C → Type 0
   ServerStepped known stage token answer next = IfContext next.context (Accepted c p (server_at stage) next.handle token known answer)
 
@@ -162,8 +157,7 @@ module _ {C P : Type 0} (c : Meaning ContextSetting C) (p : ProxyMeaning P) (fir
         (Begun c stage.context stage.handle (server_setting p first) Inbound None next.handle)
     pub handle : IsSome stage.context → next.handle ≡ stage.handle
 
-  -- As on a client. A turn that was not refused at the end of the authentication came to know its peer, and completed the context;
-  -- one that was refused then may have come less far.
+  -- As on a client. At the end of the authentication a turn that is not refused knows its peer; a refused one may have come less far.
   abbrev pub ServerMovedBy : Bool → Option SecurityStatus → Outcome → Option (List ℕ) → List ℕ → ServerStage C → ServerStage C → Type 0
   ServerMovedBy false status came token output stage next = ServerRested stage next
   ServerMovedBy true (Some status) (outcome.Refused kind reply) token output stage next = IfContext next.context

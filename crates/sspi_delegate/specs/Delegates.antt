@@ -16,7 +16,7 @@ use Rattle.sspi_delegate.specs.Chain.{KdcCalls, kdc_calls, client_stage, ClientC
 use Rattle.sspi_delegate.specs.Causes.{RunEnds, Exactly}
 use Rattle.sspi_delegate.specs.EndRun.{client_end, server_end, GivesNewest}
 use Rattle.sspi_delegate.specs.Turns.{client_turns, server_turns}
-use Rattle.sspi_delegate.specs.Headline.{IsRun, sealed_turns, SealsAfterProof, NeverSeals, HasExchanged}
+use Rattle.sspi_delegate.specs.Headline.{IsRun, sealed_turns, SealsAfterProof, HasExchanged}
 use Rattle.sspi_delegate.specs.History.{ClientPast, ServerPast, RefusedBy, KdcStays, ProxyStays}
 use Rattle.sspi_delegate.specs.Link.{StaysTold, AnswerTold}
 
@@ -78,8 +78,7 @@ module _ {C P L D : Type 0} (c : Meaning ContextSetting C) (around : Around P L 
     pub turns_and_log_show_the_answer : RunEnds (around.log old.link) (around.link_faults old.link) limit result new.turns
         (around.log new.link) (around.link_faults new.link)
     pub no_other_answer_fits : Exactly (around.log old.link) limit result new.turns (around.log new.link)
-    -- each turn of an end was one of its calls, and nothing moved it between two of them; the last one refused with the error
-    -- that is answered, or gave the identity
+    -- each turn of an end was one of its calls, and nothing moved it in between; the last one refused so, or gave the identity
     pub client_turns_are_its_calls : ClientPast c (calls_of_kdc around) old.client old.kdc result
         (client_turns new.turns) new.client new.kdc
     pub server_turns_are_its_calls : ServerPast c around.proxy old.server result (server_turns new.turns) new.server
@@ -89,7 +88,7 @@ module _ {C P L D : Type 0} (c : Meaning ContextSetting C) (around : Around P L 
     pub the_turns_are_a_run : IsRun c old.client new.client old.server new.server (around.log old.link) (around.log new.link) new.turns
     pub credentials_are_sealed_at_most_once : sealed_turns new.turns ≤ 1
     pub the_client_seals_after_the_proof : SealsAfterProof c (client_end new.client) (client_turns new.turns)
-    pub the_server_never_seals : NeverSeals (server_turns new.turns)
+    pub the_server_never_seals : sealed_turns (server_turns new.turns) ≡ 0
     pub the_identity_is_what_was_opened_last : IfOk result (λ delegation.
         GivesNewest c (server_end new.server) (server_turns new.turns) delegation.credentials)
     pub both_proofs_came_before_ok : OnOk result (HasExchanged (server_turns new.turns))

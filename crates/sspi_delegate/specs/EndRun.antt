@@ -52,8 +52,7 @@ abbrev pub EachTurn : (List Turn → Turn → Type 0) → List Turn → Type 0
 EachTurn MayCome [] = Unit {0}
 EachTurn MayCome (t ∷ past) = MayCome past t × EachTurn MayCome past
 
--- An end that was `first` and has made these turns: each is a turn over the context that it has now, which sealed and opened
--- exactly what the turns say.
+-- An end that was `first` has made these turns: each is one over its context now, which sealed and opened exactly what they say.
 pub record Ran {S C : Type 0} (c : Meaning ContextSetting C) (Each Others : List Turn → Type 0) (first now : Kept S C)
     (past : List Turn) : Type 0 where
   pub same : now.settings ≡ first.settings

@@ -5,17 +5,13 @@ use Rattle.sspi_types.specs.declared.error_kind.ErrorKind.TheVariants as kinds
 use Rattle.sspi_names.specs.declared.identity.AuthIdentity.{AuthIdentity}
 use Rattle.sspi_tsreq.specs.declared.request.TsRequest.{TsRequest}
 use Rattle.sspi_mech.specs.Meaning.{Meaning}
-use Rattle.sspi_credssp.specs.declared.turn.Outcome.TheVariants.{Reply, Final, Refused}
 use Rattle.sspi_credssp.specs.declared.turn.Turn.{Turn}
 use Rattle.sspi_credssp.specs.Turn.{message_of}
 use Rattle.sspi_credssp.specs.declared.client_state.ClientState.{ClientState}
-use Rattle.sspi_credssp.specs.declared.client_state.ClientState.TheVariants.{ReplyNeeded, FinalMessage}
 use Rattle.sspi_credssp.specs.Ends.{ClientView, ServerView}
-use Rattle.sspi_credssp.specs.ClientTurn.{ClientTurn, IsUnderway}
 use Rattle.sspi_credssp.specs.Context.{ContextSetting}
 use Rattle.sspi_credssp.specs.Proxy.{ProxyMeaning}
 use Rattle.sspi_credssp.specs.declared.client_state.Progress.TheVariants.{Completed}
-use Rattle.sspi_credssp.specs.declared.turn.Outcome.TheVariants as outcome
 use Rattle.sspi_delegate.specs.declared.answer.DelegateError.{DelegateError}
 use Rattle.sspi_delegate.specs.declared.answer.DelegateError.TheVariants as errors
 use Rattle.sspi_delegate.specs.declared.carried.Carried.{Carried}
@@ -25,8 +21,7 @@ use Rattle.sspi_delegate.specs.Causes.{Finishes, Stopped}
 use Rattle.sspi_delegate.specs.declared.ends.Round.{Round}
 use Rattle.sspi_delegate.specs.declared.ends.Round.TheVariants as round
 use Rattle.sspi_delegate.specs.Chain.{KdcCalls}
-use Rattle.sspi_delegate.specs.History.{ClientHistory, IsWaiting, ClientStops, ServerHistory, ServerGave, ServerStops, StepsSo}
-use Rattle.sspi_delegate.specs.History.{ClientRefuses}
+use Rattle.sspi_delegate.specs.History.{ClientTakes, ClientHistory, IsWaiting, ClientStops, ServerHistory, ServerGave, ServerStops}
 
 module _ (base : List Carried) (start : ℕ) where
   -- between two turns: all went on, each has its entry, and the newest delivery is still to be read
@@ -88,20 +83,9 @@ IsNoRefusal errors.InsufficientMemory = Unit {0}
 module _ {C D : Type 0} (c : Meaning ContextSetting C) (k : KdcCalls D) where
   -- what came of a client's call and of all that its KDC was asked
   abbrev pub ClientConcludes : ClientView C → D → TsRequest → Round ClientState → ClientView C → D → Type 0
-  ClientConcludes old kdc d (round.Answered (ReplyNeeded reply)) new kdc2 =
-      ClientTurn c old d (outcome.Reply reply) new × StepsSo c (λ asked. k.replies kdc asked kdc2) old d
-      (Ok (Completed (ReplyNeeded reply))) new
-  ClientConcludes old kdc d (round.Answered (FinalMessage reply)) new kdc2 =
-      ClientTurn c old d (outcome.Final reply) new × StepsSo c (λ asked. k.replies kdc asked kdc2) old d
-      (Ok (Completed (FinalMessage reply))) new
-  ClientConcludes old kdc d (round.Refused error) new kdc2 =
-      ClientTurn c old d (outcome.Refused error.error_type None) new × ClientRefuses c (λ asked. k.replies kdc asked kdc2) old d error new
-  ClientConcludes old kdc d round.Lost new kdc2 = IsUnderway c old d new
-
-  abbrev pub WaitsWhereLost : ClientView C → D → TsRequest → Round ClientState → ClientView C → D → Type 0
-  WaitsWhereLost old kdc d (round.Answered state) now kdc2 = Unit {0}
-  WaitsWhereLost old kdc d (round.Refused error) now kdc2 = Unit {0}
-  WaitsWhereLost old kdc d round.Lost now kdc2 = IsWaiting c k old kdc d now kdc2
+  ClientConcludes old kdc d (round.Answered state) new kdc2 = ClientTakes c k old kdc d (Ok (Completed state)) new kdc2
+  ClientConcludes old kdc d (round.Refused error) new kdc2 = ClientTakes c k old kdc d (Err error) new kdc2
+  ClientConcludes old kdc d round.Lost new kdc2 = IsWaiting c k old kdc d new kdc2
 
   -- what half a round makes of it
   abbrev pub ClientHalfStops : ClientView C → D → DelegateError → List Turn → ClientView C → D → Type 0

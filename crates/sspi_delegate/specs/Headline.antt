@@ -1,5 +1,5 @@
 -- What holds of each exchange between two fresh ends, whatever its link delivers.
-use Rattle.std.specs.Prelude.{◌≡◌, ℕ, ◌<◌, List, [], ◌∷◌, Option, IsSome, Bool, true, false, ◌+◌, ◌&&◌, ◌||◌}
+use Rattle.std.specs.Prelude.{◌≡◌, ℕ, ◌<◌, List, [], ◌∷◌, length, Option, IsSome, Bool, true, false, ◌+◌, ◌&&◌, ◌||◌}
 use Rattle.sspi_types.specs.declared.error_kind.ErrorKind.TheVariants.{DowngradeDetected}
 use Rattle.sspi_mech.specs.Meaning.{Meaning}
 use Rattle.sspi_credssp.specs.declared.public_key.EndpointType.TheVariants as endpoint
@@ -7,28 +7,20 @@ use Rattle.sspi_credssp.specs.declared.state.CredSspState.TheVariants.{AuthInfo}
 use Rattle.sspi_credssp.specs.declared.turn.Outcome.{Outcome}
 use Rattle.sspi_credssp.specs.declared.turn.Outcome.TheVariants as outcome
 use Rattle.sspi_credssp.specs.declared.turn.Turn.{Turn}
-use Rattle.sspi_credssp.specs.Acts.{count_of, OpensIn}
+use Rattle.sspi_credssp.specs.Acts.{no_acts, count_of, OpensIn}
 use Rattle.sspi_credssp.specs.Context.{ContextSetting, NeverRefuses}
 use Rattle.sspi_credssp.specs.Ends.{ClientView, IsFreshClient, ServerView, IsFreshServer}
 use Rattle.sspi_credssp.specs.Exchange.{prescribed}
+use Rattle.sspi_credssp.specs.Noted.{differs}
 use Rattle.sspi_credssp.specs.Requests.{is_code}
 use Rattle.sspi_credssp.specs.Turn.{AtNoted}
 use Rattle.sspi_delegate.specs.declared.carried.Carried.{Carried}
-use Rattle.sspi_delegate.specs.EndRun.{ClientEnd, client_state, client_noted, ClientRan, ServerRan}
+use Rattle.sspi_delegate.specs.EndRun.{ClientEnd, client_state, client_noted, ClientRan, server_noted, ServerRan}
 use Rattle.sspi_delegate.specs.Log.{HasLog}
 use Rattle.sspi_delegate.specs.Turns.{client_turns, server_turns, opened_in, Alternates}
 
 -- ---- Where a turn is refused for the age of its peer's version: in the turn that would note it, which is a client's second, since
 -- it makes its first request itself, and a server's first. A context may itself refuse with that kind; the plain ones never do.
-
--- after these turns the next one is the end's first, or its second
-abbrev pub is_first : List Turn → Bool
-is_first [] = true
-is_first (t ∷ past) = false
-
-abbrev pub is_second : List Turn → Bool
-is_second [] = false
-is_second (t ∷ past) = is_first past
 
 abbrev pub IsDowngrade : Outcome → Type 0
 IsDowngrade (outcome.Refused kind reply) = kind ≡ DowngradeDetected
@@ -36,24 +28,28 @@ IsDowngrade other = ⊥
 
 -- a client's turn after these finds its server below the least version, and looks so far: the server reports no error
 pub record FindsOldServer (least : ℕ) (past : List Turn) (t : Turn) : Type 0 where
-  pub second : is_second past ≡ true
+  pub second : length past ≡ 1
   pub code : is_code t.delivered.error_code ≡ false
   pub old : t.delivered.version < least
 
 -- a server's turn after these finds its client below the least version, and looks so far: it has made its context
 pub record FindsOldClient {C : Type 0} (context : Option C) (least : ℕ) (past : List Turn) (t : Turn) : Type 0 where
-  pub first : is_first past ≡ true
+  pub first : length past ≡ 0
   pub begun : IsSome context
   pub old : t.delivered.version < least
 
 module _ {C : Type 0} (c : Meaning ContextSetting C) where
+  -- exactly there it is refused so; and a client that is told an error, or another version than the noted one, does nothing
   pub record HeedsServer (least : ℕ) (past : List Turn) (t : Turn) : Type 0 where
     pub refuses : FindsOldServer least past t → IsDowngrade t.outcome
     pub only : NeverRefuses c DowngradeDetected → IsDowngrade t.outcome → FindsOldServer least past t
+    pub told : is_code t.delivered.error_code ≡ true → t.acts ≡ no_acts
+    pub altered : differs (client_noted least past) t.delivered.version ≡ true → t.acts ≡ no_acts
 
   pub record HeedsClient (context : Option C) (least : ℕ) (past : List Turn) (t : Turn) : Type 0 where
     pub refuses : FindsOldClient context least past t → IsDowngrade t.outcome
     pub only : NeverRefuses c DowngradeDetected → IsDowngrade t.outcome → FindsOldClient context least past t
+    pub altered : differs (server_noted least past) t.delivered.version ≡ true → t.acts ≡ no_acts
 
   -- each of these turns of a client, whose least version it is
   abbrev pub EachHeedsServer : ℕ → List Turn → Type 0
@@ -77,10 +73,6 @@ abbrev pub sealed_turns : List Turn → ℕ
 sealed_turns [] = 0
 sealed_turns (t ∷ past) = sealed_turns past + count_of t.acts.sealed
 
-abbrev pub NeverSeals : List Turn → Type 0
-NeverSeals [] = Unit {0}
-NeverSeals (t ∷ past) = (t.acts.sealed ≡ false) × NeverSeals past
-
 -- in one of the turns the client's proof was checked and the server's own was sealed
 abbrev pub any_exchange : List Turn → Bool
 any_exchange [] = false
@@ -92,20 +84,17 @@ HasExchanged [] = ⊥
 HasExchanged (t ∷ past) = any_exchange past ≡ true
 
 module _ {C : Type 0} (c : Meaning ContextSetting C) where
-  -- Each of the client's turns that sealed the credentials came after its authentication, and was delivered a pubKeyAuth
-  -- that opens to the proof that the server owes.
+  -- the client sealed only once authenticated, told no error, and delivered a pubKeyAuth that opens to the proof that the server owes
   abbrev pub SealsAfterProof : ClientEnd C → List Turn → Type 0
   SealsAfterProof e [] = Unit {0}
   SealsAfterProof e (t ∷ past) =
-      (t.acts.sealed ≡ true → (client_state past ≡ AuthInfo)
-      × AtNoted (client_noted e.settings.least (t ∷ past)) (λ noted.
-      OpensIn c e.context (opened_in past) t.delivered.pub_key_auth
+      (t.acts.sealed ≡ true → (client_state past ≡ AuthInfo) × (is_code t.delivered.error_code ≡ false)
+      × AtNoted (client_noted e.settings.least (t ∷ past)) (λ noted. OpensIn c e.context (opened_in past) t.delivered.pub_key_auth
       (prescribed endpoint.Server noted e.settings.nonce e.settings.public_key)))
       × SealsAfterProof e past
 
   module _ {P : Type 0} where
-    -- The turns alternate, each is that of its end, and each has its entry in the log and was given what the entry before
-    -- delivered; the newest one may have none. A peer that is too old is refused as that, and no other.
+    -- the turns alternate, each is one of its end that heeds its peer, and each has its entry in the log, but perhaps the newest
     pub record IsRun (client client2 : ClientView C) (server server2 : ServerView C P) (base log : List Carried)
         (turns : List Turn) : Type 0 where
       pub order : Alternates turns

@@ -155,8 +155,7 @@ HasFailed edits before now log turns = CarryFails edits log (newest_message turn
 abbrev pub HasFailedToTell : ErrorKind → List Edit → ℕ → ℕ → List Carried → List Turn → Type 0
 HasFailedToTell kind edits before now log turns = NewestIs ends.Server (IsServerRefusal kind) turns × HasFailed edits before now log turns
 
--- Where the edits are told, the link fails only in a carry that they fail, that of the newest turn's message, and then one
--- fault is counted. A refusing server's message may have failed so, which changes no answer; elsewhere no fault is counted.
+-- where the edits are told, only a carry that they fail counts a fault: where it is that of a server's refusal it changes no answer
 abbrev pub AnswerTold : {X : Type 0} → Option (List Edit) → ℕ → ℕ → Result X DelegateError → List Carried → List Turn → Type 0
 AnswerTold None before now result log turns = Unit {0}
 AnswerTold (Some edits) before now (Err (Server error)) log turns =

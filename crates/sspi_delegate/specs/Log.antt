@@ -79,8 +79,7 @@ IsFault bytes UnexpectedEof = fault bytes ≡ Some Ended
 IsFault bytes InvalidData = fault bytes ≡ Some Invalid
 IsFault bytes other = ⊥
 
--- a turn after these turns is given this request: the first one its own, each other one what was delivered of the newest
--- entry, which was taken to its end or to the limit, and no further
+-- a turn after these is given this request: the first its own, each other what the newest entry delivered, taken to its end or limit
 abbrev pub IsDelivered : List Turn → List Carried → TsRequest → Type 0
 IsDelivered [] log request = request ≡ first_request
 IsDelivered (t ∷ past) [] request = ⊥

@@ -33,10 +33,8 @@ AllGoOn (t ∷ past) = GoesOn t.outcome × AllGoOn past
 
 -- this outcome is no refusal
 abbrev pub IsUnrefused : Outcome → Type 0
-IsUnrefused (Reply reply) = Unit {0}
-IsUnrefused (Final reply) = Unit {0}
-IsUnrefused Finished = Unit {0}
 IsUnrefused (Refused kind reply) = ⊥
+IsUnrefused outcome = Unit {0}
 
 abbrev pub NoneRefused : List Turn → Type 0
 NoneRefused [] = Unit {0}

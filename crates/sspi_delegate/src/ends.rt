@@ -7,7 +7,7 @@ ghost use Rattle.sspi_delegate.specs.LogKeeping.{recorded};
 ghost use Rattle.sspi_delegate.specs.History.{ClientHistory, ServerHistory, KdcStays, ProxyStays};
 ghost use Rattle.sspi_delegate.specs.Recorded.{ClientPushed, ServerPushed};
 ghost use Rattle.sspi_delegate.specs.Rounds.{added_by_client, added_by_server, ClientRoundPast, ServerRoundPast};
-ghost use Rattle.sspi_delegate.specs.Halves.{ClientConcludes, WaitsWhereLost};
+ghost use Rattle.sspi_delegate.specs.Halves.{ClientConcludes};
 
 use crate::transcript::Transcript;
 use sspi_credssp::{
@@ -50,8 +50,6 @@ fn finish_turn<N: Mechanism, K: Mechanism, D: Kdc>(
     kdc: &mut D,
 ) -> Round<ClientState>
     ensures turn { ClientConcludes (either N.REQUESTS N.meaning K.meaning)
-        (kdc_calls D.told D.asked D.faults) client.old kdc.old request result client.new kdc.new }
-    ensures lost { WaitsWhereLost (either N.REQUESTS N.meaning K.meaning)
         (kdc_calls D.told D.asked D.faults) client.old kdc.old request result client.new kdc.new }
     ensures kdc { KdcStays D.told D.faults kdc.old kdc.new }
 {

@@ -1,5 +1,5 @@
 -- Why an end of a play stands refused: the cause of its newest turn, over the chain of the turns before it.
-use Rattle.std.proofs.Common.{◌≡◌, List, [], ◌∷◌, Option, None, Some, sym, ◌∙◌, ap, subst, refl}
+use Rattle.std.proofs.Common.{◌≡◌, List, [], ◌∷◌, Option, None, Some, Err, sym, ◌∙◌, ap, refl}
 use Rattle.sspi_types.specs.declared.error.Error.{Error}
 use Rattle.sspi_types.specs.declared.error_kind.ErrorKind.{ErrorKind}
 use Rattle.sspi_ber.specs.declared.wire_kind.WireKind.{WireKind}
@@ -8,17 +8,17 @@ use Rattle.sspi_mech.specs.Meaning.{Meaning}
 use Rattle.sspi_tsreq.specs.declared.request.TsRequest.{TsRequest}
 use Rattle.sspi_credssp.specs.Context.{ContextSetting}
 use Rattle.sspi_credssp.specs.Ends.{ClientView, IsFreshClient, ServerView, IsFreshServer}
-use Rattle.sspi_credssp.specs.ClientTurn.{client_turn, ClientTurn}
+use Rattle.sspi_credssp.specs.ClientTurn.{client_turn}
 use Rattle.sspi_credssp.specs.Proxy.{ProxyMeaning}
-use Rattle.sspi_credssp.specs.ServerTurn.{server_turn, ServerTurn}
+use Rattle.sspi_credssp.specs.ServerCall.{ServerCall}
+use Rattle.sspi_credssp.specs.ServerTurn.{server_turn}
 use Rattle.sspi_credssp.specs.declared.turn.Outcome.{Outcome}
 use Rattle.sspi_credssp.specs.declared.turn.Outcome.TheVariants as outcome
 use Rattle.sspi_credssp.specs.declared.turn.Turn.{Turn}
 use Rattle.sspi_delegate.specs.Chain.{KdcCalls}
 use Rattle.sspi_delegate.specs.Turns.{OthersGoOn, OthersUnrefused}
-use Rattle.sspi_delegate.specs.History.{ClientMakes, ClientHistory, ClientRefuses, ClientRefused}
-use Rattle.sspi_delegate.specs.History.{ServerMakes, ServerHistory, ServerRefuses, ServerRefused}
-use Rattle.sspi_delegate.proofs.HistoryRuns.{client_turn_of, server_turn_of}
+use Rattle.sspi_delegate.specs.History.{ClientTakes, ClientMakes, ClientHistory, ClientRefused}
+use Rattle.sspi_delegate.specs.History.{ServerMakes, ServerHistory, ServerRefused}
 use Rattle.sspi_delegate.proofs.Refused.{client_refused, server_refused}
 use Rattle.sspi_play.specs.declared.played.Ending.{Ending}
 use Rattle.sspi_play.specs.History.{IfRefused}
@@ -37,12 +37,12 @@ module _ {C D P : Type 0} (c : Meaning ContextSetting C) (law : IsContext c) (p 
   client_makes : (old mid : ClientView C) (kdc kdc2 : D) (d : TsRequest) (out : Outcome) (kind : ErrorKind) →
       refusal_in out ≡ Some kind → ClientMakes c k old kdc d out mid kdc2 →
       (error : Error) × (error.error_type ≡ kind) × (out ≡ outcome.Refused error.error_type None) ×
-      ClientRefuses c (λ asked. k.replies kdc asked kdc2) old d error mid
+      ClientTakes c k old kdc d (Err error) mid kdc2
   client_makes old mid kdc kdc2 d (outcome.Reply reply) kind is makes = absurd (cc (is))
   client_makes old mid kdc kdc2 d (outcome.Final reply) kind is makes = absurd (cc (is))
   client_makes old mid kdc kdc2 d outcome.Finished kind is makes = absurd makes
   client_makes old mid kdc kdc2 d (outcome.Refused of None) kind is makes =
-      (makes.0, cc (makes.1, is), ap (λ (e : ErrorKind). outcome.Refused e None) (sym makes.1), makes.3)
+      (makes.0, cc (makes.1, is), ap (λ (e : ErrorKind). outcome.Refused e None) (sym makes.1), makes.2)
   client_makes old mid kdc kdc2 d (outcome.Refused of (Some reply)) kind is makes = absurd makes
 
   pub client_cause : (first now : ClientView C) (kdc kdc2 : D) (turns : List Turn) → IsFreshClient first → OthersGoOn turns →
@@ -62,9 +62,7 @@ module _ {C D P : Type 0} (c : Meaning ContextSetting C) (law : IsContext c) (p 
           past = past;
           newest = ap (λ (x : Turn). x ∷ past) (made.turn ∙ ap (λ (o : Outcome). client_turn c t.delivered o made.mid) why.2);
           before = h.2;
-          turn = subst (λ (o : Outcome). ClientTurn c h.0 t.delivered o made.mid) why.2
-              (client_turn_of c law k h.0 made.mid h.1 kdc2 t.delivered t.outcome made.makes);
-          refuses = why.3;
+          takes = why.3;
           rest = made.rest;
         }),
       )
@@ -73,12 +71,12 @@ module _ {C D P : Type 0} (c : Meaning ContextSetting C) (law : IsContext c) (p 
   server_makes : (old mid : ServerView C P) (d : TsRequest) (out : Outcome) (kind : ErrorKind) → refusal_in out ≡ Some kind →
       ServerMakes c p old d out mid →
       (error : Error) × (reply : Option TsRequest) × (error.error_type ≡ kind) × (out ≡ outcome.Refused error.error_type reply) ×
-      ServerRefuses c p old d error mid
+      ServerCall c p old d (Err (record { ts_request = reply; error = error })) mid
   server_makes old mid d (outcome.Reply reply) kind is makes = absurd (cc (is))
   server_makes old mid d (outcome.Final reply) kind is makes = absurd makes
   server_makes old mid d outcome.Finished kind is makes = absurd (cc (is))
   server_makes old mid d (outcome.Refused of reply) kind is makes =
-      (makes.0, reply, cc (makes.1, is), ap (λ (e : ErrorKind). outcome.Refused e reply) (sym makes.1), makes.3)
+      (makes.0, reply, cc (makes.1, is), ap (λ (e : ErrorKind). outcome.Refused e reply) (sym makes.1), makes.2)
 
   pub server_cause : (first now : ServerView C P) (turns : List Turn) → IsFreshServer first → OthersUnrefused turns →
       ServerHistory c p first turns now → (kind : ErrorKind) → last_refusal turns ≡ Some kind →
@@ -97,11 +95,7 @@ module _ {C D P : Type 0} (c : Meaning ContextSetting C) (law : IsContext c) (p 
           past = past;
           newest = ap (λ (x : Turn). x ∷ past) (made.turn ∙ ap (λ (o : Outcome). server_turn c t.delivered o made.mid) why.3);
           before = h.1;
-          turn = subst (λ (o : Outcome). ServerTurn c h.0 t.delivered o made.mid) why.3
-              (server_turn_of c law p h.0 made.mid t.delivered t.outcome made.makes);
-          refuses = why.4;
-          made = made.made;
-          proxy = made.proxy;
+          call = why.4;
           rest = made.rest;
         }),
       )

@@ -78,13 +78,14 @@ module _ {C D : Type 0} (c : Meaning ContextSetting C) (k : KdcCalls D) (first n
   runs_by law p server out fresh own others came =
       let history = came_history out came in
       let ran = client_past_ran c law k first now kdc kdc2 turns (Err errors.TurnsSpent) fresh others history in
+      let heeds = client_past_heeds c law k first now kdc kdc2 turns (Err errors.TurnsSpent) fresh others history in
       record {
         client_ran = ran;
-        client_heeds = client_past_heeds c law k first now kdc kdc2 turns (Err errors.TurnsSpent) fresh others history;
+        client_heeds = heeds;
         credentials_are_sealed_at_most_once = sealed_once c (client_end now) (server_end server) turns (rw own.all ran.each)
             (rw own.all others)
             (rw own.none tt);
-        the_client_seals_after_the_proof = seals_after_proof c (client_end now) turns ran.each;
+        the_client_seals_after_the_proof = seals_after_proof c (client_end now) now.settings.least turns ran.each heeds;
         the_client_has_the_context_of_its_chain = client_chained c k first law fresh now kdc kdc2 turns others history;
         a_refusal_has_its_cause = outcome_cause law p out fresh others came;
       }

@@ -1,19 +1,15 @@
 use Rattle.std.proofs.Common.{Ok}
-use Rattle.sspi_credssp.specs.ClientTurn.{ClientGoes}
 use Rattle.sspi_credssp.specs.Context.{either}
 use Rattle.sspi_credssp.specs.Acts.{left_in}
-use Rattle.sspi_delegate.specs.Chain.{HasAnswered}
-use Rattle.sspi_delegate.specs.History.{StepsSo, KdcStays}
+use Rattle.sspi_delegate.specs.Chain.{kdc_calls}
+use Rattle.sspi_delegate.specs.History.{ClientTakes, KdcStays}
 use Rattle.sspi_delegate.proofs.Asking.{rounds_left}
 use Rattle.sspi_delegate.proofs.ends.finish_turn.Given as goal
 
 abbrev pub invariant-loop-progress : goal.invariant-loop-progress
 invariant-loop-progress g l = record {
-  goes : ClientGoes (either g.N.Mechanism.REQUESTS g.N.Mechanism.meaning g.K.Mechanism.meaning) l.fn.client l.fn.request
-      (Ok l.progress) l.client;
-  steps : StepsSo (either g.N.Mechanism.REQUESTS g.N.Mechanism.meaning g.K.Mechanism.meaning)
-      (λ asked. HasAnswered g.D.Kdc.told g.D.Kdc.asked g.D.Kdc.faults l.fn.kdc asked l.kdc) l.fn.client l.fn.request
-      (Ok l.progress) l.client;
+  takes : ClientTakes (either g.N.Mechanism.REQUESTS g.N.Mechanism.meaning g.K.Mechanism.meaning)
+      (kdc_calls g.D.Kdc.told g.D.Kdc.asked g.D.Kdc.faults) l.fn.client l.fn.kdc l.fn.request (Ok l.progress) l.client l.kdc;
   kdc : KdcStays g.D.Kdc.told g.D.Kdc.faults l.fn.kdc l.kdc;
 }
 

@@ -56,7 +56,7 @@ returns-clause-delegates g c fresh =
         server_heeds = server_heeds;
       };
       credentials_are_sealed_at_most_once = sealed_once m _ _ turns client.each client.others server.each;
-      the_client_seals_after_the_proof = seals_after_proof m _ _ client.each;
+      the_client_seals_after_the_proof = seals_after_proof m _ _ _ client.each client_heeds;
       the_server_never_seals = server_never_seals m _ _ server.each;
       the_identity_is_what_was_opened_last =
           server_past_gives m law g.C.CredentialsProxy.meaning _ _ _ result server_past;
