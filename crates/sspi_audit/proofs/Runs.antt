@@ -25,8 +25,8 @@ use Rattle.sspi_credssp.specs.Turn.{ShowsStateBack, ShowsReply, ShowsAnswer, cli
 use Rattle.sspi_credssp.specs.Noted.{noted_with}
 use Rattle.sspi_credssp.specs.Requests.{IsLong}
 use Rattle.sspi_delegate.specs.declared.carried.Carried.{Carried}
-use Rattle.sspi_delegate.specs.EndRun.{ClientEnd, client_end, ServerEnd, server_end, client_noted, client_frame_at, EachClientTurn}
-use Rattle.sspi_delegate.specs.EndRun.{server_noted, server_frame_at, EachServerTurn}
+use Rattle.sspi_delegate.specs.Turns.{ClientEnd, client_end, ServerEnd, server_end, client_noted, client_frame_at, EachClientTurn}
+use Rattle.sspi_delegate.specs.Turns.{server_noted, server_frame_at, EachServerTurn}
 use Rattle.sspi_delegate.specs.Turns.{client_turns, server_turns, onto_client, onto_server, Alternates}
 use Rattle.sspi_delegate.specs.Headline.{IsRun}
 use Rattle.sspi_audit.specs.Frames.{client_frame, server_frame, own_version, told_by}

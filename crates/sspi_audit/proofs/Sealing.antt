@@ -13,7 +13,7 @@ use Rattle.sspi_credssp.specs.declared.turn.Turn.{Turn}
 use Rattle.sspi_credssp.specs.Turn.{ShownFrame, ShowsNego, ShowsReply}
 use Rattle.sspi_tsreq.specs.declared.request.TsRequest.{TsRequest}
 use Rattle.sspi_delegate.specs.declared.carried.Carried.{Carried}
-use Rattle.sspi_delegate.specs.EndRun.{client_state}
+use Rattle.sspi_delegate.specs.Turns.{client_state}
 use Rattle.sspi_delegate.specs.Turns.{client_turns, onto_client, is_ended, any_ended, GoesOn, AllGoOn}
 use Rattle.sspi_audit.specs.Shown.{ShowsTurn, ShownTurn, EachShown}
 use Rattle.sspi_audit.specs.Standings.{sealing_after}

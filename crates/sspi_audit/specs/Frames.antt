@@ -5,7 +5,7 @@ use Rattle.sspi_credssp.specs.declared.turn.Outcome.{Outcome}
 use Rattle.sspi_credssp.specs.declared.turn.Outcome.TheVariants as outcome
 use Rattle.sspi_credssp.specs.declared.turn.Turn.{Turn}
 use Rattle.sspi_credssp.specs.Turn.{ShownFrame}
-use Rattle.sspi_delegate.specs.EndRun.{client_state, client_noted, has_turn, server_state, server_noted}
+use Rattle.sspi_delegate.specs.Turns.{client_state, client_noted, has_turn, server_state, server_noted}
 
 -- an end's own version is that of its first message that reports no error
 abbrev pub told_by : Option ℕ → Outcome → Option ℕ

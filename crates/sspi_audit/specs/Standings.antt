@@ -2,7 +2,7 @@
 use Rattle.std.specs.Prelude.{◌≡◌, ◌↔◌, ℕ, List, Option, None, Some, IsTrue, Bool, true, false}
 use Rattle.sspi_credssp.specs.declared.turn.Turn.{Turn}
 use Rattle.sspi_credssp.specs.Turn.{ShownFrame}
-use Rattle.sspi_delegate.specs.EndRun.{client_state, client_noted, has_turn, server_state, server_noted}
+use Rattle.sspi_delegate.specs.Turns.{client_state, client_noted, has_turn, server_state, server_noted}
 use Rattle.sspi_delegate.specs.Turns.{client_turns, server_turns, next_end, AllGoOn}
 use Rattle.sspi_audit.specs.Frames.{own_version}
 use Rattle.sspi_audit.specs.declared.standing.Standing.{Standing}

@@ -1,7 +1,7 @@
 //! How an exchange stands between two of its recorded turns.
 ghost use Rattle.std.specs.Prelude.{◌≡◌, ◌↔◌, false, true, List, [], ◌∷◌, length, slice_get, IsTrue, IfOk, IfErr, IfSome};
 ghost use Rattle.sspi_credssp.specs.declared.turn.Turn.{Turn};
-ghost use Rattle.sspi_delegate.specs.EndRun.{client_state, is_over, server_state};
+ghost use Rattle.sspi_delegate.specs.Turns.{client_state, is_over, server_state};
 ghost use Rattle.sspi_delegate.specs.Log.{IsEntry};
 ghost use Rattle.sspi_delegate.specs.Turns.{AllGoOn, GoesOn, next_end};
 ghost use Rattle.sspi_audit.specs.Frames.{client_frame, server_frame, told_by};

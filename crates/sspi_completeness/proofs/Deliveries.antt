@@ -17,7 +17,7 @@ use Rattle.sspi_tsreq.proofs.RequestMatch.{request_again}
 use Rattle.sspi_tsreq.proofs.RoundTrip.{spelled_whole, one_request}
 use Rattle.sspi_delegate.specs.declared.carried.Carried.{Carried}
 use Rattle.sspi_credssp.specs.declared.turn.Turn.{Turn}
-use Rattle.sspi_delegate.specs.Causes.{NewestFits, MessageFits}
+use Rattle.sspi_delegate.specs.Log.{NewestFits, MessageFits}
 use Rattle.sspi_delegate.specs.Log.{delivery_limit, is_taken, IsRead, IsFault, IsDelivered, IsSent, IsEntry, Logged, IsUnreadable}
 use Rattle.sspi_delegate.specs.Link.{Delivers}
 use Rattle.sspi_credssp.specs.Turn.{message_of}

@@ -25,11 +25,11 @@ use Rattle.sspi_delegate.specs.declared.carried.Carried.{Carried}
 use Rattle.sspi_delegate.specs.declared.edit.Edit.{Edit}
 use Rattle.sspi_credssp.specs.declared.turn.Turn.{Turn}
 use Rattle.sspi_delegate.specs.Chain.{kdc_calls}
-use Rattle.sspi_delegate.specs.Causes.{RunEnds}
+use Rattle.sspi_delegate.specs.Log.{RunEnds}
 use Rattle.sspi_delegate.specs.Turns.{client_turns, server_turns}
 use Rattle.sspi_delegate.specs.History.{ClientPast, ServerHistory}
 use Rattle.sspi_delegate.specs.Link.{StaysTold, AnswerTold}
-use Rattle.sspi_delegate.specs.EndRun.{server_end, GivesNewest}
+use Rattle.sspi_delegate.specs.Turns.{server_end, GivesNewest}
 use Rattle.sspi_completeness.specs.Matching.{MatchModes, messages_of, messages_in, AreMatching, IsUndisturbed, IsCalm}
 use Rattle.sspi_completeness.specs.Matching.{ComesToOkIn}
 use Rattle.sspi_completeness.specs.Negotiating.{Needs, messages_by, kdc_url}

@@ -17,7 +17,7 @@ use Rattle.sspi_credssp.specs.declared.turn.Outcome.{Outcome}
 use Rattle.sspi_credssp.specs.declared.turn.Outcome.TheVariants.{Reply, Final, Finished, Refused}
 use Rattle.sspi_credssp.specs.declared.turn.Turn.{Turn}
 use Rattle.sspi_delegate.specs.Chain.{KdcCalls}
-use Rattle.sspi_delegate.specs.Causes.{one_of, turns_of}
+use Rattle.sspi_delegate.specs.Log.{one_of, turns_of}
 use Rattle.sspi_delegate.specs.Turns.{onto_client, onto_server, client_turns, server_turns, other, next_end, GoesOn, AllGoOn, Alternates}
 use Rattle.sspi_delegate.proofs.Histories.{server_asks}
 use Rattle.sspi_delegate.specs.History.{ClientMakes, ClientMade, ClientHistory, ServerMakes, ServerMade, ServerHistory}

@@ -23,14 +23,14 @@ use Rattle.sspi_credssp.specs.declared.turn.Outcome.{Outcome}
 use Rattle.sspi_credssp.specs.declared.turn.Outcome.TheVariants.{Reply, Final, Finished, Refused}
 use Rattle.sspi_credssp.specs.declared.turn.Turn.{Turn}
 use Rattle.sspi_delegate.specs.Chain.{KdcCalls}
-use Rattle.sspi_delegate.specs.Causes.{Cause, RunEnds, Given, carried, too_long, link_failed, no_memory, turns_of, IsClientRefusal}
-use Rattle.sspi_delegate.specs.Causes.{IsServerRefusal, IsFinished}
+use Rattle.sspi_delegate.specs.Log.{Cause, RunEnds, Given, carried, too_long, link_failed, no_memory, turns_of, IsClientRefusal}
+use Rattle.sspi_delegate.specs.Log.{IsServerRefusal, IsFinished}
 use Rattle.sspi_delegate.specs.Link.{FollowsEdits, FollowsTold, StaysTold, newest_message, CarryFails, AnswerTold}
 use Rattle.sspi_delegate.specs.Turns.{onto_server, client_turns, server_turns, next_end, Alternates}
 use Rattle.sspi_delegate.proofs.Histories.{client_stopped_history}
 use Rattle.sspi_delegate.specs.History.{ClientHistory, ClientPast, ServerHistory}
 use Rattle.sspi_delegate.specs.Log.{LoggedButLast}
-use Rattle.sspi_delegate.specs.EndRun.{server_end, GivesNewest}
+use Rattle.sspi_delegate.specs.Turns.{server_end, GivesNewest}
 use Rattle.sspi_completeness.specs.Matching.{AreWholePast, IsUndisturbed, unedited, shown, IsCalm, NoneFailed, none_told, none_counted}
 use Rattle.sspi_completeness.proofs.Deliveries.{always_readable, never_too_long}
 use Rattle.sspi_completeness.proofs.Ends.{Comes, Ends}

@@ -36,7 +36,7 @@ use Rattle.sspi_delegate.specs.declared.carried.Carried.{Carried}
 use Rattle.sspi_credssp.specs.declared.turn.End.{End}
 use Rattle.sspi_credssp.specs.declared.turn.End.TheVariants.{Client, Server}
 use Rattle.sspi_credssp.specs.declared.turn.Turn.{Turn}
-use Rattle.sspi_delegate.specs.Causes.{one_of, turns_of, NewestIs, IsFinished, RunEnds}
+use Rattle.sspi_delegate.specs.Log.{one_of, turns_of, NewestIs, IsFinished, RunEnds}
 use Rattle.sspi_delegate.specs.Turns.{onto_server, server_turns, OthersGoOn, GoesOn, other, next_end, Alternates}
 use Rattle.sspi_delegate.specs.Headline.{HasExchanged}
 use Rattle.sspi_delegate.specs.History.{ServerMakes, ServerMade, ServerHistory}

@@ -17,7 +17,7 @@ use Rattle.sspi_delegate.specs.declared.answer.DelegateError.{DelegateError}
 use Rattle.sspi_delegate.specs.declared.answer.DelegateError.TheVariants as errors
 use Rattle.sspi_delegate.specs.declared.carried.Carried.{Carried}
 use Rattle.sspi_delegate.specs.declared.edit.Edit.{Edit}
-use Rattle.sspi_delegate.specs.Delegates.{Around, Parties}
+use Rattle.sspi_delegate.specs.Headline.{Around, Parties}
 use Rattle.sspi_delegate.specs.Headline.{IsFresh}
 use Rattle.sspi_delegate.specs.Link.{Delivers}
 use Rattle.sspi_completeness.specs.Negotiating.{AreNegotiating, messages_by}

@@ -1,6 +1,6 @@
 ghost use Rattle.std.specs.Prelude.{◌≤◌, [], IfOk};
 ghost use Rattle.sspi_credssp.specs.Context.{either};
-ghost use Rattle.sspi_delegate.specs.Delegates.{around_by, parties, Delegates, Accounts, Stays};
+ghost use Rattle.sspi_delegate.specs.Headline.{around_by, parties, Delegates, Accounts, Stays};
 ghost use Rattle.sspi_delegate.specs.Headline.{IsFresh};
 ghost use Rattle.sspi_mech.specs.Kerberos.{kerberos_meaning};
 ghost use Rattle.sspi_mech.specs.Ntlm.{ntlm_meaning};

@@ -21,8 +21,8 @@ use Rattle.sspi_mech.specs.declared.step.Step.{Step}
 use Rattle.sspi_credssp.specs.Context.{IfContext, ContextSetting}
 use Rattle.sspi_credssp.specs.Noted.{noted_in, noted_with}
 use Rattle.sspi_credssp.specs.Turn.{ClientFrame, UnlessRefused, FitsNoted, OnceNegotiated, ShowsClientActs, ShowsNego, client_shown}
-use Rattle.sspi_delegate.specs.EndRun.{ClientEnd, client_end, client_state, client_noted, has_turn, client_frame_at, EachClientTurn}
-use Rattle.sspi_delegate.specs.EndRun.{ClientRan, HasBegun, ClientFollows}
+use Rattle.sspi_delegate.specs.Turns.{ClientEnd, client_end, client_state, client_noted, has_turn, client_frame_at, EachClientTurn}
+use Rattle.sspi_delegate.specs.Turns.{ClientRan, HasBegun, ClientFollows}
 use Rattle.sspi_delegate.specs.Turns.{made_in, opened_in, is_replied, is_ended, any_proved, any_ended, OthersGoOn, GoesOn, AllGoOn}
 use Rattle.sspi_credssp.proofs.Counting.{counted_by}
 use Rattle.sspi_delegate.proofs.Alternating.{others_go}

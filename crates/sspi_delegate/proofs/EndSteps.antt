@@ -6,7 +6,7 @@ use Rattle.sspi_credssp.specs.Acts.{sealings_by, unsealings_by, sealings_in, uns
 use Rattle.sspi_credssp.specs.Unused.{IsUnusedIn}
 use Rattle.sspi_credssp.specs.Context.{ContextSetting}
 use Rattle.sspi_credssp.specs.Turn.{UnlessRefused}
-use Rattle.sspi_delegate.specs.EndRun.{Kept, Ran}
+use Rattle.sspi_delegate.specs.Turns.{Kept, Ran}
 use Rattle.sspi_delegate.specs.Turns.{made_in, opened_in}
 use Rattle.sspi_credssp.specs.declared.turn.Outcome.{Outcome}
 use Rattle.sspi_credssp.specs.declared.turn.Outcome.TheVariants as outcome

@@ -15,9 +15,9 @@ use Rattle.sspi_credssp.specs.declared.turn.End.TheVariants.{Client, Server}
 use Rattle.sspi_credssp.specs.declared.turn.Outcome.{Outcome}
 use Rattle.sspi_credssp.specs.declared.turn.Outcome.TheVariants.{Reply, Final, Finished, Refused}
 use Rattle.sspi_credssp.specs.declared.turn.Turn.{Turn}
-use Rattle.sspi_delegate.specs.Causes.{NewestIs, IsClientRefusal, IsServerRefusal, IsFinished, MessageFits, NewestFits, TurnLeft, turns_of}
-use Rattle.sspi_delegate.specs.Causes.{for_a_turn, for_a_message, by_the_client, by_the_server}
-use Rattle.sspi_delegate.specs.Causes.{RunEnds, IsOnly, IsAnswerOf, IsClientError, IsServerError, Exactly}
+use Rattle.sspi_delegate.specs.Log.{NewestIs, IsClientRefusal, IsServerRefusal, IsFinished, MessageFits, NewestFits, TurnLeft, turns_of}
+use Rattle.sspi_delegate.specs.Log.{for_a_turn, for_a_message, by_the_client, by_the_server}
+use Rattle.sspi_delegate.specs.Log.{RunEnds, IsOnly, IsAnswerOf, IsClientError, IsServerError, Exactly}
 use Rattle.sspi_delegate.specs.Log.{is_taken, Logged, LoggedButLast, OpenFor, UnreadFor, IsUnreadable, IsFault}
 use Rattle.sspi_delegate.specs.Turns.{other, next_end, GoesOn, AllGoOn}
 use Rattle.sspi_credssp.specs.Turn.{message_of}

@@ -18,9 +18,9 @@ use Rattle.sspi_credssp.specs.declared.turn.End.TheVariants.{Client, Server}
 use Rattle.sspi_credssp.specs.declared.turn.Outcome.{Outcome}
 use Rattle.sspi_credssp.specs.declared.turn.Outcome.TheVariants as outcome
 use Rattle.sspi_credssp.specs.declared.turn.Turn.{Turn}
-use Rattle.sspi_delegate.specs.Causes.{NewestIs, IsFinished, RunEnds}
-use Rattle.sspi_delegate.specs.EndRun.{ClientEnd, ServerEnd, client_frame_at, EachClientTurn, server_state, any_over, server_frame_at}
-use Rattle.sspi_delegate.specs.EndRun.{EachServerTurn}
+use Rattle.sspi_delegate.specs.Log.{NewestIs, IsFinished, RunEnds}
+use Rattle.sspi_delegate.specs.Turns.{ClientEnd, ServerEnd, client_frame_at, EachClientTurn, server_state, any_over, server_frame_at}
+use Rattle.sspi_delegate.specs.Turns.{EachServerTurn}
 use Rattle.sspi_delegate.specs.Turns.{onto_client, onto_server, client_turns, server_turns, is_replied, is_ended, any_ended, any_proved}
 use Rattle.sspi_delegate.specs.Turns.{any_finished, OthersGoOn, GoesOn, AllGoOn, Alternates}
 use Rattle.sspi_delegate.specs.Headline.{EachHeedsServer, sealed_turns, SealsAfterProof, any_exchange, HasExchanged}

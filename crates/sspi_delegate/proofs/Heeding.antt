@@ -22,8 +22,8 @@ use Rattle.sspi_credssp.specs.Turn.{AtNoted, UnlessRefused, FitsNoted}
 use Rattle.sspi_delegate.specs.declared.answer.Delegation.{Delegation}
 use Rattle.sspi_delegate.specs.declared.answer.DelegateError.{DelegateError}
 use Rattle.sspi_delegate.specs.Chain.{KdcCalls}
-use Rattle.sspi_delegate.specs.EndRun.{ClientEnd, client_end, ServerEnd, server_end, client_noted, EachClientTurn, HasBegun, ClientFollows}
-use Rattle.sspi_delegate.specs.EndRun.{server_noted, EachServerTurn, ServerFollows}
+use Rattle.sspi_delegate.specs.Turns.{ClientEnd, client_end, ServerEnd, server_end, client_noted, EachClientTurn, HasBegun, ClientFollows}
+use Rattle.sspi_delegate.specs.Turns.{server_noted, EachServerTurn, ServerFollows}
 use Rattle.sspi_delegate.specs.Turns.{OthersGoOn, OthersUnrefused, GoesOn, AllGoOn, IsUnrefused, NoneRefused}
 use Rattle.sspi_delegate.specs.Headline.{IsDowngrade, FindsOldServer, FindsOldClient, HeedsServer, HeedsClient}
 use Rattle.sspi_delegate.specs.Headline.{EachHeedsServer, EachHeedsClient}

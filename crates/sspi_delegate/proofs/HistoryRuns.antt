@@ -12,7 +12,7 @@ use Rattle.sspi_credssp.specs.ServerTurn.{ServerTurn, server_turn}
 use Rattle.sspi_delegate.specs.declared.answer.Delegation.{Delegation}
 use Rattle.sspi_delegate.specs.declared.answer.DelegateError.{DelegateError}
 use Rattle.sspi_delegate.specs.Chain.{KdcCalls}
-use Rattle.sspi_delegate.specs.EndRun.{ClientRan, ClientFollows, server_end, ServerRan, ServerFollows, GivesNewest}
+use Rattle.sspi_delegate.specs.Turns.{ClientRan, ClientFollows, server_end, ServerRan, ServerFollows, GivesNewest}
 use Rattle.sspi_delegate.specs.Turns.{OthersGoOn, OthersUnrefused, GoesOn, AllGoOn, IsUnrefused, NoneRefused}
 use Rattle.sspi_delegate.specs.History.{ClientMakes, ClientHistory, ClientLeft, between, waiting, ClientPast, ServerMakes, ServerHistory}
 use Rattle.sspi_delegate.specs.History.{ServerPast, ProxyStays}

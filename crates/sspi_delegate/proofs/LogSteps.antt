@@ -19,10 +19,10 @@ use Rattle.sspi_credssp.specs.declared.turn.End.TheVariants.{Client, Server}
 use Rattle.sspi_credssp.specs.declared.turn.Outcome.{Outcome}
 use Rattle.sspi_credssp.specs.declared.turn.Outcome.TheVariants.{Reply, Final, Finished, Refused}
 use Rattle.sspi_credssp.specs.declared.turn.Turn.{Turn}
-use Rattle.sspi_delegate.specs.Causes.{Finishes, Stopped, NewestIs, IsClientRefusal, IsServerRefusal}
+use Rattle.sspi_delegate.specs.Log.{Finishes, Stopped, NewestIs, IsClientRefusal, IsServerRefusal}
 use Rattle.sspi_delegate.specs.Halves.{Between, Asked, Turned, IsAnswerTo, HasMessage}
-use Rattle.sspi_delegate.specs.Causes.{IsFinished, TurnLeft, Given, carried, too_long, link_failed, no_memory, turns_of}
-use Rattle.sspi_delegate.specs.Causes.{Lacks, for_a_turn, for_a_message, by_the_client, by_the_server}
+use Rattle.sspi_delegate.specs.Log.{IsFinished, TurnLeft, Given, carried, too_long, link_failed, no_memory, turns_of}
+use Rattle.sspi_delegate.specs.Log.{Lacks, for_a_turn, for_a_message, by_the_client, by_the_server}
 use Rattle.sspi_delegate.specs.Log.{delivery_limit, IsUnread, HeadWithin, Logged, LoggedButLast, HasLog, IsDelivered, IsRead, IsSent}
 use Rattle.sspi_delegate.specs.Log.{IsFault, IsUnreadable, WithinFor}
 use Rattle.sspi_delegate.specs.Readers.{Fed, HeadTaken, TakesIn}

@@ -6,7 +6,7 @@ use Rattle.sspi_mech.specs.Meaning.{Meaning}
 use Rattle.sspi_credssp.specs.declared.turn.Turn.{Turn}
 use Rattle.sspi_credssp.specs.Context.{ContextSetting}
 use Rattle.sspi_credssp.proofs.OneText.{one_held}
-use Rattle.sspi_delegate.specs.EndRun.{GivesNewest, ServerEnd}
+use Rattle.sspi_delegate.specs.Turns.{GivesNewest, ServerEnd}
 
 pub one_given : {C : Type 0} (c : Meaning ContextSetting C) → IsContext c → (e : ServerEnd C) (past : List Turn)
     (identity other : AuthIdentity) → GivesNewest c e past identity → GivesNewest c e past other → identity ≡ other

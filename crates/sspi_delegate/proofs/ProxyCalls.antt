@@ -22,7 +22,7 @@ use Rattle.sspi_credssp.proofs.Asked.{has_not_asked, has_asked_on, has_asked_as}
 use Rattle.sspi_delegate.specs.declared.answer.Delegation.{Delegation}
 use Rattle.sspi_delegate.specs.declared.answer.DelegateError.{DelegateError}
 use Rattle.sspi_delegate.specs.declared.carried.Carried.{Carried}
-use Rattle.sspi_delegate.specs.Causes.{RunEnds, IsFinished}
+use Rattle.sspi_delegate.specs.Log.{RunEnds, IsFinished}
 use Rattle.sspi_delegate.specs.Turns.{onto_server, server_turns, OthersGoOn, AllGoOn, IsUnrefused}
 use Rattle.sspi_delegate.specs.History.{ServerMakes, ServerHistory, ServerMade, ServerPast}
 use Rattle.sspi_delegate.proofs.Alternating.{went_unrefused}

@@ -11,7 +11,7 @@ use Rattle.sspi_delegate.specs.declared.carried.Carried.{Carried}
 use Rattle.sspi_delegate.specs.declared.answer.DelegateError.{DelegateError}
 use Rattle.sspi_delegate.specs.declared.answer.DelegateError.TheVariants as errors
 use Rattle.sspi_delegate.specs.declared.edit.Edit.{Edit}
-use Rattle.sspi_delegate.specs.Causes.{NewestIs, IsServerRefusal}
+use Rattle.sspi_delegate.specs.Log.{NewestIs, IsServerRefusal}
 use Rattle.sspi_delegate.specs.Link.{StaysTold, newest_message, CarryFails, HasFailed, HasFailedToTell, AnswerTold}
 use Rattle.sspi_delegate.specs.Halves.{IsAnswerTo}
 use Rattle.sspi_delegate.specs.Sending.{GiveTold, RequestTold}

@@ -10,7 +10,7 @@ use Rattle.sspi_credssp.specs.Turn.{ServerFrame, ShowsAnswer, server_shown}
 use Rattle.sspi_credssp.specs.declared.turn.End.TheVariants.{Server}
 use Rattle.sspi_credssp.specs.declared.turn.Outcome.TheVariants as outcome
 use Rattle.sspi_credssp.specs.declared.turn.Turn.{Turn}
-use Rattle.sspi_delegate.specs.Causes.{IsServerRefusal}
+use Rattle.sspi_delegate.specs.Log.{IsServerRefusal}
 use Rattle.sspi_delegate.specs.LogKeeping.{recorded}
 use Rattle.sspi_delegate.specs.Recorded.{PushedSuch}
 

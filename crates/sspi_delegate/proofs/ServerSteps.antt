@@ -18,8 +18,8 @@ use Rattle.sspi_credssp.specs.Turn.{IsOver, MayCheck, ShowsAnswer, ShowsNegoBack
 use Rattle.sspi_credssp.specs.Turn.{ServerFrame, UnlessRefused, FitsNoted, OnceNegotiated}
 use Rattle.sspi_delegate.specs.Turns.{made_in, opened_in, is_replied, is_finished, any_proved, any_finished, OthersUnrefused, IsUnrefused}
 use Rattle.sspi_delegate.specs.Turns.{NoneRefused}
-use Rattle.sspi_delegate.specs.EndRun.{ServerEnd, server_end, is_over, any_over, server_state, server_noted, server_frame_at}
-use Rattle.sspi_delegate.specs.EndRun.{EachServerTurn, ServerRan, ServerFollows}
+use Rattle.sspi_delegate.specs.Turns.{ServerEnd, server_end, is_over, any_over, server_state, server_noted, server_frame_at}
+use Rattle.sspi_delegate.specs.Turns.{EachServerTurn, ServerRan, ServerFollows}
 use Rattle.sspi_credssp.proofs.Counting.{counted_by}
 use Rattle.sspi_delegate.proofs.EndSteps.{none_ran, IsQuiet, AllQuiet, or_false, or_not, is_false, quiet_made, unused_in, same_but, Touched}
 use Rattle.sspi_delegate.proofs.EndSteps.{touched, untouched, unless_given, unless_map, made_by_proof, opened_by_check}

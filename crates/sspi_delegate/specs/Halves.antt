@@ -17,7 +17,7 @@ use Rattle.sspi_delegate.specs.declared.answer.DelegateError.TheVariants as erro
 use Rattle.sspi_delegate.specs.declared.carried.Carried.{Carried}
 use Rattle.sspi_delegate.specs.Log.{Logged, LoggedButLast, IsDelivered, UnreadFor}
 use Rattle.sspi_delegate.specs.Turns.{AllGoOn, Alternates}
-use Rattle.sspi_delegate.specs.Causes.{Finishes, Stopped}
+use Rattle.sspi_delegate.specs.Log.{Finishes, Stopped}
 use Rattle.sspi_delegate.specs.declared.ends.Round.{Round}
 use Rattle.sspi_delegate.specs.declared.ends.Round.TheVariants as round
 use Rattle.sspi_delegate.specs.Chain.{KdcCalls}

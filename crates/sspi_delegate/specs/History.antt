@@ -25,7 +25,7 @@ use Rattle.sspi_delegate.specs.declared.answer.DelegateError.{DelegateError}
 use Rattle.sspi_delegate.specs.declared.answer.DelegateError.TheVariants as errors
 use Rattle.sspi_delegate.specs.declared.answer.Delegation.{Delegation}
 use Rattle.sspi_delegate.specs.Chain.{KdcCalls, client_stage, ClientChain, server_stage, ServerChain}
-use Rattle.sspi_delegate.specs.EndRun.{ClientFollows, ServerFollows, server_end, GivesNewest}
+use Rattle.sspi_delegate.specs.Turns.{ClientFollows, ServerFollows, server_end, GivesNewest}
 use Rattle.sspi_delegate.specs.Turns.{AllGoOn}
 
 -- ---- Why an end refused its last turn: what it looked at, in its order, and what its context answered.

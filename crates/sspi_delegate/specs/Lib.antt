@@ -1,9 +1,6 @@
 pub mod Chain
-pub mod Causes
 pub mod Halves
 pub mod Edits
-pub mod EndRun
-pub mod Delegates
 pub mod Log
 pub mod Readers
 pub mod Link

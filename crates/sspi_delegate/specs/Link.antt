@@ -18,7 +18,7 @@ use Rattle.sspi_delegate.specs.declared.edit.EditKind.{EditKind}
 use Rattle.sspi_delegate.specs.declared.edit.EditKind.TheVariants.{Drop, Cut, Set, Add, Give, Again, Fail}
 use Rattle.sspi_delegate.specs.declared.link.LinkError.{LinkError}
 use Rattle.sspi_delegate.specs.declared.link.LinkError.TheVariants.{Failed, InsufficientMemory}
-use Rattle.sspi_delegate.specs.Causes.{NewestIs, IsServerRefusal}
+use Rattle.sspi_delegate.specs.Log.{NewestIs, IsServerRefusal}
 use Rattle.sspi_delegate.specs.Log.{Grows}
 
 -- ---- the edits

@@ -1,11 +1,24 @@
--- The turns of an exchange, the newest first, and what they show of each end.
-use Rattle.std.specs.Prelude.{◌≡◌, ℕ, List, [], ◌∷◌, ◌+◌, ◌&&◌, ◌||◌, Bool, true, false}
+-- The turns of an exchange, the newest first, and what they show of each end; and the turns of either end, one after another
+-- (MS-CSSP 3.1.5), whose state and noted version are those that its turns say.
+use Rattle.std.specs.Prelude.{◌≡◌, ℕ, List, [], ◌∷◌, ◌+◌, ◌&&◌, ◌||◌, Bool, true, false, Option, None, IsSome, if◌then◌else◌, Some}
 use Rattle.sspi_credssp.specs.declared.turn.End.{End}
 use Rattle.sspi_credssp.specs.declared.turn.End.TheVariants.{Client, Server}
 use Rattle.sspi_credssp.specs.declared.turn.Outcome.{Outcome}
 use Rattle.sspi_credssp.specs.declared.turn.Outcome.TheVariants.{Reply, Final, Finished, Refused}
 use Rattle.sspi_credssp.specs.declared.turn.Turn.{Turn}
-use Rattle.sspi_credssp.specs.Acts.{sealings_by, unsealings_by}
+use Rattle.sspi_credssp.specs.Acts.{sealings_by, unsealings_by, sealings_in, unsealings_in, is_waiting_in}
+use Rattle.sspi_types.specs.declared.security_status.SecurityStatus.{SecurityStatus}
+use Rattle.sspi_types.specs.declared.security_status.SecurityStatus.TheVariants as statuses
+use Rattle.sspi_names.specs.declared.identity.AuthIdentity.{AuthIdentity}
+use Rattle.sspi_mech.specs.Meaning.{Meaning}
+use Rattle.sspi_credssp.specs.declared.state.CredSspState.{CredSspState}
+use Rattle.sspi_credssp.specs.declared.state.CredSspState.TheVariants.{NegoToken, AuthInfo, Final, PubKeyInfo}
+use Rattle.sspi_credssp.specs.ClientTurn.{IsClientTurn}
+use Rattle.sspi_credssp.specs.Context.{ContextSetting}
+use Rattle.sspi_credssp.specs.Ends.{ClientSettings, ClientView, ServerSettings, ServerView}
+use Rattle.sspi_credssp.specs.Noted.{noted_with}
+use Rattle.sspi_credssp.specs.ServerTurn.{IsServerTurn, HoldsIdentity}
+use Rattle.sspi_credssp.specs.Turn.{Frame, ClientFrame, ServerFrame}
 
 -- a transcript: its turns, and for how many more there is room
 pub record TranscriptView : Type 0 where
@@ -106,3 +119,139 @@ OthersGoOn (t ∷ past) = AllGoOn past
 abbrev pub OthersUnrefused : List Turn → Type 0
 OthersUnrefused [] = Unit {0}
 OthersUnrefused (t ∷ past) = NoneRefused past
+
+-- what an end keeps over its turns, and its context
+pub record Kept (S C : Type 0) : Type 0 where
+  pub settings : S
+  pub context : Option C
+
+abbrev pub ClientEnd : Type 0 → Type 0
+ClientEnd C = Kept ClientSettings C
+
+abbrev pub client_end : {C : Type 0} → ClientView C → ClientEnd C
+client_end client = record { settings = client.settings; context = client.context }
+
+abbrev pub ServerEnd : Type 0 → Type 0
+ServerEnd C = Kept ServerSettings C
+
+abbrev pub server_end : {C P : Type 0} → ServerView C P → ServerEnd C
+server_end server = record { settings = server.settings; context = server.context }
+
+-- what an end is at the turn t after these turns, by what turns make of its state and of the version that is noted
+abbrev pub frame_at : {S C : Type 0} → (List Turn → CredSspState) → (List Turn → Option ℕ) → Bool → Kept S C → List Turn → Turn →
+    Frame S C
+frame_at state noted looks e past t = record {
+  settings = e.settings;
+  state = state past;
+  made = made_in past;
+  opened = opened_in past;
+  looks = looks;
+  noted = noted (t ∷ past);
+  context = e.context;
+}
+
+-- each turn is one that may come after those before it
+abbrev pub EachTurn : (List Turn → Turn → Type 0) → List Turn → Type 0
+EachTurn MayCome [] = Unit {0}
+EachTurn MayCome (t ∷ past) = MayCome past t × EachTurn MayCome past
+
+-- An end that was `first` has made these turns: each is one over its context now, which sealed and opened exactly what they say.
+pub record Ran {S C : Type 0} (c : Meaning ContextSetting C) (Each Others : List Turn → Type 0) (first now : Kept S C)
+    (past : List Turn) : Type 0 where
+  pub same : now.settings ≡ first.settings
+  pub made : sealings_in c now.context ≡ made_in past
+  pub opened : unsealings_in c now.context ≡ opened_in past
+  pub each : Each past
+  -- only the newest turn may have been refused
+  pub others : Others past
+
+-- ---- the client
+
+-- the state after these turns
+abbrev pub client_state : List Turn → CredSspState
+client_state past = if any_ended past then Final else (if any_proved past then AuthInfo else NegoToken)
+
+-- the version that is noted: that of the second request, since the first is the client's own, unless it is below the least
+abbrev pub client_noted : ℕ → List Turn → Option ℕ
+client_noted least [] = None
+client_noted least (t ∷ []) = None
+client_noted least (t ∷ u ∷ []) = noted_with least None t.delivered.version
+client_noted least (t ∷ u ∷ v ∷ past) = client_noted least (u ∷ v ∷ past)
+
+-- a turn came before
+abbrev pub has_turn : List Turn → Bool
+has_turn [] = false
+has_turn (t ∷ past) = true
+
+-- what the client is at the turn t after these turns
+abbrev pub client_frame_at : {C : Type 0} → ClientEnd C → List Turn → Turn → ClientFrame C
+client_frame_at e past t = frame_at client_state (client_noted e.settings.least) (has_turn past) e past t
+
+module _ {C : Type 0} (c : Meaning ContextSetting C) where
+  abbrev pub EachClientTurn : ClientEnd C → List Turn → Type 0
+  EachClientTurn e past = EachTurn (λ past t. IsClientTurn c (client_frame_at e past t) t) past
+
+  abbrev pub ClientRan : ClientView C → ClientView C → List Turn → Type 0
+  ClientRan first now past = Ran c (EachClientTurn (client_end now)) OthersGoOn (client_end first) (client_end now) past
+
+  abbrev pub HasBegun : Option C → List Turn → Type 0
+  HasBegun context [] = context ≡ None
+  HasBegun context (t ∷ past) = IsSome context
+
+  -- none of the turns was refused, and the client is where they left it
+  pub record ClientFollows (first now : ClientView C) (past : List Turn) : Type 0 where
+    pub ran : ClientRan first now past
+    pub state : now.state ≡ client_state past
+    pub noted : now.noted ≡ client_noted now.settings.least past
+    pub begun : HasBegun now.context past
+    -- no turn is suspended
+    pub idle : is_waiting_in c now.context ≡ false
+    pub going : AllGoOn past
+
+-- ---- the server
+
+abbrev pub is_over : Option SecurityStatus → Bool
+is_over None = false
+is_over (Some statuses.Ok) = true
+is_over (Some statuses.CompleteNeeded) = true
+is_over (Some other) = false
+
+-- one of the turns has answered the last token
+abbrev pub any_over : List Turn → Bool
+any_over [] = false
+any_over (t ∷ past) = (is_replied t.outcome && is_over t.acts.status) || any_over past
+
+-- the state after these turns
+abbrev pub server_state : List Turn → CredSspState
+server_state past =
+    if any_finished past then Final else (if any_proved past then AuthInfo else (if any_over past then PubKeyInfo else NegoToken))
+
+-- the version that is noted: that of the first request, unless it is below the least
+abbrev pub server_noted : ℕ → List Turn → Option ℕ
+server_noted least [] = None
+server_noted least (t ∷ []) = noted_with least None t.delivered.version
+server_noted least (t ∷ u ∷ past) = server_noted least (u ∷ past)
+
+-- what the server is at the turn t after these turns
+abbrev pub server_frame_at : {C : Type 0} → ServerEnd C → List Turn → Turn → ServerFrame C
+server_frame_at e past t = frame_at server_state (server_noted e.settings.least) true e past t
+
+module _ {C : Type 0} (c : Meaning ContextSetting C) where
+  abbrev pub EachServerTurn : ServerEnd C → List Turn → Type 0
+  EachServerTurn e past = EachTurn (λ past t. IsServerTurn c (server_frame_at e past t) t) past
+
+  -- the identity is the one in the text that the context opened last, which is the newest turn's
+  abbrev pub GivesNewest : ServerEnd C → List Turn → AuthIdentity → Type 0
+  GivesNewest e [] identity = ⊥
+  GivesNewest e (t ∷ past) identity = HoldsIdentity c e.context t.delivered.auth_info identity
+
+  module _ {P : Type 0} where
+    abbrev pub ServerRan : ServerView C P → ServerView C P → List Turn → Type 0
+    ServerRan first now past = Ran c (EachServerTurn (server_end now)) OthersUnrefused (server_end first) (server_end now) past
+
+    -- none of the turns was refused, and the server is where they left it
+    pub record ServerFollows (first now : ServerView C P) (past : List Turn) : Type 0 where
+      pub ran : ServerRan first now past
+      pub state : now.state ≡ server_state past
+      pub noted : now.noted ≡ server_noted now.settings.least past
+      pub unrefused : NoneRefused past

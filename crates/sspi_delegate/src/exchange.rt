@@ -2,12 +2,12 @@ ghost use Rattle.std.specs.Prelude.{◌≡◌, ℕ, ◌+◌, ◌≤◌, List, []
 ghost use Rattle.sspi_credssp.specs.Ends.{ClientView, ServerView};
 ghost use Rattle.sspi_credssp.specs.Context.{either};
 ghost use Rattle.sspi_delegate.specs.Chain.{kdc_calls};
-ghost use Rattle.sspi_delegate.specs.Delegates.{around_by, parties, Delegates, Accounts, Stays};
+ghost use Rattle.sspi_delegate.specs.Headline.{around_by, parties, Delegates, Accounts, Stays};
 ghost use Rattle.sspi_delegate.specs.Turns.{client_turns, server_turns, next_end, AllGoOn};
 ghost use Rattle.sspi_delegate.specs.History.{ClientHistory, ClientPast, ServerHistory, ServerPast, KdcStays, ProxyStays};
 ghost use Rattle.sspi_delegate.specs.Halves.{IsNoRefusal, ClientHalfPast, ServerHalfPast, Between};
 ghost use Rattle.sspi_delegate.specs.declared.carried.Carried.{Carried};
-ghost use Rattle.sspi_delegate.specs.Causes.{Stopped, RunEnds, TurnLeft, Given, turns_of};
+ghost use Rattle.sspi_delegate.specs.Log.{Stopped, RunEnds, TurnLeft, Given, turns_of};
 ghost use Rattle.sspi_delegate.specs.Halves.{Asked, Turned, ClientHalf, ServerHalf, HasMessage, IsAnswerTo};
 ghost use Rattle.sspi_delegate.specs.Headline.{IsFresh};
 ghost use Rattle.sspi_delegate.specs.Link.{StaysTold, newest_message, AnswerTold};

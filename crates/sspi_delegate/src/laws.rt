@@ -5,7 +5,7 @@ ghost use Rattle.sspi_names.specs.declared.identity.AuthIdentity.{AuthIdentity};
 ghost use Rattle.sspi_credssp.specs.declared.context.SspiContext.{SspiContext};
 ghost use Rattle.sspi_credssp.specs.declared.turn.Turn.{Turn};
 ghost use Rattle.sspi_credssp.specs.Context.{either};
-ghost use Rattle.sspi_delegate.specs.EndRun.{GivesNewest, ServerEnd};
+ghost use Rattle.sspi_delegate.specs.Turns.{GivesNewest, ServerEnd};
 
 use sspi_mech::Mechanism;
 

@@ -8,7 +8,7 @@ use Rattle.sspi_delegate.specs.declared.answer.DelegateError.{DelegateError}
 use Rattle.sspi_delegate.specs.declared.answer.DelegateError.TheVariants as errors
 use Rattle.sspi_delegate.specs.declared.carried.Carried.{Carried}
 use Rattle.sspi_delegate.specs.declared.edit.Edit.{Edit}
-use Rattle.sspi_delegate.specs.Causes.{RunEnds}
+use Rattle.sspi_delegate.specs.Log.{RunEnds}
 use Rattle.sspi_delegate.specs.Link.{Delivers, StaysTold, FollowsTold}
 use Rattle.sspi_delegate.specs.Log.{LoggedButLast}
 use Rattle.sspi_tsreq.specs.declared.early.EarlyUserAuthResult.{EarlyUserAuthResult}

@@ -5,7 +5,7 @@ use Rattle.sspi_credssp.specs.Context.{ContextSetting}
 use Rattle.sspi_delegate.specs.declared.answer.Delegation.{Delegation}
 use Rattle.sspi_delegate.specs.declared.answer.DelegateError.{DelegateError}
 use Rattle.sspi_delegate.specs.declared.answer.DelegateError.TheVariants as errors
-use Rattle.sspi_delegate.specs.Delegates.{Around, Parties, Delegates, Accounts, Stays}
+use Rattle.sspi_delegate.specs.Headline.{Around, Parties, Delegates, Accounts, Stays}
 use Rattle.sspi_delegate.specs.Headline.{IsFresh}
 use Rattle.sspi_early.specs.declared.answer.Early.{Early}
 use Rattle.sspi_early.specs.declared.answer.EarlyError.{EarlyError}

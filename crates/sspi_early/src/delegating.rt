@@ -2,7 +2,7 @@ ghost use Rattle.std.specs.Prelude.{[]};
 ghost use Rattle.sspi_completeness.specs.Matching.{AreMatching, IsCalm, NothingDisturbs, messages_in};
 ghost use Rattle.sspi_credssp.specs.Exchange.{delegated_as};
 ghost use Rattle.sspi_credssp.specs.Context.{either};
-ghost use Rattle.sspi_delegate.specs.Delegates.{around_by, parties};
+ghost use Rattle.sspi_delegate.specs.Headline.{around_by, parties};
 ghost use Rattle.sspi_early.specs.Completes.{AnswersEarlyIn};
 ghost use Rattle.sspi_early.specs.Authorizes.{link_at};
 ghost use Rattle.sspi_early.specs.Early.{GoesOn, IsEarly};

@@ -20,8 +20,8 @@ use Rattle.sspi_credssp.specs.Proxy.{ProxyMeaning}
 use Rattle.sspi_credssp.specs.Requests.{nonce_of}
 use Rattle.sspi_credssp.specs.Ends.{ServerView}
 use Rattle.sspi_credssp.specs.ServerTurn.{HoldsIdentity}
-use Rattle.sspi_delegate.specs.Causes.{IsFinished}
-use Rattle.sspi_delegate.specs.EndRun.{ClientEnd, ServerEnd, client_noted, EachClientTurn, server_noted, server_frame_at, EachServerTurn}
+use Rattle.sspi_delegate.specs.Log.{IsFinished}
+use Rattle.sspi_delegate.specs.Turns.{ClientEnd, ServerEnd, client_noted, EachClientTurn, server_noted, server_frame_at, EachServerTurn}
 use Rattle.sspi_delegate.specs.Turns.{onto_client, onto_server, client_turns, server_turns, opened_in, OthersGoOn, OthersUnrefused, AllGoOn}
 use Rattle.sspi_delegate.specs.Turns.{NoneRefused}
 use Rattle.sspi_play.specs.Agreement.{OpensBehindTag, NoEcho, AreAlike, Agrees}

@@ -18,7 +18,7 @@ use Rattle.sspi_credssp.specs.declared.turn.Turn.{Turn}
 use Rattle.sspi_credssp.specs.Context.{ContextSetting}
 use Rattle.sspi_credssp.specs.Exchange.{delegated_text, prescribed}
 use Rattle.sspi_credssp.specs.Turn.{client_shown, ShowsClientActs, ShowsNego, ShowsReply, ClientFrame}
-use Rattle.sspi_delegate.specs.EndRun.{ClientEnd, client_noted, client_frame_at, EachClientTurn}
+use Rattle.sspi_delegate.specs.Turns.{ClientEnd, client_noted, client_frame_at, EachClientTurn}
 use Rattle.sspi_delegate.specs.Turns.{onto_client, client_turns, is_replied, is_ended, any_proved, any_ended, OthersGoOn, GoesOn, AllGoOn}
 use Rattle.sspi_play.specs.Agreement.{TurnOf, HasSealed}
 use Rattle.sspi_play.specs.Faithful.{where_done, proof_text, behind_tag, client_texts, client_sealed, opened_texts}

@@ -9,7 +9,7 @@ use Rattle.sspi_credssp.specs.declared.turn.End.TheVariants.{Server}
 use Rattle.sspi_credssp.specs.declared.turn.Outcome.{Outcome}
 use Rattle.sspi_credssp.specs.declared.turn.Outcome.TheVariants as outcome
 use Rattle.sspi_credssp.specs.declared.turn.Turn.{Turn}
-use Rattle.sspi_delegate.specs.Causes.{IsServerRefusal, IsFinished}
+use Rattle.sspi_delegate.specs.Log.{IsServerRefusal, IsFinished}
 use Rattle.sspi_delegate.specs.Turns.{server_turns, is_finished, GoesOn}
 use Rattle.sspi_delegate.specs.History.{ServerHistory, ServerGave}
 use Rattle.sspi_delegate.specs.Rounds.{newest_alone}

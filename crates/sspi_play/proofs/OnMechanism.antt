@@ -19,7 +19,7 @@ use Rattle.sspi_credssp.proofs.ContextLaws.{lawful}
 use Rattle.sspi_delegate.specs.declared.answer.DelegateError.{DelegateError}
 use Rattle.sspi_delegate.specs.declared.answer.DelegateError.TheVariants as errors
 use Rattle.sspi_delegate.specs.Chain.{KdcCalls, client_stage, server_stage}
-use Rattle.sspi_delegate.specs.EndRun.{client_end, server_end}
+use Rattle.sspi_delegate.specs.Turns.{client_end, server_end}
 use Rattle.sspi_delegate.specs.Turns.{client_turns, server_turns}
 use Rattle.sspi_delegate.proofs.Chained.{client_past_chained}
 use Rattle.sspi_play.specs.declared.played.Delivery.{Delivery}

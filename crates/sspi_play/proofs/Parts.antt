@@ -6,7 +6,7 @@ use Rattle.sspi_credssp.specs.Context.{ContextSetting}
 use Rattle.sspi_credssp.specs.declared.turn.End.{End}
 use Rattle.sspi_credssp.specs.declared.turn.End.TheVariants.{Client, Server}
 use Rattle.sspi_credssp.specs.declared.turn.Turn.{Turn}
-use Rattle.sspi_delegate.specs.EndRun.{ClientEnd, ServerEnd, client_noted, EachClientTurn, server_noted, EachServerTurn}
+use Rattle.sspi_delegate.specs.Turns.{ClientEnd, ServerEnd, client_noted, EachClientTurn, server_noted, EachServerTurn}
 use Rattle.sspi_delegate.specs.Turns.{onto_client, onto_server, client_turns, server_turns, OthersGoOn, OthersUnrefused, AllGoOn}
 use Rattle.sspi_delegate.specs.Turns.{NoneRefused}
 use Rattle.sspi_play.specs.Faithful.{OpensWhatWasSealed}

@@ -12,7 +12,7 @@ use Rattle.sspi_credssp.specs.declared.turn.Turn.{Turn}
 use Rattle.sspi_delegate.specs.declared.answer.DelegateError.{DelegateError}
 use Rattle.sspi_delegate.specs.declared.answer.DelegateError.TheVariants as errors
 use Rattle.sspi_delegate.specs.Chain.{KdcCalls, client_stage}
-use Rattle.sspi_delegate.specs.EndRun.{client_end, server_end}
+use Rattle.sspi_delegate.specs.Turns.{client_end, server_end}
 use Rattle.sspi_delegate.specs.Turns.{client_turns, server_turns, OthersGoOn, OthersUnrefused, AllGoOn}
 use Rattle.sspi_delegate.specs.History.{ClientHistory, ClientLeft, between, waiting, ClientRefused, ServerRefused}
 use Rattle.sspi_delegate.proofs.Chained.{client_chained, client_past_chained, server_past_chained}

@@ -7,7 +7,7 @@ use Rattle.sha2.proofs.Facts256.{length-sha256}
 use Rattle.sha2.specs.Sha256.{sha256}
 use Rattle.sspi_credssp.specs.declared.public_key.EndpointType.TheVariants as whose
 use Rattle.sspi_credssp.specs.Exchange.{magic, prescribed}
-use Rattle.sspi_delegate.specs.EndRun.{ClientEnd, ServerEnd, client_noted, server_noted}
+use Rattle.sspi_delegate.specs.Turns.{ClientEnd, ServerEnd, client_noted, server_noted}
 use Rattle.sspi_credssp.specs.declared.turn.Turn.{Turn}
 use Rattle.sspi_play.specs.Agreement.{NoEcho, by_length, by_least_versions}
 use Rattle.sspi_play.proofs.Lists.{fronts_same, rests_same}

@@ -22,7 +22,7 @@ use Rattle.sspi_credssp.specs.Turn.{server_shown, IsOver, MayCheck, HasNonce, Sh
 use Rattle.sspi_credssp.specs.Turn.{ShowsAnswer, ServerFrame, AtNoted}
 use Rattle.sspi_delegate.specs.Turns.{onto_server, server_turns, is_replied, is_finished, any_proved, any_finished, IsUnrefused}
 use Rattle.sspi_delegate.specs.Turns.{NoneRefused}
-use Rattle.sspi_delegate.specs.EndRun.{ServerEnd, any_over, server_state, server_noted, server_frame_at, EachServerTurn}
+use Rattle.sspi_delegate.specs.Turns.{ServerEnd, any_over, server_state, server_noted, server_frame_at, EachServerTurn}
 use Rattle.sspi_play.specs.Agreement.{TurnOf, OpensBehindTag}
 use Rattle.sspi_play.specs.Faithful.{behind_tag, server_texts, server_sealed, opened_texts}
 use Rattle.sspi_play.proofs.ClientSeals.{is_false, or_false, and_not}

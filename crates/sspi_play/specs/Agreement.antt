@@ -11,8 +11,8 @@ use Rattle.sspi_credssp.specs.declared.turn.End.TheVariants.{Client, Server}
 use Rattle.sspi_credssp.specs.declared.turn.Turn.{Turn}
 use Rattle.sspi_credssp.specs.Exchange.{delegated_as, delegated_text, delegated_identity}
 use Rattle.sspi_credssp.specs.Requests.{nonce_of}
-use Rattle.sspi_delegate.specs.Causes.{IsFinished}
-use Rattle.sspi_delegate.specs.EndRun.{ClientEnd, ServerEnd, client_noted, server_noted}
+use Rattle.sspi_delegate.specs.Log.{IsFinished}
+use Rattle.sspi_delegate.specs.Turns.{ClientEnd, ServerEnd, client_noted, server_noted}
 use Rattle.sspi_delegate.specs.Turns.{client_turns, server_turns}
 use Rattle.sspi_play.specs.Faithful.{OpensWhatWasSealed, NoCollision}
 

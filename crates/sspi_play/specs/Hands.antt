@@ -15,7 +15,7 @@ use Rattle.sspi_credssp.specs.Proxy.{ProxyMeaning}
 use Rattle.sspi_credssp.specs.Ends.{ServerView}
 use Rattle.sspi_delegate.specs.declared.answer.DelegateError.{DelegateError}
 use Rattle.sspi_delegate.specs.declared.answer.DelegateError.TheVariants as errors
-use Rattle.sspi_delegate.specs.Causes.{IsClientRefusal, IsServerRefusal, IsFinished}
+use Rattle.sspi_delegate.specs.Log.{IsClientRefusal, IsServerRefusal, IsFinished}
 use Rattle.sspi_delegate.specs.Rounds.{newest_alone}
 use Rattle.sspi_delegate.specs.Turns.{GoesOn, server_turns}
 use Rattle.sspi_delegate.specs.History.{ServerHistory, ServerGave}

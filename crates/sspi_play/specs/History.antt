@@ -9,7 +9,7 @@ use Rattle.sspi_credssp.specs.Proxy.{ProxyMeaning}
 use Rattle.sspi_credssp.specs.declared.turn.Turn.{Turn}
 use Rattle.sspi_delegate.specs.declared.answer.DelegateError.{DelegateError}
 use Rattle.sspi_delegate.specs.Chain.{KdcCalls, ClientStage, ClientChain, ClientChainLeft}
-use Rattle.sspi_delegate.specs.Causes.{IsFinished}
+use Rattle.sspi_delegate.specs.Log.{IsFinished}
 use Rattle.sspi_delegate.specs.Turns.{any_finished}
 use Rattle.sspi_delegate.specs.History.{ClientHistory, ClientLeft, ServerHistory, ServerGave}
 use Rattle.sspi_play.specs.declared.played.Ending.{Ending}

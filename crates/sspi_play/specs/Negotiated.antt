@@ -28,7 +28,7 @@ use Rattle.sspi_credssp.specs.declared.mode.ServerMode.TheVariants as modes
 use Rattle.sspi_credssp.specs.declared.turn.Turn.{Turn}
 use Rattle.sspi_credssp.specs.Context.{either}
 use Rattle.sspi_credssp.specs.Requests.{token_of}
-use Rattle.sspi_delegate.specs.EndRun.{ClientEnd, ServerEnd}
+use Rattle.sspi_delegate.specs.Turns.{ClientEnd, ServerEnd}
 use Rattle.sspi_delegate.specs.Turns.{client_turns, server_turns}
 use Rattle.sspi_play.specs.Agreement.{TurnOf}
 use Rattle.sspi_play.specs.Faithful.{verifications_in, VerifiesWhatWasSigned}

@@ -8,7 +8,7 @@ use Rattle.sspi_credssp.specs.declared.turn.End.TheVariants.{Client, Server}
 use Rattle.sspi_credssp.specs.declared.turn.Turn.{Turn}
 use Rattle.sspi_delegate.specs.declared.answer.DelegateError.{DelegateError}
 use Rattle.sspi_delegate.specs.Chain.{KdcCalls, client_stage, server_stage, ServerChain}
-use Rattle.sspi_delegate.specs.EndRun.{ClientRan, ServerRan}
+use Rattle.sspi_delegate.specs.Turns.{ClientRan, ServerRan}
 use Rattle.sspi_delegate.specs.Turns.{client_turns, server_turns}
 use Rattle.sspi_delegate.specs.Headline.{sealed_turns, EachHeedsServer, EachHeedsClient}
 use Rattle.sspi_delegate.specs.History.{ServerHistory, ClientRefused, ServerRefused}

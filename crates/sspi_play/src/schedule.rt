@@ -3,7 +3,7 @@ ghost use Rattle.sspi_credssp.specs.Context.{either};
 ghost use Rattle.sspi_delegate.specs.Chain.{kdc_calls};
 ghost use Rattle.sspi_delegate.specs.Headline.{IsFresh};
 ghost use Rattle.sspi_delegate.specs.History.{KdcStays, ProxyStays};
-ghost use Rattle.sspi_delegate.specs.EndRun.{client_end, server_end};
+ghost use Rattle.sspi_delegate.specs.Turns.{client_end, server_end};
 ghost use Rattle.sspi_play.specs.Agreement.{OpensBehindTag, AgreesIfFaithful};
 ghost use Rattle.sspi_play.specs.Kept.{identity_of};
 ghost use Rattle.sspi_play.specs.Negotiated.{NegotiatesIfFaithful};

@@ -6,7 +6,7 @@ use Rattle.sspi_credssp.specs.Acts.{no_acts}
 use Rattle.sspi_credssp.specs.Ends.{ClientView, ServerView}
 use Rattle.sspi_credssp.specs.Table.{TableView, table_meaning}
 use Rattle.sspi_credssp.specs.declared.state.CredSspState.TheVariants.{NegoToken}
-use Rattle.sspi_delegate.specs.Delegates.{calls_of_kdc}
+use Rattle.sspi_delegate.specs.Headline.{calls_of_kdc}
 use Rattle.sspi_report.specs.Seats.{seats_text}
 use Rattle.sspi_scenario.specs.declared.scenario.Scenario.{Scenario}
 use Rattle.sspi_seats.specs.Seat.{Place, place}

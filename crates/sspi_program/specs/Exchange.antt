@@ -13,7 +13,7 @@ use Rattle.sspi_delegate.specs.declared.answer.Delegation.{Delegation}
 use Rattle.sspi_delegate.specs.declared.answer.DelegateError.{DelegateError}
 use Rattle.sspi_delegate.specs.declared.carried.Carried.{Carried}
 use Rattle.sspi_delegate.specs.declared.edit.Edit.{Edit}
-use Rattle.sspi_delegate.specs.Delegates.{Around, around_by, parties, Delegates}
+use Rattle.sspi_delegate.specs.Headline.{Around, around_by, parties, Delegates}
 use Rattle.sspi_delegate.specs.Link.{MemoryLinkView, FollowsEdits}
 use Rattle.sspi_delegate.specs.Headline.{IsFresh}
 use Rattle.sspi_program.specs.Ends.{PlainContext, IsClientOf, IsServerOf, link_in, kdc_in}

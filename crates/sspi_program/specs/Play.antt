@@ -5,8 +5,8 @@ use Rattle.sspi_mech.specs.Ntlm.{ntlm_meaning}
 use Rattle.sspi_credssp.specs.Ends.{ClientView, ServerView}
 use Rattle.sspi_credssp.specs.Table.{TableView, table_meaning}
 use Rattle.sspi_delegate.specs.declared.answer.DelegateError.{DelegateError}
-use Rattle.sspi_delegate.specs.EndRun.{client_end, server_end}
-use Rattle.sspi_delegate.specs.Delegates.{calls_of_kdc}
+use Rattle.sspi_delegate.specs.Turns.{client_end, server_end}
+use Rattle.sspi_delegate.specs.Headline.{calls_of_kdc}
 use Rattle.sspi_delegate.specs.Link.{MemoryLinkView}
 use Rattle.sspi_delegate.specs.Headline.{IsFresh}
 use Rattle.sspi_delegate.specs.History.{KdcStays, ProxyStays}

@@ -13,7 +13,7 @@ use Rattle.sspi_credssp.specs.Context.{ContextSetting}
 use Rattle.sspi_credssp.specs.Proxy.{ProxyMeaning}
 use Rattle.sspi_delegate.specs.declared.answer.DelegateError.TheVariants as errors
 use Rattle.sspi_delegate.specs.Chain.{KdcCalls}
-use Rattle.sspi_delegate.specs.EndRun.{client_end, server_end}
+use Rattle.sspi_delegate.specs.Turns.{client_end, server_end}
 use Rattle.sspi_delegate.specs.Turns.{OthersGoOn, AllGoOn}
 use Rattle.sspi_delegate.specs.History.{ClientHistory}
 use Rattle.sspi_delegate.proofs.Headline.{sealed_once, seals_after_proof}

@@ -14,7 +14,7 @@ use Rattle.sspi_credssp.specs.declared.turn.End.TheVariants.{Client, Server}
 use Rattle.sspi_credssp.specs.declared.turn.Outcome.{Outcome}
 use Rattle.sspi_credssp.specs.declared.turn.Outcome.TheVariants as outcome
 use Rattle.sspi_credssp.specs.declared.turn.Turn.{Turn}
-use Rattle.sspi_delegate.specs.Causes.{IsClientRefusal, NewestIs}
+use Rattle.sspi_delegate.specs.Log.{IsClientRefusal, NewestIs}
 use Rattle.sspi_delegate.specs.Log.{IsRead}
 use Rattle.sspi_delegate.specs.Turns.{GoesOn}
 use Rattle.sspi_desk.specs.Call.{HasFault}

@@ -14,7 +14,7 @@ use Rattle.sspi_credssp.specs.Context.{ContextSetting}
 use Rattle.sspi_credssp.specs.Proxy.{ProxyMeaning}
 use Rattle.sspi_credssp.specs.Turn.{message_of}
 use Rattle.sspi_delegate.specs.Chain.{KdcCalls}
-use Rattle.sspi_delegate.specs.Causes.{NewestFits, NewestIs, MessageFits}
+use Rattle.sspi_delegate.specs.Log.{NewestFits, NewestIs, MessageFits}
 use Rattle.sspi_delegate.specs.Turns.{onto_server, server_turns, OthersGoOn, AllGoOn, GoesOn}
 use Rattle.sspi_delegate.specs.History.{ClientHistory}
 use Rattle.sspi_delegate.specs.Log.{IsSent}

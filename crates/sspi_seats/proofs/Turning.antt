@@ -14,7 +14,7 @@ use Rattle.sspi_credssp.specs.Ends.{ClientView, ServerView}
 use Rattle.sspi_credssp.specs.Context.{ContextSetting}
 use Rattle.sspi_credssp.specs.Proxy.{ProxyMeaning}
 use Rattle.sspi_delegate.specs.Chain.{KdcCalls}
-use Rattle.sspi_delegate.specs.Causes.{IsClientRefusal, NewestIs}
+use Rattle.sspi_delegate.specs.Log.{IsClientRefusal, NewestIs}
 use Rattle.sspi_delegate.specs.Turns.{client_turns, server_turns, onto_client, onto_server, OthersGoOn, AllGoOn, GoesOn, TranscriptView}
 use Rattle.sspi_desk.specs.Alone.{Alone}
 use Rattle.sspi_desk.specs.declared.answer.DeskError.{DeskError}

@@ -6,7 +6,7 @@ use Rattle.sspi_ber.specs.declared.wire_kind.WireKind.{WireKind}
 use Rattle.sspi_tsreq.specs.declared.request.TsRequest.{TsRequest}
 use Rattle.sspi_credssp.specs.declared.turn.End.TheVariants.{Client, Server}
 use Rattle.sspi_credssp.specs.declared.turn.Turn.{Turn}
-use Rattle.sspi_delegate.specs.Causes.{NewestIs, NewestFits, IsClientRefusal}
+use Rattle.sspi_delegate.specs.Log.{NewestIs, NewestFits, IsClientRefusal}
 use Rattle.sspi_delegate.specs.Turns.{GoesOn}
 use Rattle.sspi_desk.specs.Call.{HasFault}
 use Rattle.sspi_desk.specs.declared.answer.DeskError.{DeskError}

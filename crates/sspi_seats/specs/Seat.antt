@@ -7,7 +7,7 @@ use Rattle.sspi_credssp.specs.Ends.{ClientView, IsFreshClient, ServerView}
 use Rattle.sspi_credssp.specs.Context.{ContextSetting}
 use Rattle.sspi_credssp.specs.Proxy.{ProxyMeaning}
 use Rattle.sspi_delegate.specs.Chain.{KdcCalls, client_stage, ClientChain}
-use Rattle.sspi_delegate.specs.EndRun.{client_end, ClientRan}
+use Rattle.sspi_delegate.specs.Turns.{client_end, ClientRan}
 use Rattle.sspi_delegate.specs.Headline.{sealed_turns, SealsAfterProof, EachHeedsServer}
 use Rattle.sspi_delegate.specs.History.{ClientHistory, ClientStopped, ClientRefused}
 use Rattle.sspi_desk.specs.Alone.{Alone}

@@ -2,7 +2,7 @@ use Rattle.std.proofs.Common.{Option}
 use Rattle.std.proofs.lemmas.Result.{err_from_is_err_and}
 use Rattle.sspi_names.specs.declared.identity.AuthIdentity.{AuthIdentity}
 use Rattle.sspi_credssp.specs.declared.turn.End.TheVariants.{Server}
-use Rattle.sspi_delegate.specs.Causes.{IsServerRefusal}
+use Rattle.sspi_delegate.specs.Log.{IsServerRefusal}
 use Rattle.sspi_credssp.specs.Context.{either}
 use Rattle.sspi_delegate.proofs.Halves.{server_half_stopped, server_half_refused}
 use Rattle.sspi_delegate.proofs.LogSteps.{but_last, turned, finishes, lost, newest_such, refusal_has_message, server_refused}

@@ -2,7 +2,7 @@ use Rattle.std.proofs.Common.{refl, rules}
 use Rattle.sspi_credssp.specs.Context.{either}
 use Rattle.sspi_credssp.specs.declared.turn.End.TheVariants.{Client}
 use Rattle.sspi_delegate.specs.Chain.{kdc_calls}
-use Rattle.sspi_delegate.specs.Causes.{IsClientRefusal}
+use Rattle.sspi_delegate.specs.Log.{IsClientRefusal}
 use Rattle.sspi_delegate.specs.Turns.{GoesOn}
 use Rattle.sspi_play.proofs.Histories.{stopped_played}
 use Rattle.sspi_play.proofs.Steps.{unread_is, pushed_turn, client_ended}

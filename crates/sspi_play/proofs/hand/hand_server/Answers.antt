@@ -2,7 +2,7 @@ use Rattle.std.proofs.Common.{false, refl, rules}
 use Rattle.std.proofs.lemmas.Result.{err_from_is_err_and}
 use Rattle.sspi_credssp.specs.Context.{either}
 use Rattle.sspi_credssp.specs.declared.turn.End.TheVariants.{Server}
-use Rattle.sspi_delegate.specs.Causes.{IsFinished, IsServerRefusal}
+use Rattle.sspi_delegate.specs.Log.{IsFinished, IsServerRefusal}
 use Rattle.sspi_delegate.specs.Turns.{GoesOn}
 use Rattle.sspi_delegate.proofs.Histories.{server_stopped_history}
 use Rattle.sspi_play.proofs.Steps.{unread_is, pushed_turn}

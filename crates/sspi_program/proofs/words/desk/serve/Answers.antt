@@ -1,7 +1,7 @@
 use Rattle.std.proofs.Common.{ℕ, List, subst}
 use Rattle.sspi_mech.specs.PlainKdc.{PlainKdcState}
 use Rattle.sspi_credssp.specs.Table.{TableView, table_meaning}
-use Rattle.sspi_delegate.specs.Delegates.{calls_of_kdc}
+use Rattle.sspi_delegate.specs.Headline.{calls_of_kdc}
 use Rattle.sspi_seats.specs.Seat.{Place}
 use Rattle.sspi_seats.specs.Table.{AreSeats}
 use Rattle.sspi_program.specs.Desk.{places_in}
