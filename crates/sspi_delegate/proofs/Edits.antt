@@ -46,6 +46,46 @@ skipped (e ∷ edits) (suc n) edit earlier text text2 got whole none =
     skipped edits n edit earlier next.0 text2 got whole parts.1 ∙
     ap (λ (o : Option (List ℕ)). option_and_then (edited edits earlier) o) (sym next.1)
 
+-- of edits none of which fails, none does that is left, and none at any place
+pub none_left : (entry place : ℕ) (edits : List Edit) → fails entry edits ≡ false → fails entry (drop place edits) ≡ false
+none_left entry zero edits none = none
+none_left entry (suc n) [] none = none
+none_left entry (suc n) (e ∷ edits) none = none_left entry n edits (or_parts (is_failing entry e) (fails entry edits) none).1
+
+none_at : (entry place : ℕ) (edits : List Edit) (edit : Edit) → slice_get edits place ≡ Some edit → fails entry edits ≡ false →
+    is_failing entry edit ≡ false
+none_at entry place [] edit got none = absurd (cc got)
+none_at entry zero (e ∷ edits) edit got none =
+    let same : e ≡ edit = cc got in
+    subst (λ (x : Edit). is_failing entry x ≡ false) same (or_parts (is_failing entry e) (fails entry edits) none).0
+none_at entry (suc n) (e ∷ edits) edit got none =
+    none_at entry n edits edit got (or_parts (is_failing entry e) (fails entry edits) none).1
+
+passes : (here failing : Bool) → here ≡ true → here && failing ≡ false → failing ≡ false
+passes true failing is none = none
+passes false failing is none = absurd (cc is)
+
+pub passes_at : (entry place : ℕ) (edits : List Edit) (edit : Edit) → slice_get edits place ≡ Some edit → fails entry edits ≡ false →
+    (edit.entry == entry) ≡ true → is_fail edit.kind ≡ false
+passes_at entry place edits edit got none here =
+    passes (edit.entry == entry) (is_fail edit.kind) here (none_at entry place edits edit got none)
+
+-- one edit was applied
+pub applied : (edits : List Edit) (place next : ℕ) (edit : Edit) (earlier : List (List ℕ)) (text text2 : List ℕ) →
+    next ≡ suc place → slice_get edits place ≡ Some edit →
+    (if edit.entry == length earlier then edited_once edit.kind earlier text else Some text) ≡ Some text2 →
+    edited (drop next edits) earlier text2 ≡ edited (drop place edits) earlier text
+applied edits place next edit earlier text text2 is got once = rw is (applied_at edits place got)
+  where
+    applied_at : (edits : List Edit) (place : ℕ) → slice_get edits place ≡ Some edit →
+        edited (drop (suc place) edits) earlier text2 ≡ edited (drop place edits) earlier text
+    applied_at [] place got = absurd (cc got)
+    applied_at (e ∷ edits) zero got =
+        let same : e ≡ edit = cc got in
+        ap (λ (o : Option (List ℕ)). option_and_then (edited edits earlier) o) (sym (subst (λ (x : Edit).
+        (if x.entry == length earlier then edited_once x.kind earlier text else Some text) ≡ Some text2) (sym same) once))
+    applied_at (e ∷ edits) (suc n) got = applied_at edits n got
+
 once_fails : (here : Bool) (kind : EditKind) (earlier : List (List ℕ)) (text : List ℕ) → (here && is_fail kind) ≡ true →
     (if here then edited_once kind earlier text else Some text) ≡ None
 once_fails true Drop earlier text failing = absurd (cc failing)

@@ -1,5 +1,5 @@
-ghost use Rattle.std.specs.Prelude.{◌≡◌, ℕ, List, IfOk, false, length, slice_set};
-ghost use Rattle.sspi_delegate.specs.Edits.{fails, gives_whole, is_failing};
+ghost use Rattle.std.specs.Prelude.{◌≡◌, ℕ, List, Some, IfOk, false, length, slice_set};
+ghost use Rattle.sspi_delegate.specs.Edits.{fails, gives_whole, is_fail, is_failing};
 ghost use Rattle.sspi_delegate.specs.Link.{edited_once, edited, sent_texts, text_at};
 
 use crate::carried::Carried;
@@ -91,7 +91,8 @@ pub fn deliver_edited(
     if fails(edits, entries.len()) {
         return Ok(None);
     }
-    apply_all(alloc, since_whole(edits, entries.len()), entries, sent)
+    let text = apply_all(alloc, since_whole(edits, entries.len()), entries, sent)?;
+    Ok(Some(text))
 }
 
 /// Whether one of them fails the carry of this entry.
@@ -104,8 +105,9 @@ fn fails(edits: &[Edit], entry: usize) -> bool
 /// The edits from the last one that gives this entry a text of its own, or all. What stands before it comes to nothing, so no text is
 /// made for an edit that a later one replaces.
 fn since_whole(edits: &[Edit], entry: usize) -> &[Edit]
-    ensures { (earlier : List (List ℕ)) (sent : List ℕ) → length earlier ≡ entry → fails entry edits.now ≡ false →
+    ensures same { (earlier : List (List ℕ)) (sent : List ℕ) → length earlier ≡ entry → fails entry edits.now ≡ false →
         edited result.now earlier sent ≡ edited edits.now earlier sent }
+    ensures none { fails entry edits.now ≡ false → fails entry result.now ≡ false }
 {
     let mut start = 0;
     for (place, edit) in edits.iter().enumerate() {
@@ -116,33 +118,45 @@ fn since_whole(edits: &[Edit], entry: usize) -> &[Edit]
     &edits[start..]
 }
 
+/// What they give, one after another, where none fails.
 fn apply_all(
     alloc: Global,
     edits: &[Edit],
     entries: &[Carried],
     sent: &[u8],
-) -> Result<Option<Bytes>, AllocError>
-    ensures { IfOk result (λ text. text ≡ edited edits.now (sent_texts entries.now) sent.now) }
+) -> Result<Bytes, AllocError>
+    ensures { IfOk result (λ text. fails (length entries.now) edits.now ≡ false →
+        edited edits.now (sent_texts entries.now) sent.now ≡ Some text) }
 {
-    let mut text = Bytes::from_slice(alloc, sent)?;
+    let mut text = first_text(alloc, edits, entries.len(), sent)?;
     for edit in edits {
         if edit.entry as usize == entries.len() {
-            match apply(alloc, &edit.kind, entries, text)? {
-                Some(changed) => text = changed,
-                None => return Ok(None),
-            }
+            text = apply(alloc, &edit.kind, entries, text)?;
         }
     }
-    Ok(Some(text))
+    Ok(text)
 }
 
+/// The text that the edits begin with: what was sent, of which no copy is made where the first edit replaces it.
+fn first_text(alloc: Global, edits: &[Edit], entry: usize, sent: &[u8]) -> Result<Bytes, AllocError>
+    ensures { IfOk result (λ text. (earlier : List (List ℕ)) → length earlier ≡ entry →
+        edited edits.now earlier text ≡ edited edits.now earlier sent.now) }
+{
+    match edits.first() {
+        Some(first) if first.gives_whole(entry) => Ok(Bytes::new(alloc)),
+        _ => Bytes::from_slice(alloc, sent),
+    }
+}
+
+/// What one edit gives, where it does not fail.
 fn apply(
     alloc: Global,
     kind: &EditKind,
     entries: &[Carried],
     text: Bytes,
-) -> Result<Option<Bytes>, AllocError>
-    ensures { IfOk result (λ changed. changed ≡ edited_once kind.now (sent_texts entries.now) text) }
+) -> Result<Bytes, AllocError>
+    ensures { IfOk result (λ changed. is_fail kind.now ≡ false →
+        edited_once kind.now (sent_texts entries.now) text ≡ Some changed) }
 {
     let mut text = text;
     match kind {
@@ -150,11 +164,11 @@ fn apply(
         EditKind::Cut(length) => text.truncate(*length),
         EditKind::Set(at, byte) => set_byte(&mut text, *at, *byte),
         EditKind::Add(more) => text.push_slice(more.as_slice())?,
-        EditKind::Give(bytes) => return Ok(Some(bytes.clone(alloc)?)),
-        EditKind::Again(entry) => return Ok(Some(sent_by(alloc, entries, *entry)?)),
-        EditKind::Fail => return Ok(None),
+        EditKind::Give(bytes) => return bytes.clone(alloc),
+        EditKind::Again(entry) => return sent_by(alloc, entries, *entry),
+        EditKind::Fail => {}
     }
-    Ok(Some(text))
+    Ok(text)
 }
 
 fn set_byte(text: &mut Bytes, at: usize, byte: u8)

@@ -8,4 +8,5 @@ invariant-loop-place l = record {
   within : l.start ≤ length l.edits;
   same : (earlier : List (List ℕ)) (sent : List ℕ) → length earlier ≡ l.entry → fails l.entry l.edits ≡ false →
       edited (drop l.start l.edits) earlier sent ≡ edited l.edits earlier sent;
+  none : fails l.entry l.edits ≡ false → fails l.entry (drop l.start l.edits) ≡ false;
 }
