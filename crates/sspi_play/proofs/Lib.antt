@@ -1,7 +1,9 @@
 pub mod Agreed
 pub mod BehindTags
+pub mod ClientNeeds
 pub mod ClientOffers
 pub mod ClientSeals
+pub mod ClientVerifies
 pub mod Contexts
 pub mod Gives
 pub mod Histories

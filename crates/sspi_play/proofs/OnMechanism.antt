@@ -26,9 +26,10 @@ use Rattle.sspi_play.specs.declared.played.Delivery.{Delivery}
 use Rattle.sspi_play.specs.declared.played.Played.{Played}
 use Rattle.sspi_play.specs.Faithful.{signings_in, verifications_in}
 use Rattle.sspi_play.specs.Kept.{kept_list}
-use Rattle.sspi_play.specs.Negotiated.{HasOffered, HasRead, IsPickOf, NegotiatesIfFaithful}
+use Rattle.sspi_play.specs.Negotiated.{HasOffered, HasRead, IsPickOf, NegotiatesIfFaithful, VerifiesFirst}
 use Rattle.sspi_play.specs.Played.{Both, Accounts, IsPlay}
 use Rattle.sspi_play.proofs.ClientOffers.{ShowsOffered, left_offers}
+use Rattle.sspi_play.proofs.ClientVerifies.{Claims, left_claims, verified_in, some_proved, sealed_proved}
 use Rattle.sspi_play.proofs.Marks.{is_marked}
 use Rattle.sspi_play.proofs.Runs.{played_left}
 use Rattle.sspi_play.proofs.ServerChains.{chain_shows}
@@ -120,4 +121,24 @@ module _ {N K : Type 0} (r q : ℕ) (n : Meaning Setting N) (k : Meaning Setting
               subst (λ (l : List (List ℕ)). HasRead (server_turns new.turns) l) (sym (faithful.lists some))
               (read_list old.server.settings.mode (server_turns new.turns) new.server.context
               (signed_is new.server.context (faithful.signed some)) shows);
+        }
+
+    pub verifies_first : (schedule : List Delivery) (old new : Both (SspiContext N K) P D) (result : Result Played DelegateError) →
+        IsFreshClient old.client → IsPlay (either r n k) p kdcs old result new → Accounts (either r n k) p kdcs schedule old result new →
+        VerifiesFirst r n k new.client new.turns
+    verifies_first schedule old new result client_fresh play accounts =
+        let law = lawful r q n k ln lk in
+        let claims : Claims r q n k ln lk kdcs old.client (client_end new.client) (client_turns new.turns)
+        (client_stage new.client new.kdc) =
+        left_claims r q n k ln lk kdcs old.client (client_end new.client) old.kdc (client_turns new.turns)
+        (client_stage new.client new.kdc) client_fresh.context play.client_ran.others play.client_ran.each
+        (client_past_chained (either r n k) kdcs old.client law client_fresh new.client old.kdc new.kdc (client_turns new.turns)
+        (Err errors.InsufficientMemory) play.client_ran.others
+        (played_left (either r n k) kdcs result old.client new.client old.kdc new.kdc (client_turns new.turns)
+        accounts.client_turns_are_its_calls)) in
+        record {
+          a_client_that_proved = λ at proved negotiates known. verified_in r q n k ln lk new.client.context negotiates
+              (claims (some_proved (client_turns new.turns) at proved) known);
+          a_client_that_sealed = λ at sealed negotiates known. verified_in r q n k ln lk new.client.context negotiates
+              (claims (sealed_proved (either r n k) (client_end new.client) (client_turns new.turns) play.client_ran.each at sealed) known);
         }

@@ -2,8 +2,9 @@
 -- mechanism is faithful in what it signs (RFC 4178, section 5). It supposes nothing of what is sealed, and nothing of hashes.
 --
 -- A server that verified a MIC of the client has the mechanism in hand that it picks, by its own configuration, of the list that
--- the client offered; and a client that verified a MIC of the server keeps the list that the server read.
-use Rattle.std.specs.Prelude.{◌≡◌, ◌≤◌, ℕ, List, option_map, Option, None, Some, Result, Ok, Err}
+-- the client offered; and a client that verified a MIC of the server keeps the list that the server read. A client that proved its
+-- key, or sealed its credentials, has verified one, but for a guest; that rests on no premise.
+use Rattle.std.specs.Prelude.{◌≡◌, ◌≤◌, ℕ, List, option_map, Option, None, Some, IsSome, Result, Ok, Err, true, false}
 use Rattle.sspi_types.specs.declared.error_kind.ErrorKind.{ErrorKind}
 use Rattle.sspi_mech.specs.Meaning.{Meaning}
 use Rattle.sspi_mech.specs.Settings.{Setting}
@@ -18,6 +19,7 @@ use Rattle.sspi_negotiate.specs.declared.protocol.Protocol.{Protocol}
 use Rattle.sspi_negotiate.specs.declared.protocol.Protocol.TheVariants.{Kerberos, Ntlm}
 use Rattle.sspi_negotiate.specs.declared.protocol_config.ProtocolConfig.TheVariants as configs
 use Rattle.sspi_negotiate.specs.declared.state.Role.TheVariants as roles
+use Rattle.sspi_negotiate.specs.Client.{is_guest}
 use Rattle.sspi_negotiate.specs.Hand.{Origin, Configured, InPlaceOfNtlm, hand_of}
 use Rattle.sspi_negotiate.specs.New.{first_in_hand, packages_in}
 use Rattle.sspi_negotiate.specs.Pick.{pick}
@@ -27,6 +29,7 @@ use Rattle.sspi_credssp.specs.declared.mode.ServerMode.{ServerMode}
 use Rattle.sspi_credssp.specs.declared.mode.ServerMode.TheVariants as modes
 use Rattle.sspi_credssp.specs.declared.turn.Turn.{Turn}
 use Rattle.sspi_credssp.specs.Context.{either}
+use Rattle.sspi_credssp.specs.Ends.{ClientView}
 use Rattle.sspi_credssp.specs.Requests.{token_of}
 use Rattle.sspi_delegate.specs.Turns.{ClientEnd, ServerEnd}
 use Rattle.sspi_delegate.specs.Turns.{client_turns, server_turns}
@@ -95,6 +98,19 @@ pub record IsPickOf {N K : Type 0} (context : Option (SspiContext N K)) (mode : 
   pub protocol : Protocol
   pub held : in_hand context ≡ Some protocol
   pub picked : picked_by config list ≡ Some protocol
+
+-- ---- what a client has verified, whoever carries the messages and whatever its mechanism is
+
+module _ {N K : Type 0} (requests : ℕ) (n : Meaning Setting N) (k : Meaning Setting K) where
+  -- a client that negotiates has verified a MIC of its peer, unless its user is a guest, for whom NTLM may be chosen without one
+  abbrev pub HasVerified : ClientView (SspiContext N K) → Type 0
+  HasVerified client = IsSome (in_hand client.context) → is_guest client.handle ≡ false →
+      1 ≤ verifications_in (either requests n k) client.context
+
+  -- it does before it proves its key, and so before it seals its credentials
+  pub record VerifiesFirst (client : ClientView (SspiContext N K)) (turns : List Turn) : Type 0 where
+    pub a_client_that_proved : (at : TurnOf (client_turns turns)) → at.turn.acts.proved ≡ true → HasVerified client
+    pub a_client_that_sealed : (at : TurnOf (client_turns turns)) → at.turn.acts.sealed ≡ true → HasVerified client
 
 -- ---- what both agree on
 

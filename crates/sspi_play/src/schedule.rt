@@ -6,7 +6,7 @@ ghost use Rattle.sspi_delegate.specs.History.{KdcStays, ProxyStays};
 ghost use Rattle.sspi_delegate.specs.Turns.{client_end, server_end};
 ghost use Rattle.sspi_play.specs.Agreement.{OpensBehindTag, AgreesIfFaithful};
 ghost use Rattle.sspi_play.specs.Kept.{identity_of};
-ghost use Rattle.sspi_play.specs.Negotiated.{NegotiatesIfFaithful};
+ghost use Rattle.sspi_play.specs.Negotiated.{NegotiatesIfFaithful, VerifiesFirst};
 ghost use Rattle.sspi_play.specs.Played.{both, Accounts, IsPlay};
 
 use crate::hand::{Standing, hand};
@@ -28,7 +28,7 @@ use std::alloc::Global;
 /// was made, a refused one too, in the order of the deliveries, and both ends are as their last turn left them; where there was no
 /// memory for a reply of the KDC, the client waits for it in one further turn, which has no record.
 ///
-/// `accounts` speaks of any ends, `plays`, `agrees` and `negotiates` of ends to which nothing was delivered since they were made, by
+/// `accounts` speaks of any ends, `plays` and what follows it of ends to which nothing was delivered since they were made, by
 /// whatever version and least version; `agrees` and `negotiates` have premises of their own, which `specs/Agreement.antt`,
 /// `specs/Negotiated.antt` and `specs/Faithful.antt` state.
 pub fn play<N: Mechanism, K: Mechanism, C: CredentialsProxy, D: Kdc>(
@@ -52,6 +52,7 @@ pub fn play<N: Mechanism, K: Mechanism, C: CredentialsProxy, D: Kdc>(
         AgreesIfFaithful (client_end client.new) (server_end server.new) transcript.new.turns (identity_of result) }
     ensures negotiates { IsFresh client.old server.old → NegotiatesIfFaithful N.REQUESTS N.meaning K.meaning
         (client_end client.new) (server_end server.new) server.old.settings.mode transcript.new.turns }
+    ensures verifies { IsFresh client.old server.old → VerifiesFirst N.REQUESTS N.meaning K.meaning client.new transcript.new.turns }
     // What stays.
     ensures kdc { KdcStays D.told D.faults kdc.old kdc.new }
     ensures proxy { ProxyStays C.meaning server.old.proxy server.new.proxy }

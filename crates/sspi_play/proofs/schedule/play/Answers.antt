@@ -1,7 +1,7 @@
 use Rattle.sspi_credssp.proofs.ContextLaws.{lawful}
 use Rattle.sspi_credssp.specs.Context.{either}
 use Rattle.sspi_delegate.specs.Chain.{kdc_calls}
-use Rattle.sspi_play.proofs.OnMechanism.{negotiates_if_faithful}
+use Rattle.sspi_play.proofs.OnMechanism.{negotiates_if_faithful, verifies_first}
 use Rattle.sspi_play.proofs.Runs.{is_play, agrees_if_faithful}
 use Rattle.sspi_play.proofs.schedule.play.Goals as goal
 
@@ -30,4 +30,14 @@ returns-clause-negotiates g c fresh =
     let accounts = c.hand_all.ensures.accounts c.clear.ensures in
     negotiates_if_faithful _ _ g.N.Mechanism.meaning g.K.Mechanism.meaning g.met.N.Mechanism.laws g.met.K.Mechanism.laws
     g.C.CredentialsProxy.meaning kdcs _ _ _ c.hand_all.result fresh.client_is fresh.server_is
+    (is_play m law g.C.CredentialsProxy.meaning kdcs _ _ _ c.hand_all.result fresh.client_is fresh.server_is accounts) accounts
+
+pub returns-clause-verifies : goal.returns-clause-verifies
+returns-clause-verifies g c fresh =
+    let m = either g.N.Mechanism.REQUESTS g.N.Mechanism.meaning g.K.Mechanism.meaning in
+    let law = lawful _ _ g.N.Mechanism.meaning g.K.Mechanism.meaning g.met.N.Mechanism.laws g.met.K.Mechanism.laws in
+    let kdcs = kdc_calls g.D.Kdc.told g.D.Kdc.asked g.D.Kdc.faults in
+    let accounts = c.hand_all.ensures.accounts c.clear.ensures in
+    verifies_first _ _ g.N.Mechanism.meaning g.K.Mechanism.meaning g.met.N.Mechanism.laws g.met.K.Mechanism.laws
+    g.C.CredentialsProxy.meaning kdcs _ _ _ c.hand_all.result fresh.client_is
     (is_play m law g.C.CredentialsProxy.meaning kdcs _ _ _ c.hand_all.result fresh.client_is fresh.server_is accounts) accounts
