@@ -1,3 +1,4 @@
 pub mod Sessions
+mod Proved
 mod Serving
 mod Kept
