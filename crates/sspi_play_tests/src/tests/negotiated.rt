@@ -237,8 +237,29 @@ fn hashes(rt: &impl Test) {
     }
 }
 
-/// No two of the texts that are hashed in the exchange have one hash.
+/// The text that this turn sealed is the hash of that line.
+fn seals_hash(rt: &impl Test, turn: &Turn, line: usize) {
+    let fields = HASHES.trim().lines().nth(line).unwrap_or("");
+    let (_, rest) = halves(rt, fields, '|');
+    let (_, hash) = halves(rt, rest, '|');
+    is_behind_tag(rt, sealed(turn), hash);
+}
+
+/// The proofs of both ends are the hashes that have a nonce, each with its own label.
+fn proofs_are_hashes(rt: &impl Test, turns: &[Turn]) {
+    match turns {
+        [_, _, _, _, client, server, ..] => {
+            seals_hash(rt, client, 0);
+            seals_hash(rt, server, 2);
+        }
+        _ => rt.abort(),
+    }
+}
+
+/// No two of the texts that are hashed in the exchange have one hash, and both proofs are among these hashes.
 #[test]
 fn no_two_texts_have_one_hash(rt: HostRuntime) {
     hashes(&rt);
+    let transcript = exchange(&rt);
+    proofs_are_hashes(&rt, transcript.turns());
 }
