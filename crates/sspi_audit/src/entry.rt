@@ -49,7 +49,8 @@ pub(crate) fn gives(alloc: Global, entry: &Carried, request: &TsRequest) -> Resu
 fn encode(alloc: Global, message: &TsRequest) -> Result<VecSink, WireKind>
     ensures { Encodes message.now result }
 {
-    let mut sink = VecSink::new(alloc);
+    let room = message.buffer_len()?;
+    let mut sink = VecSink::with_capacity(alloc, room as usize)?;
     message.encode_ts_request(&mut sink)?;
     Ok(sink)
 }

@@ -9,7 +9,10 @@ use std::alloc::{AllocError, Global};
 pub fn spell(alloc: Global, message: &TsRequest) -> Result<Option<Bytes>, AllocError>
     ensures { Spells message.now result }
 {
-    let mut sink = VecSink::new(alloc);
+    let Ok(room) = message.buffer_len() else {
+        return Ok(None);
+    };
+    let mut sink = VecSink::with_capacity(alloc, room as usize)?;
     match message.encode_ts_request(&mut sink) {
         Ok(()) => Ok(Some(Bytes::from_vec(sink.into_inner()))),
         Err(WireKind::InsufficientMemory) => Err(AllocError),

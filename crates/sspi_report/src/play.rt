@@ -46,7 +46,10 @@ fn push_message(
 ) -> Result<(), AllocError>
     ensures { OnOk result (string_bytes text.new ≡ string_bytes text.old ++ message_text mark.now message.now) }
 {
-    let mut sink = VecSink::new(alloc);
+    let Ok(room) = message.buffer_len() else {
+        return Ok(());
+    };
+    let mut sink = VecSink::with_capacity(alloc, room as usize)?;
     match message.encode_ts_request(&mut sink) {
         Ok(()) => push_line(alloc, text, mark, sink.written()),
         Err(WireKind::InvalidData) => Ok(()),
