@@ -8,8 +8,9 @@ use sspi_delegate::{DelegateError, Delegation, MemoryLink, Transcript};
 use sspi_early::{Early, EarlyError, ListPolicy};
 use sspi_mech::{Kerberos, Ntlm, PlainKdc};
 use sspi_play::Played;
-use sspi_scenario::{Rows, Scenario};
+use sspi_scenario::Scenario;
 use sspi_seats::Seat;
+use sspi_types::Rows;
 
 /// What a run came to.
 #[derive(Drop)]

@@ -5,9 +5,9 @@ use crate::error::LineError;
 use crate::key::{Key, has, has_required, is_excluded};
 use crate::lines::{is_skipped, sides};
 use crate::purpose::Purpose;
-use crate::rows::Rows;
 use crate::scenario::{Scenario, ScenarioError};
 use crate::values::{Values, given_up};
+use sspi_types::Rows;
 use std::alloc::{AllocError, Global};
 
 /// What the lines so far tell.

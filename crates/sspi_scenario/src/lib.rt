@@ -24,7 +24,6 @@ pub mod number;
 pub mod numbered;
 pub mod purpose;
 pub mod reading;
-pub mod rows;
 pub mod scenario;
 mod script;
 mod values;
@@ -32,5 +31,4 @@ mod words;
 
 pub use purpose::Purpose;
 pub use reading::{TEXT_LIMIT, TextError, read_text};
-pub use rows::Rows;
 pub use scenario::{Mode, Package, Scenario, ScenarioError};

@@ -7,12 +7,11 @@ ghost use Rattle.sspi_scenario.specs.Numbered.{key_at, least_at, mode_at, number
 ghost use Rattle.sspi_scenario.specs.Numbered.{usual_at, with_kerberos};
 ghost use Rattle.sspi_scenario.specs.Scenario.{defaults, own_identity};
 
-use crate::rows::Rows;
 use crate::scenario::{Mode, Package, Scenario};
 use crate::values::Values;
 use sspi_delegate::{Edit, EditKind};
 use sspi_names::{AuthIdentity, Username};
-use sspi_types::{Bytes, Secret, Text};
+use sspi_types::{Bytes, Rows, Secret, Text};
 use std::alloc::{AllocError, Global};
 
 const KEY_LENGTH: usize = 40;

@@ -9,13 +9,12 @@ use crate::error::LineError;
 use crate::lines::first_line;
 use crate::purpose::Purpose;
 use crate::reading::TEXT_LIMIT;
-use crate::rows::Rows;
 use sspi_delegate::Edit;
 use sspi_mech::Scripted;
 use sspi_names::{AuthIdentity, KdcTable, Username};
 use sspi_play::Delivery;
 use sspi_tsreq::CredSspMode;
-use sspi_types::{Bytes, Text};
+use sspi_types::{Bytes, Rows, Text};
 use std::alloc::{AllocError, Global};
 
 /// How both ends authenticate.

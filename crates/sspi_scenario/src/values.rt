@@ -13,13 +13,12 @@ use crate::hexadecimal;
 use crate::key::{Key, has};
 use crate::lines::parted;
 use crate::number::number;
-use crate::rows::Rows;
 use crate::scenario::{Mode, Package, Scenario};
 use crate::script::kdc_answer;
 use crate::words::{self, Accounts};
 use sspi_names::{AuthIdentity, KdcTable, Username, UsernameError};
 use sspi_tsreq::CredSspMode;
-use sspi_types::{Bytes, Secret, Text};
+use sspi_types::{Bytes, Rows, Secret, Text};
 use std::alloc::{AllocError, Global};
 
 /// What some lines tell, with the defaults of the keys that they lack.

@@ -16,9 +16,8 @@ use sspi_credssp::{CredSspClient, CredSspServer, CredentialsProxy, End};
 use sspi_delegate::{Round, Transcript, client_round};
 use sspi_desk::{Desk, DeskError, Served};
 use sspi_mech::{Kdc, Mechanism};
-use sspi_scenario::Rows;
 use sspi_tsreq::TsRequest;
-use sspi_types::Bytes;
+use sspi_types::{Bytes, Rows};
 use std::alloc::{AllocError, Global};
 
 /// A client that has a session, and what it did there so far.

@@ -2,8 +2,7 @@ use sspi_ber::WireKind;
 use sspi_credssp::{CredSspClient, CredSspServer, End, Turn};
 use sspi_desk::{DeskError, Served};
 use sspi_names::AuthIdentity;
-use sspi_scenario::Rows;
-use sspi_types::{Bytes, Error};
+use sspi_types::{Bytes, Error, Rows};
 
 /// A client that had a session at a desk, and its server, both as they were left.
 #[derive(Drop)]

@@ -14,7 +14,7 @@ use crate::seat::Seat;
 use sspi_credssp::{CredSspClient, CredSspServer, CredentialsProxy};
 use sspi_desk::Desk;
 use sspi_mech::{Kdc, Mechanism};
-use sspi_scenario::Rows;
+use sspi_types::Rows;
 use std::alloc::{AllocError, Global};
 
 /// A client that joined a table, with its KDC and its server, as they came.

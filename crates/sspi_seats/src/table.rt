@@ -9,7 +9,7 @@ use crate::seat::Seat;
 use crate::sessions::{Joined, Sessions};
 use sspi_credssp::{CredSspClient, CredSspServer, CredentialsProxy};
 use sspi_mech::{Kdc, Mechanism};
-use sspi_scenario::Rows;
+use sspi_types::Rows;
 use std::alloc::{AllocError, Global};
 use std::marker::Model;
 

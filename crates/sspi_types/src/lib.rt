@@ -7,8 +7,8 @@
 //!
 //! Promised of every table: the number, name and text of each value are those of its table in `specs/`,
 //! where each table stands once; a number outside it is `None`. What follows from the tables is in `laws`.
-//! `Bytes` and `Text` are a `Vec<u8>` and a `String` that contracts see as lists; copies are `clone(alloc)`
-//! calls that give an equal value or answer want of memory, which is `InsufficientMemory` everywhere.
+//! `Bytes`, `Text` and `Rows` are a `Vec<u8>`, a `String` and a vector that contracts see as lists; copies are
+//! `clone(alloc)` calls that give an equal value or answer want of memory, which is `InsufficientMemory` everywhere.
 
 #![tactic(auto)]
 
@@ -34,6 +34,7 @@ pub mod package;
 pub mod package_capabilities;
 pub mod protection_flags;
 pub mod reason;
+pub mod rows;
 pub mod secret;
 pub mod security_buffer_type;
 pub mod security_status;
@@ -67,6 +68,7 @@ pub use package::{
 pub use package_capabilities::PackageCapabilities;
 pub use protection_flags::{DecryptionFlags, EncryptionFlags};
 pub use reason::Reason;
+pub use rows::Rows;
 pub use secret::Secret;
 pub use security_buffer_type::{SECBUFFER_ATTRMASK, SecurityBufferType};
 pub use security_status::SecurityStatus;
