@@ -213,11 +213,12 @@ impl<N: Mechanism, K: Mechanism> CredSspClient<N, K> {
     /// Refused, in this order: `OutOfSequence` while a turn is suspended; `InvalidToken`, with the code as its status, where
     /// the server reports an error; in any call but the one that makes the context, which looks at no version,
     /// `DowngradeDetected` where no version of the server is noted yet and this one is below the least, which then is not
-    /// noted, and `MessageAltered` where the server changes its version; with the kinds of a new context; then by the state. In the authentication with the kinds of the context's step, `InternalError` where it ends before a
-    /// version was noted, and the kinds of sealing the proof. Where the server's proof is due, `InvalidToken` where it is
-    /// absent or has under 16 bytes, the kinds of opening it, `MessageAltered` where it is not the right one, and the kinds of
-    /// the credentials' text and of sealing it. `OutOfSequence` once the last message was made. Want of memory may come in
-    /// place of what stands behind the version.
+    /// noted, and `MessageAltered` where the server changes its version; with the kinds of a new context; then by the state.
+    /// In the authentication with the kinds of the context's step, `InternalError` where it ends before a version was noted,
+    /// and the kinds of sealing the proof. Where the server's proof is due, `InvalidToken` where it is absent or has under 16
+    /// bytes, the kinds of opening it, `MessageAltered` where it is not the right one, and the kinds of the credentials' text
+    /// and of sealing it. `OutOfSequence` once the last message was made. Want of memory may come in place of what stands
+    /// behind the version.
     ///
     /// A call that is refused while a turn is suspended, for the code or for the version only forgets what the last call did.
     /// Any other leaves the state, the mode and what was acquired before, and a context that it made stays. The request is
