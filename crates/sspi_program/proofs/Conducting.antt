@@ -1,5 +1,5 @@
 -- What is kept of a scenario, from the record of it up to the source that told it.
-use Rattle.std.proofs.Common.{◌≡◌, ℕ, ◌⊎◌, inl, inr, List, [], Option, None, Some, Result, Ok, refl, sym, ap, subst, ◌∙◌}
+use Rattle.std.proofs.Common.{◌≡◌, ℕ, ◌⊎◌, inl, inr, List, [], Option, None, Some, Result, Ok, Err, refl, sym, ap, subst, ◌∙◌}
 use Rattle.std.specs.Prelude.{IfOk, IfSome, IsErr, IsSome, IsSomeAnd}
 use Rattle.std.specs.Global.{Vec}
 use Rattle.sspi_scenario.specs.declared.purpose.Purpose.{Purpose}
@@ -13,7 +13,7 @@ use Rattle.sspi_program.specs.declared.record.Conducted.{Conducted}
 use Rattle.sspi_program.specs.declared.record.Record.{Record}
 use Rattle.sspi_program.specs.declared.said.Said.{Said}
 use Rattle.sspi_program.specs.declared.said.Said.TheVariants.{Done, NoScenario, ReadFault, OtherWords, NoMemory}
-use Rattle.sspi_program.specs.Audit.{IsAudited}
+use Rattle.sspi_program.specs.Audit.{IsJudged, IsAudited}
 use Rattle.sspi_program.specs.Commands.{purpose_of}
 use Rattle.sspi_program.specs.Delegate.{HasExchange}
 use Rattle.sspi_program.specs.Desk.{HasSeats, SeatsDue, seats_status}
@@ -29,6 +29,7 @@ use Rattle.sspi_program.specs.Run.{IsTold, Comes}
 use Rattle.sspi_program.specs.Telling.{CarriesOut, Conducts, Generates, SumsUp, SaysOfSeats, SaysOf, SaysWith}
 use Rattle.sspi_program.specs.Seats.{PlainSeat}
 use Rattle.sspi_program.specs.Said.{status_of, RecordDue, IsDue}
+use Rattle.sspi_program.proofs.Auditing.{is_audited}
 
 -- ---- a record that is said
 
@@ -80,8 +81,13 @@ module _ {E : Type 0} (scenario : Scenario) (r : Record) (told : Result (ℕ × 
   conducts_gate OtherWords given said = said
   conducts_gate NoMemory given said = tt
 
-  pub conducts_audit : (said : Said) → IfOk told (λ t. IsAudited r t.0 t.1.items) → SaysWith r told said → Conducts Audit scenario said
-  conducts_audit (Done c text) given said = says_with HasExchange IsAudited scenario r is has told given c text said
+  audited : (answer : Result (ℕ × Vec ℕ) E) → IfOk answer (λ t. IsJudged r t.0 t.1.items) → IfOk answer (λ t. IsAudited r t.0 t.1.items)
+  audited (Ok t) judged = is_audited r has t.0 t.1.items judged
+  audited (Err error) judged = tt
+
+  pub conducts_audit : (said : Said) → IfOk told (λ t. IsJudged r t.0 t.1.items) → SaysWith r told said → Conducts Audit scenario said
+  conducts_audit (Done c text) given said =
+      says_with HasExchange IsAudited scenario r is has told (audited told given) c text said
   conducts_audit (NoScenario line) given said = said
   conducts_audit ReadFault given said = said
   conducts_audit OtherWords given said = said

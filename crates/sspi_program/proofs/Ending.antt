@@ -172,7 +172,7 @@ module _ (D : Record → ℕ → List ℕ → Type 0)
   delegate_done text own written (Some r) keeps told wrote = matching_record text r own written keeps.0 keeps.1 told wrote
 
 audited_status : (r : Record) (own : ℕ) (text : List ℕ) → IsAudited r own text → status_of r.outcome ≡ Some own
-audited_status r own text audited = audited.status_is
+audited_status r own text audited = audited.judged.status_is
 
 module _ (w w2 : Option (List ℕ)) (f f2 : ℕ) (status : ℕ) where
   delegate_ends : (before now : ℕ) (text : List ℕ) (said : Said) → Comes (Some (Told Delegate)) (Some text) before now said →

@@ -4,6 +4,7 @@ pub mod EarlyRecord
 pub mod Telling
 pub mod Ending
 pub mod TooLong
+pub mod Auditing
 pub mod Conducting
 pub mod Matching
 pub mod Numbered

@@ -125,7 +125,7 @@ small_gated : (r : Record) (own : ℕ) (text : List ℕ) → IsGated r own text 
 small_gated r own text gated = subst (λ (n : ℕ). n ≤ 1) (sym gated.status_is) (small_relayed gated.answer)
 
 small_audited : (r : Record) (own : ℕ) (text : List ℕ) → IsAudited r own text → own ≤ 1
-small_audited r own text audited = small_status r.outcome own audited.status_is
+small_audited r own text audited = small_status r.outcome own audited.judged.status_is
 
 small_early : (r : Record) (own : ℕ) (text : List ℕ) → IsEarlyTold r own text → own ≤ 1
 small_early r own text told = small_status r.outcome own told.status_is

@@ -1,5 +1,5 @@
 ghost use Rattle.std.specs.Prelude.{IfOk};
-ghost use Rattle.sspi_program.specs.Audit.{IsAudited};
+ghost use Rattle.sspi_program.specs.Audit.{IsJudged};
 ghost use Rattle.sspi_program.specs.Telling.{Conducts};
 ghost use Rattle.sspi_scenario.specs.Held.{HoldsValues};
 
@@ -26,7 +26,7 @@ pub fn audit(alloc: Global, scenario: Scenario) -> Said
 
 /// The status and the text of an exchange that is judged.
 fn audited(alloc: Global, kept: &Record) -> Result<(u8, Vec<u8>), AllocError>
-    ensures { IfOk result (λ told. IsAudited kept.now told.0 told.1.items) }
+    ensures { IfOk result (λ told. IsJudged kept.now told.0 told.1.items) }
 {
     let Some(status) = status_of(&kept.outcome) else {
         return Err(AllocError);
