@@ -1,7 +1,7 @@
 -- A client's context, after its turns: once one of them proved, a negotiation is over, and has verified a MIC but of a guest.
 use Rattle.std.proofs.Common.{◌≡◌, ◌≢◌, ◌≤◌, ◌+◌, ℕ, Bool, true, false, List, [], ◌∷◌, ◌++◌, Option, None, Some, IsSome}
 use Rattle.std.proofs.Common.{refl, sym, ◌∙◌, ap, subst, arith, ◌&&◌, ◌||◌, ◌⊎◌, inl, inr, if◌then◌else◌}
-use Rattle.std.proofs.lemmas.Bool.{false≢true}
+use Rattle.std.proofs.lemmas.Bool.{false≢true, or_cases}
 use Rattle.sspi_types.specs.declared.credential_use.CredentialUse.TheVariants.{Outbound}
 use Rattle.sspi_types.specs.declared.security_status.SecurityStatus.{SecurityStatus}
 use Rattle.sspi_types.specs.declared.security_status.SecurityStatus.TheVariants as statuses
@@ -13,7 +13,6 @@ use Rattle.sspi_mech.specs.declared.step.Answer.TheVariants.{Done, Ask, Refused}
 use Rattle.sspi_mech.specs.declared.step.Reply.{Reply}
 use Rattle.sspi_mech.specs.declared.step.Step.{Step}
 use Rattle.sspi_mech.specs.Calls.{StepArgs, Counts, one_verification}
-use Rattle.sspi_mech.specs.Context.{IsContext}
 use Rattle.sspi_mech.specs.Laws.{IsMechanism}
 use Rattle.sspi_mech.specs.Meaning.{Meaning}
 use Rattle.sspi_mech.specs.Settings.{Setting}
@@ -37,12 +36,11 @@ use Rattle.sspi_credssp.specs.declared.state.CredSspState.TheVariants.{NegoToken
 use Rattle.sspi_credssp.specs.declared.turn.Outcome.{Outcome}
 use Rattle.sspi_credssp.specs.declared.turn.Outcome.TheVariants as outcome
 use Rattle.sspi_credssp.specs.declared.turn.Turn.{Turn}
-use Rattle.sspi_credssp.specs.Acts.{silent, cleared, SameBut}
+use Rattle.sspi_credssp.specs.Acts.{SameBut}
 use Rattle.sspi_credssp.specs.ClientTurn.{Asked, Walked, stepped, resumed, still_asked, recounted}
 use Rattle.sspi_credssp.specs.Context.{Begun, goes_on, is_new, IfContext, ContextSetting, ForClient, either}
 use Rattle.sspi_credssp.specs.Ends.{ClientView}
 use Rattle.sspi_credssp.specs.Turn.{ShowsClientActs, client_shown}
-use Rattle.sspi_credssp.proofs.ContextLaws.{lawful}
 use Rattle.sspi_delegate.specs.Chain.{KdcCalls, ClientStage, client_at, ClientMovedBy, ClientChain, ClientChainLeft, at_rest, waiting}
 use Rattle.sspi_delegate.specs.Turns.{ClientEnd, EachClientTurn, client_frame_at, client_state}
 use Rattle.sspi_delegate.specs.Turns.{GoesOn, AllGoOn, OthersGoOn, is_replied, is_ended, any_proved, any_ended}
@@ -51,6 +49,7 @@ use Rattle.sspi_play.specs.Faithful.{verifications_in}
 use Rattle.sspi_play.specs.Negotiated.{in_hand}
 use Rattle.sspi_play.proofs.ClientNeeds.{NeedsBy, Secures, client_secures, resumed_secures, OnlyRefuses, over_refuses}
 use Rattle.sspi_play.proofs.Marks.{hand_keeps}
+use Rattle.sspi_play.proofs.OnNegotiation.{OnNegotiation, map_on, IsLike, IsOfLike, counted_on, cleared_on}
 
 -- ---- one of these turns proved
 
@@ -109,13 +108,9 @@ is_proved true proved is = absurd (cc (is))
 is_proved false true is = refl
 is_proved false false is = absurd (cc (is))
 
-or_either : (a b : Bool) → a || b ≡ true → (a ≡ true) ⊎ (b ≡ true)
-or_either true b is = inl refl
-or_either false b is = inr is
-
 some_of_any : (past : List Turn) → any_proved past ≡ true → SomeProved past
 some_of_any [] any = absurd (false≢true any)
-some_of_any (t ∷ past) any = elim (or_either (is_replied t.outcome && t.acts.proved) (any_proved past) any) [
+some_of_any (t ∷ past) any = elim (or_cases (is_replied t.outcome && t.acts.proved) (any_proved past) any) [
   | inl here ↦ inl (and_last (is_replied t.outcome) t.acts.proved here)
   | inr before ↦ inr (some_of_any past before)
 ]
@@ -142,13 +137,7 @@ one_more : (counts counts2 : Counts) → counts2.verifications ≡ counts.verifi
 one_more counts counts2 same = let there : 1 ≤ counts2.verifications = omega (arith, same) in record { one = there }
 
 module _ {N K : Type 0} (n : Meaning Setting N) (k : Meaning Setting K) where
-  -- a fact of the negotiation of a context
-  abbrev pub OnNegotiation : (Negotiation (NegotiatedProtocol N K) → Type 0) → SspiContext N K → Type 0
-  OnNegotiation Q (contexts.Negotiate s) = Q s
-  OnNegotiation Q (contexts.Ntlm m) = Unit {0}
-  OnNegotiation Q (contexts.Kerberos m) = Unit {0}
-
-  abbrev VerifiedOne : Negotiation (NegotiatedProtocol N K) → Type 0
+  abbrev pub VerifiedOne : Negotiation (NegotiatedProtocol N K) → Type 0
   VerifiedOne s = HasVerifiedOne ((hand n k).counts s.mech)
 
   -- what a step leaves
@@ -164,27 +153,21 @@ module _ {N K : Type 0} (n : Meaning Setting N) (k : Meaning Setting K) where
     pub over : proved → s.state ≡ states.Ok
     pub verified : proved → guest ≡ false → VerifiedOne s
 
-  -- the fact looks at no more of the mechanism than how many MICs it verified
-  abbrev IsOfVerified : (Negotiation (NegotiatedProtocol N K) → Type 0) → Type 0
-  IsOfVerified Q = (s : Negotiation (NegotiatedProtocol N K)) (mech : NegotiatedProtocol N K) →
-      ((hand n k).counts mech).verifications ≡ ((hand n k).counts s.mech).verifications → Q s → Q (record s { mech = mech })
+  pub one_stays : (mech mech2 : NegotiatedProtocol N K) → IsLike n k mech mech2 → HasVerifiedOne ((hand n k).counts mech) →
+      HasVerifiedOne ((hand n k).counts mech2)
+  one_stays mech mech2 like h = record { one = subst (λ (x : ℕ). 1 ≤ x) (sym like.verifications) h.one }
 
-  one_stays : (s : Negotiation (NegotiatedProtocol N K)) (mech : NegotiatedProtocol N K) →
-      ((hand n k).counts mech).verifications ≡ ((hand n k).counts s.mech).verifications → VerifiedOne s →
-      HasVerifiedOne ((hand n k).counts mech)
-  one_stays s mech same h = record { one = subst (λ (x : ℕ). 1 ≤ x) (sym same) h.one }
+  next_of_like : (guest : Bool) (x : Answer) → IsOfLike n k (Next guest x)
+  next_of_like guest (Done step) = λ s mech like h.
+      (h.0, λ ok. ((h.1 ok).0, λ known. one_stays s.mech mech like ((h.1 ok).1 known)))
+  next_of_like guest (Ask request) = λ s mech like h. h
+  next_of_like guest (Refused error) = λ s mech like h. tt
 
-  next_of_verified : (guest : Bool) (x : Answer) → IsOfVerified (Next guest x)
-  next_of_verified guest (Done step) = λ s mech same h.
-      (h.0, λ ok. ((h.1 ok).0, λ known. one_stays s mech same ((h.1 ok).1 known)))
-  next_of_verified guest (Ask request) = λ s mech same h. h
-  next_of_verified guest (Refused error) = λ s mech same h. tt
-
-  guards_of_verified : (guest : Bool) (proved : Type 0) → IsOfVerified (Guards guest proved)
-  guards_of_verified guest proved = λ s mech same h. record {
+  guards_of_like : (guest : Bool) (proved : Type 0) → IsOfLike n k (Guards guest proved)
+  guards_of_like guest proved = λ s mech like h. record {
     needs = h.needs;
     over = h.over;
-    verified = λ did known. one_stays s mech same (h.verified did known);
+    verified = λ did known. one_stays s.mech mech like (h.verified did known);
   }
 
 module _ {N K : Type 0} (r q : ℕ) (n : Meaning Setting N) (k : Meaning Setting K) (ln : IsMechanism r n) (lk : IsMechanism q k) where
@@ -199,7 +182,7 @@ module _ {N K : Type 0} (r q : ℕ) (n : Meaning Setting N) (k : Meaning Setting
       ∙ ap (λ (x : NegotiatedProtocol N K). ((hand n k).counts x).verifications) counted
       ∙ ap (λ (x : Counts). x.verifications) ((hand_keeps r q n k ln lk).counted before _))
 
-  verified_one : (list : List (List ℕ)) (m : NegotiatedProtocol N K) → IsVerified (hand n k) list m →
+  pub verified_one : (list : List (List ℕ)) (m : NegotiatedProtocol N K) → IsVerified (hand n k) list m →
       HasVerifiedOne ((hand n k).counts m)
   verified_one list m v = left_one v.before v.after m v.counted v.last
 
@@ -252,26 +235,6 @@ module _ {N K : Type 0} (r q : ℕ) (n : Meaning Setting N) (k : Meaning Setting
         (over_refuses moves.ip (values_of s) args over) moves.moves.follows.as_planned
 
   -- ---- a context
-
-  counted_on : (Q : Negotiation (NegotiatedProtocol N K) → Type 0) → IsOfVerified n k Q → (m : SspiContext N K) (i : Counts) →
-      silent i ≡ silent ((either r n k).counts m) → OnNegotiation n k Q m → OnNegotiation n k Q ((either r n k).counted m i)
-  counted_on Q of_verified (contexts.Negotiate s) i same h = of_verified s ((hand n k).counted s.mech i)
-      (ap (λ (x : Counts). x.verifications) ((hand_keeps r q n k ln lk).counted s.mech i)
-      ∙ ap (λ (x : Counts). x.verifications) same) h
-  counted_on Q of_verified (contexts.Ntlm m) i same h = tt
-  counted_on Q of_verified (contexts.Kerberos m) i same h = tt
-
-  cleared_on : (Q : Negotiation (NegotiatedProtocol N K) → Type 0) → IsOfVerified n k Q → (m m2 : SspiContext N K) →
-      cleared (either r n k) m2 ≡ cleared (either r n k) m → OnNegotiation n k Q m → OnNegotiation n k Q m2
-  cleared_on Q of_verified m m2 same h =
-      let law : IsContext (either r n k) = lawful r q n k ln lk in
-      let clear = counted_on Q of_verified m (silent ((either r n k).counts m)) refl h in
-      let other : OnNegotiation n k Q (cleared (either r n k) m2) =
-      subst (λ (x : SspiContext N K). OnNegotiation n k Q x) (sym same) clear in
-      subst (λ (x : SspiContext N K). OnNegotiation n k Q x)
-      (law.counted_counted m2 (silent ((either r n k).counts m2)) ((either r n k).counts m2) ∙ law.counted_counts m2)
-      (counted_on Q of_verified (cleared (either r n k) m2) ((either r n k).counts m2)
-      (sym (ap silent (law.counts_counted m2 (silent ((either r n k).counts m2))))) other)
 
   stepped_on : (guest : Bool) (m m2 : SspiContext N K) (args : StepArgs) (x : Answer) → client_wants_mic args.requirements ≡ true →
       is_guest args.handle ≡ guest → (either r n k).steps m args x m2 →
@@ -334,27 +297,21 @@ module _ {N K : Type 0} (r q : ℕ) (n : Meaning Setting N) (k : Meaning Setting
   abbrev Needs : Bool → Negotiation (NegotiatedProtocol N K) → Type 0
   Needs guest s = s.state ≢ states.Initial → NeedsBy guest (values_of s)
 
-  map_on : (Q R : Negotiation (NegotiatedProtocol N K) → Type 0) → ((s : Negotiation (NegotiatedProtocol N K)) → Q s → R s) →
-      (m : SspiContext N K) → OnNegotiation n k Q m → OnNegotiation n k R m
-  map_on Q R map (contexts.Negotiate s) h = map s h
-  map_on Q R map (contexts.Ntlm m) h = tt
-  map_on Q R map (contexts.Kerberos m) h = tt
-
   guards_verified : (guest : Bool) (turns : List Turn) (context : Option (SspiContext N K)) → GuardsIn guest turns context →
       SomeProved turns → guest ≡ false → VerifiedIn context
   guards_verified guest turns None h did known = absurd (h did)
   guards_verified guest turns (Some m) h did known =
-      map_on (Guards n k guest (SomeProved turns)) (VerifiedOne n k) (λ s g. g.verified did known) m h
+      map_on n k (Guards n k guest (SomeProved turns)) (VerifiedOne n k) (λ s g. g.verified did known) m h
 
   begun_needs : (turns : List Turn) (context : Option (SspiContext N K)) (had handle : Option CredentialsBuffers) (mode : ClientMode)
       (asked : Option Credentials) (m : SspiContext N K) → GuardsIn (is_guest had) turns context →
       Begun (either r n k) context had (ForClient mode) Outbound asked handle m → OnNegotiation n k (Needs (is_guest handle)) m
   begun_needs turns context had handle mode asked m h (goes_on is same) =
       subst (λ (o : Option CredentialsBuffers). OnNegotiation n k (Needs (is_guest o)) m) (sym same)
-      (map_on (Guards n k (is_guest had) (SomeProved turns)) (Needs (is_guest had)) (λ s g. g.needs) m
+      (map_on n k (Guards n k (is_guest had) (SomeProved turns)) (Needs (is_guest had)) (λ s g. g.needs) m
       (subst (λ (o : Option (SspiContext N K)). GuardsIn (is_guest had) turns o) is h))
   begun_needs turns context had handle mode asked m h (is_new m0 none made got) =
-      map_on (λ (s : Negotiation (NegotiatedProtocol N K)). s.state ≡ states.Initial) (Needs (is_guest handle))
+      map_on n k (λ (s : Negotiation (NegotiatedProtocol N K)). s.state ≡ states.Initial) (Needs (is_guest handle))
       (λ s at late. absurd (late at)) m (acquired_initial m0 m mode asked handle made got)
 
   walks_next : (turns : List Turn) (start : ClientView (SspiContext N K)) (handle : Option CredentialsBuffers)
@@ -371,7 +328,7 @@ module _ {N K : Type 0} (r q : ℕ) (n : Meaning Setting N) (k : Meaning Setting
       let never : ⊥ = omega (arith, none) in absurd never
   walks_next turns start handle token tries log x m none h (recounted m1 m2 i tried before y walked counted quiet) =
       subst (λ (z : SspiContext N K). OnNegotiation n k (Next n k (is_guest handle) x) z) (sym counted)
-      (counted_on (Next n k (is_guest handle) x) (next_of_verified n k (is_guest handle) x) m1 i quiet
+      (counted_on r q n k ln lk (Next n k (is_guest handle) x) (next_of_like n k (is_guest handle) x) m1 i quiet
       (walks_next turns start handle token tried before x m1 none h walked))
 
   -- ---- a context that is over asks no KDC
@@ -381,10 +338,10 @@ module _ {N K : Type 0} (r q : ℕ) (n : Meaning Setting N) (k : Meaning Setting
   Barred (Ask request) s = ⊥
   Barred (Refused error) s = Unit {0}
 
-  barred_of_verified : (x : Answer) → IsOfVerified n k (Barred x)
-  barred_of_verified (Done step) = λ s mech same h. tt
-  barred_of_verified (Ask request) = λ s mech same h. h
-  barred_of_verified (Refused error) = λ s mech same h. tt
+  barred_of_like : (x : Answer) → IsOfLike n k (Barred x)
+  barred_of_like (Done step) = λ s mech like h. tt
+  barred_of_like (Ask request) = λ s mech like h. h
+  barred_of_like (Refused error) = λ s mech like h. tt
 
   over_barred : (s s2 : Negotiation (NegotiatedProtocol N K)) (args : StepArgs) (x : Answer) → s.state ≡ states.Ok →
       (negotiate r n k).steps s args x s2 → Barred x s2
@@ -413,7 +370,7 @@ module _ {N K : Type 0} (r q : ℕ) (n : Meaning Setting N) (k : Meaning Setting
       Begun (either r n k) context had (ForClient mode) Outbound asked handle m →
       OnNegotiation n k (λ (s : Negotiation (NegotiatedProtocol N K)). s.state ≡ states.Ok) m
   begun_over turns context had handle mode asked m did h (goes_on is same) =
-      map_on (Guards n k (is_guest had) (SomeProved turns)) (λ (s : Negotiation (NegotiatedProtocol N K)). s.state ≡ states.Ok)
+      map_on n k (Guards n k (is_guest had) (SomeProved turns)) (λ (s : Negotiation (NegotiatedProtocol N K)). s.state ≡ states.Ok)
       (λ s g. g.over did) m (subst (λ (o : Option (SspiContext N K)). GuardsIn (is_guest had) turns o) is h)
   begun_over turns context had handle mode asked m did h (is_new m0 none made got) =
       absurd (subst (λ (o : Option (SspiContext N K)). GuardsIn (is_guest had) turns o) none h did)
@@ -433,7 +390,8 @@ module _ {N K : Type 0} (r q : ℕ) (n : Meaning Setting N) (k : Meaning Setting
       let never : ⊥ = omega (arith, none) in absurd never
   walks_barred turns start handle token tries log x m none did h (recounted m1 m2 i tried before y walked counted quiet) =
       subst (λ (z : SspiContext N K). OnNegotiation n k (Barred x) z) (sym counted)
-      (counted_on (Barred x) (barred_of_verified x) m1 i quiet (walks_barred turns start handle token tried before x m1 none did h walked))
+      (counted_on r q n k ln lk (Barred x) (barred_of_like x) m1 i quiet
+      (walks_barred turns start handle token tried before x m1 none did h walked))
 
   -- ---- the turns
 
@@ -478,8 +436,8 @@ module _ {N K : Type 0} (r q : ℕ) (n : Meaning Setting N) (k : Meaning Setting
     rested guest guest2 turns past (Some m) None less same who h = absurd same
     rested guest guest2 turns past (Some m) (Some m2) less same who h =
         subst (λ (b : Bool). OnNegotiation n k (Guards n k b (SomeProved turns)) m2) (sym (who refl))
-        (cleared_on (Guards n k guest (SomeProved turns)) (guards_of_verified n k guest (SomeProved turns)) m m2 same
-        (map_on (Guards n k guest (SomeProved past)) (Guards n k guest (SomeProved turns)) (less_proved guest turns past less) m h))
+        (cleared_on r q n k ln lk (Guards n k guest (SomeProved turns)) (guards_of_like n k guest (SomeProved turns)) m m2 same
+        (map_on n k (Guards n k guest (SomeProved past)) (Guards n k guest (SomeProved turns)) (less_proved guest turns past less) m h))
 
     -- a step that a turn proved after, or that went on
     done_guards : (guest : Bool) (turns : List Turn) (step : Step) → (SomeProved turns → step.status ≡ statuses.Ok) →
@@ -496,7 +454,7 @@ module _ {N K : Type 0} (r q : ℕ) (n : Meaning Setting N) (k : Meaning Setting
         GuardsIn (is_guest next.handle) turns context
     done_leaves turns past stage next token step None log ended h walked = absurd walked
     done_leaves turns past stage next token step (Some m) log ended h walked =
-        map_on (Next n k (is_guest next.handle) (Done step)) (Guards n k (is_guest next.handle) (SomeProved turns))
+        map_on n k (Next n k (is_guest next.handle) (Done step)) (Guards n k (is_guest next.handle) (SomeProved turns))
         (done_guards (is_guest next.handle) turns step ended) m
         (walks_next past (client_at (either r n k) kdcs first stage) next.handle token 0 log (Done step) m refl h walked)
 
@@ -545,7 +503,7 @@ module _ {N K : Type 0} (r q : ℕ) (n : Meaning Setting N) (k : Meaning Setting
         VerifiedIn context
     waiting_claims turns stage now token question log None h did walked = absurd walked
     waiting_claims turns stage now token question log (Some m) h did walked =
-        map_on (Barred (Ask question)) (VerifiedOne n k) (λ s barred. absurd barred) m
+        map_on n k (Barred (Ask question)) (VerifiedOne n k) (λ s barred. absurd barred) m
         (walks_barred turns (client_at (either r n k) kdcs first stage) now.handle token 0 log (Ask question) m refl did h walked)
 
     pub left_claims : (kdc : D) (turns : List Turn) (now : ClientStage (SspiContext N K) D) → first.context ≡ None → OthersGoOn turns →

@@ -11,6 +11,7 @@ pub mod Lists
 pub mod Marks
 pub mod Offering
 pub mod OnMechanism
+pub mod OnNegotiation
 pub mod Order
 pub mod OwnIdentity
 pub mod Parts
@@ -19,6 +20,9 @@ pub mod Refusals
 pub mod Runs
 pub mod SameTexts
 pub mod ServerChains
+pub mod ServerNeeds
+pub mod ServerOver
 pub mod ServerPicks
 pub mod ServerSeals
+pub mod ServerVerifies
 pub mod Steps

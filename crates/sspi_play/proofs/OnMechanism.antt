@@ -34,6 +34,8 @@ use Rattle.sspi_play.proofs.Marks.{is_marked}
 use Rattle.sspi_play.proofs.Runs.{played_left}
 use Rattle.sspi_play.proofs.ServerChains.{chain_shows}
 use Rattle.sspi_play.proofs.ServerPicks.{Shows}
+use Rattle.sspi_play.proofs.ServerOver.{over_once_proved, over_once_opened}
+use Rattle.sspi_play.proofs.ServerVerifies.{left_claims as server_left_claims}
 
 first_holds : (a b : Bool) → a ≡ true → a || b ≡ true
 first_holds a b h = ap (λ (x : Bool). x || b) h
@@ -124,9 +126,10 @@ module _ {N K : Type 0} (r q : ℕ) (n : Meaning Setting N) (k : Meaning Setting
         }
 
     pub verifies_first : (schedule : List Delivery) (old new : Both (SspiContext N K) P D) (result : Result Played DelegateError) →
-        IsFreshClient old.client → IsPlay (either r n k) p kdcs old result new → Accounts (either r n k) p kdcs schedule old result new →
-        VerifiesFirst r n k new.client new.turns
-    verifies_first schedule old new result client_fresh play accounts =
+        IsFreshClient old.client → IsFreshServer old.server → IsPlay (either r n k) p kdcs old result new →
+        Accounts (either r n k) p kdcs schedule old result new →
+        VerifiesFirst r n k (p.told old.server.proxy) new.client (server_end new.server) new.turns
+    verifies_first schedule old new result client_fresh server_fresh play accounts =
         let law = lawful r q n k ln lk in
         let claims : Claims r q n k ln lk kdcs old.client (client_end new.client) (client_turns new.turns)
         (client_stage new.client new.kdc) =
@@ -136,9 +139,16 @@ module _ {N K : Type 0} (r q : ℕ) (n : Meaning Setting N) (k : Meaning Setting
         (Err errors.InsufficientMemory) play.client_ran.others
         (played_left (either r n k) kdcs result old.client new.client old.kdc new.kdc (client_turns new.turns)
         accounts.client_turns_are_its_calls)) in
+        let server_claims = server_left_claims r q n k ln lk (p.told old.server.proxy) p old.server refl (server_end new.server)
+        (server_turns new.turns) (server_stage new.server) server_fresh.context play.server_ran.others play.server_ran.each
+        play.the_server_has_the_context_of_its_chain in
         record {
           a_client_that_proved = λ at proved negotiates known. verified_in r q n k ln lk new.client.context negotiates
               (claims (some_proved (client_turns new.turns) at proved) known);
           a_client_that_sealed = λ at sealed negotiates known. verified_in r q n k ln lk new.client.context negotiates
               (claims (sealed_proved (either r n k) (client_end new.client) (client_turns new.turns) play.client_ran.each at sealed) known);
+          a_server_that_proved = λ at proved unrefused. server_claims (over_once_proved (either r n k) (server_end new.server)
+              (server_turns new.turns) play.server_ran.each at proved unrefused);
+          a_server_that_opened = λ at opened. server_claims (over_once_opened (either r n k) (server_end new.server)
+              (server_turns new.turns) play.server_ran.each at opened);
         }

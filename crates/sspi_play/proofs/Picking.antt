@@ -38,12 +38,12 @@ use Rattle.sspi_play.proofs.Marks.{QuietEnds, quiet_either}
 -- ---- what is picked
 
 -- a pick of Kerberos is the mechanism in hand
-abbrev OnKerberos : Choice → Type 0 → Type 0
+abbrev pub OnKerberos : Choice → Type 0 → Type 0
 OnKerberos choices.MsKerberos P = P
 OnKerberos choices.Kerberos P = P
 OnKerberos choices.Ntlm P = Unit {0}
 
-abbrev IsInHand : Protocol → Option Picked → Type 0
+abbrev pub IsInHand : Protocol → Option Picked → Type 0
 IsInHand protocol None = Unit {0}
 IsInHand protocol (Some p) = OnKerberos p.choice (protocol ≡ protocols.Kerberos)
 
@@ -62,7 +62,8 @@ is_kerberos : (protocol : Protocol) → is_kerberos_hand protocol ≡ true → p
 is_kerberos protocols.Kerberos h = refl
 is_kerberos protocols.Ntlm h = absurd (cc (h))
 
-pick_in_hand : (list : List (List ℕ)) (packages : PackageListConfig) (protocol : Protocol) → IsInHand protocol (pick list packages protocol)
+pub pick_in_hand : (list : List (List ℕ)) (packages : PackageListConfig) (protocol : Protocol) →
+    IsInHand protocol (pick list packages protocol)
 pick_in_hand list packages protocol =
     let usable : packages.kerberos && is_kerberos_hand protocol ≡ true → protocol ≡ protocols.Kerberos =
     λ h. is_kerberos protocol (and_last packages.kerberos (is_kerberos_hand protocol) h) in

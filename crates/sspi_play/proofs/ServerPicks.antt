@@ -69,6 +69,12 @@ chosen_more config t turns list protocol was = record {
   picked = was.picked;
 }
 
+pub by_state : (Goal : Type 0) (state : NegotiateState) → (state ≡ states.Initial → Goal) → (state ≢ states.Initial → Goal) → Goal
+by_state Goal states.Initial first later = first refl
+by_state Goal states.InProgress first later = later (λ e. cc (e))
+by_state Goal states.VerifyMic first later = later (λ e. cc (e))
+by_state Goal states.Ok first later = later (λ e. cc (e))
+
 module _ {N K : Type 0} (n : Meaning Setting N) (k : Meaning Setting K) (mode : ServerMode) where
   -- A negotiation of a server none of whose turns was refused: it is as it was made, or has picked.
   pub record KeepsPick (turns : List Turn) (s : Negotiation (NegotiatedProtocol N K)) : Type 0 where
@@ -84,12 +90,6 @@ module _ {N K : Type 0} (n : Meaning Setting N) (k : Meaning Setting K) (mode : 
     pub config : NegotiateConfig
     pub mode_is : mode ≡ modes.Negotiate config
     pub picked : is_marked ((hand n k).counts s.mech) ≡ true → WasChosen config turns s.list (hand_of s.mech)
-
-  by_state : (Goal : Type 0) (state : NegotiateState) → (state ≡ states.Initial → Goal) → (state ≢ states.Initial → Goal) → Goal
-  by_state Goal states.Initial first later = first refl
-  by_state Goal states.InProgress first later = later (λ e. cc (e))
-  by_state Goal states.VerifyMic first later = later (λ e. cc (e))
-  by_state Goal states.Ok first later = later (λ e. cc (e))
 
   pub keeps_of_mics : (turns : List Turn) → IsOfMics n k (KeepsPick turns)
   keeps_of_mics turns = λ s mech named marks h. record {
@@ -169,7 +169,7 @@ module _ {N K : Type 0} (r q : ℕ) (n : Meaning Setting N) (k : Meaning Setting
     }
 
     step_done : (step : Step) → (negotiate r n k).accepts s args (Ok step) s2 → KeepsPick n k mode (t ∷ past) s2
-    step_done step moves = by_state n k mode (KeepsPick n k mode (t ∷ past) s2) s.state
+    step_done step moves = by_state (KeepsPick n k mode (t ∷ past) s2) s.state
         (λ at. after_first at (ends (PicksAt (values_of s) args.input) (hand n k) (spnego_server (values_of s) args) s.mech s2.mech
         (Done step) (values_of s2)
         (quiet_all (PicksAt (values_of s) args.input) (spnego_server (values_of s) args) (server_quiet (values_of s) args at))
@@ -182,7 +182,7 @@ module _ {N K : Type 0} (r q : ℕ) (n : Meaning Setting N) (k : Meaning Setting
     step_refused error moves = record {
       config = h.config;
       mode_is = h.mode_is;
-      picked = λ marked. by_state n k mode (WasChosen h.config (t ∷ past) s2.list (hand_of s2.mech)) s.state
+      picked = λ marked. by_state (WasChosen h.config (t ∷ past) s2.list (hand_of s2.mech)) s.state
           (λ at. absurd (false≢true (sym (h.unmarked at)
           ∙ marks_before ((hand n k).counts s.mech) ((hand n k).counts s2.mech) (moves.moves.unmarked at) marked)))
           (λ late. chosen_more h.config t past s2.list (hand_of s2.mech)

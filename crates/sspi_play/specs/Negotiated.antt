@@ -3,26 +3,36 @@
 --
 -- A server that verified a MIC of the client has the mechanism in hand that it picks, by its own configuration, of the list that
 -- the client offered; and a client that verified a MIC of the server keeps the list that the server read. A client that proved its
--- key, or sealed its credentials, has verified one, but for a guest; that rests on no premise.
-use Rattle.std.specs.Prelude.{◌≡◌, ◌≤◌, ℕ, List, option_map, Option, None, Some, IsSome, Result, Ok, Err, true, false}
+-- key, or sealed its credentials, has verified one. A server that proved its own, or opened credentials, has too, if the mechanism in
+-- hand is NTLM or is not the one that the list begins with. Both are so but for a guest, and rest on no premise.
+use Rattle.std.specs.Prelude.{◌≡◌, ◌≢◌, ◌≤◌, ◌⊎◌, ℕ, List, [], ◌∷◌, map, option_map}
+use Rattle.std.specs.Prelude.{Option, None, Some, IsSome, Result, Ok, Err, true, false}
 use Rattle.sspi_types.specs.declared.error_kind.ErrorKind.{ErrorKind}
+use Rattle.sspi_names.specs.declared.credentials.Credentials.TheVariants as credentials
+use Rattle.sspi_names.specs.declared.identity.AuthIdentity.{AuthIdentity}
+use Rattle.sspi_names.specs.Name.{Name, inner_of}
+use Rattle.sspi_mech.specs.Calls.{Counts}
 use Rattle.sspi_mech.specs.Meaning.{Meaning}
 use Rattle.sspi_mech.specs.Settings.{Setting}
 use Rattle.sspi_tokens.specs.declared.neg_token_init.NegTokenInit.{NegTokenInit}
+use Rattle.sspi_tokens.specs.Oids.{kind_of}
 use Rattle.sspi_tokens.specs.Reading.{init_of}
 use Rattle.sspi_tokens.specs.Spelling.{spelled_init}
 use Rattle.sspi_negotiate.specs.declared.negotiate_config.NegotiateConfig.{NegotiateConfig}
 use Rattle.sspi_negotiate.specs.declared.pick.Choice.{Choice}
 use Rattle.sspi_negotiate.specs.declared.pick.Choice.TheVariants as choices
 use Rattle.sspi_negotiate.specs.declared.pick.Picked.{Picked}
+use Rattle.sspi_negotiate.specs.declared.protocol.NegotiatedProtocol.{NegotiatedProtocol}
 use Rattle.sspi_negotiate.specs.declared.protocol.Protocol.{Protocol}
 use Rattle.sspi_negotiate.specs.declared.protocol.Protocol.TheVariants.{Kerberos, Ntlm}
 use Rattle.sspi_negotiate.specs.declared.protocol_config.ProtocolConfig.TheVariants as configs
 use Rattle.sspi_negotiate.specs.declared.state.Role.TheVariants as roles
+use Rattle.sspi_negotiate.specs.Choices.{protocol_of as protocol_of_kind}
 use Rattle.sspi_negotiate.specs.Client.{is_guest}
-use Rattle.sspi_negotiate.specs.Hand.{Origin, Configured, InPlaceOfNtlm, hand_of}
+use Rattle.sspi_negotiate.specs.Hand.{Origin, Configured, InPlaceOfNtlm, hand, hand_of}
 use Rattle.sspi_negotiate.specs.New.{first_in_hand, packages_in}
 use Rattle.sspi_negotiate.specs.Pick.{pick}
+use Rattle.sspi_negotiate.specs.Rows.{is_guest_text}
 use Rattle.sspi_credssp.specs.declared.context.SspiContext.{SspiContext}
 use Rattle.sspi_credssp.specs.declared.context.SspiContext.TheVariants as contexts
 use Rattle.sspi_credssp.specs.declared.mode.ServerMode.{ServerMode}
@@ -30,9 +40,10 @@ use Rattle.sspi_credssp.specs.declared.mode.ServerMode.TheVariants as modes
 use Rattle.sspi_credssp.specs.declared.turn.Turn.{Turn}
 use Rattle.sspi_credssp.specs.Context.{either}
 use Rattle.sspi_credssp.specs.Ends.{ClientView}
+use Rattle.sspi_credssp.specs.Proxy.{ProxyTells, AreFound}
 use Rattle.sspi_credssp.specs.Requests.{token_of}
 use Rattle.sspi_delegate.specs.Turns.{ClientEnd, ServerEnd}
-use Rattle.sspi_delegate.specs.Turns.{client_turns, server_turns}
+use Rattle.sspi_delegate.specs.Turns.{client_turns, server_turns, IsUnrefused}
 use Rattle.sspi_play.specs.Agreement.{TurnOf}
 use Rattle.sspi_play.specs.Faithful.{verifications_in, VerifiesWhatWasSigned}
 use Rattle.sspi_play.specs.Kept.{kept_list}
@@ -99,7 +110,40 @@ pub record IsPickOf {N K : Type 0} (context : Option (SspiContext N K)) (mode : 
   pub held : in_hand context ≡ Some protocol
   pub picked : picked_by config list ≡ Some protocol
 
--- ---- what a client has verified, whoever carries the messages and whatever its mechanism is
+-- ---- what an end has verified, whoever carries the messages and whatever its mechanism is
+
+-- the mechanism that a list begins with, if it is one that is known
+abbrev pub first_of : List (List ℕ) → Option Protocol
+first_of [] = None
+first_of (oid ∷ oids) = protocol_of_kind (kind_of oid)
+
+-- a server with this mechanism in hand needs MICs over the list: with NTLM, and with any that the list does not begin with
+abbrev pub NeedsMic : Protocol → List (List ℕ) → Type 0
+NeedsMic protocol list = (protocol ≡ Ntlm) ⊎ (first_of list ≢ Some protocol)
+
+module _ {N K : Type 0} (n : Meaning Setting N) (k : Meaning Setting K) where
+  -- The mechanism named its peer as a guest, of whom a server needs no MIC, and took the identities that the proxy found under that
+  -- name; since then it has but counted messages.
+  pub record TookGuest (tells : ProxyTells) (mech : NegotiatedProtocol N K) : Type 0 where
+    pub before : NegotiatedProtocol N K
+    pub taken : NegotiatedProtocol N K
+    pub name : Name
+    pub identities : List AuthIdentity
+    pub named : (hand n k).names before ≡ Some name
+    pub is_guest : is_guest_text (inner_of name) ≡ true
+    pub found : AreFound tells name identities
+    pub some : identities ≢ []
+    pub peer : (hand n k).identifies before (map credentials.AuthIdentity identities) taken
+    pub counts : Counts
+    pub left : mech ≡ (hand n k).counted taken counts
+
+  -- a server that negotiates, and whose mechanism needs MICs, has verified one, unless its peer is a guest
+  abbrev pub HasVerifiedOrGuest : ProxyTells → Option (SspiContext N K) → Type 0
+  HasVerifiedOrGuest tells None = ⊥
+  HasVerifiedOrGuest tells (Some (contexts.Negotiate s)) = NeedsMic (hand_of s.mech) s.list →
+      (1 ≤ ((hand n k).counts s.mech).verifications) ⊎ TookGuest tells s.mech
+  HasVerifiedOrGuest tells (Some (contexts.Ntlm m)) = Unit {0}
+  HasVerifiedOrGuest tells (Some (contexts.Kerberos m)) = Unit {0}
 
 module _ {N K : Type 0} (requests : ℕ) (n : Meaning Setting N) (k : Meaning Setting K) where
   -- a client that negotiates has verified a MIC of its peer, unless its user is a guest, for whom NTLM may be chosen without one
@@ -107,10 +151,16 @@ module _ {N K : Type 0} (requests : ℕ) (n : Meaning Setting N) (k : Meaning Se
   HasVerified client = IsSome (in_hand client.context) → is_guest client.handle ≡ false →
       1 ≤ verifications_in (either requests n k) client.context
 
-  -- it does before it proves its key, and so before it seals its credentials
-  pub record VerifiesFirst (client : ClientView (SspiContext N K)) (turns : List Turn) : Type 0 where
+  -- A client that proved its key has, and so has one that sealed its credentials; and a server that answered with its own proof, or
+  -- opened credentials. No turn behind a proof takes a step, so that was before it.
+  pub record VerifiesFirst (tells : ProxyTells) (client : ClientView (SspiContext N K)) (server : ServerEnd (SspiContext N K))
+      (turns : List Turn) : Type 0 where
     pub a_client_that_proved : (at : TurnOf (client_turns turns)) → at.turn.acts.proved ≡ true → HasVerified client
     pub a_client_that_sealed : (at : TurnOf (client_turns turns)) → at.turn.acts.sealed ≡ true → HasVerified client
+    pub a_server_that_proved : (at : TurnOf (server_turns turns)) → at.turn.acts.proved ≡ true → IsUnrefused at.turn.outcome →
+        HasVerifiedOrGuest n k tells server.context
+    pub a_server_that_opened : (at : TurnOf (server_turns turns)) → at.turn.acts.opened ≡ true →
+        HasVerifiedOrGuest n k tells server.context
 
 -- ---- what both agree on
 

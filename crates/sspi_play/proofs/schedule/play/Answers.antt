@@ -39,5 +39,5 @@ returns-clause-verifies g c fresh =
     let kdcs = kdc_calls g.D.Kdc.told g.D.Kdc.asked g.D.Kdc.faults in
     let accounts = c.hand_all.ensures.accounts c.clear.ensures in
     verifies_first _ _ g.N.Mechanism.meaning g.K.Mechanism.meaning g.met.N.Mechanism.laws g.met.K.Mechanism.laws
-    g.C.CredentialsProxy.meaning kdcs _ _ _ c.hand_all.result fresh.client_is
+    g.C.CredentialsProxy.meaning kdcs _ _ _ c.hand_all.result fresh.client_is fresh.server_is
     (is_play m law g.C.CredentialsProxy.meaning kdcs _ _ _ c.hand_all.result fresh.client_is fresh.server_is accounts) accounts

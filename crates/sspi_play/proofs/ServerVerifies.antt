@@ -1,0 +1,403 @@
+-- A server's context, after its turns: once one of them ended the authentication, a negotiation is over, and has verified a MIC where the
+-- mechanism in hand needs one, unless the proxy found the identities of a guest.
+use Rattle.std.proofs.Common.{◌≡◌, ◌≢◌, ◌≤◌, ℕ, Bool, true, false, List, [], ◌∷◌, map, Option, None, Some, Result, Ok, Err}
+use Rattle.std.proofs.Common.{refl, sym, ◌∙◌, ap, subst, ◌&&◌, ◌⊎◌, inl, inr}
+use Rattle.std.proofs.Math.Logic.{⊎_map}
+use Rattle.std.proofs.lemmas.Bool.{false≢true, and_parts, or_cases}
+use Rattle.std.proofs.lemmas.Option.{same_Some}
+use Rattle.sspi_types.specs.declared.credential_use.CredentialUse.TheVariants.{Inbound}
+use Rattle.sspi_types.specs.declared.error.Error.{Error}
+use Rattle.sspi_types.specs.declared.security_status.SecurityStatus.{SecurityStatus}
+use Rattle.sspi_types.specs.declared.security_status.SecurityStatus.TheVariants as statuses
+use Rattle.sspi_names.specs.Name.{Name, inner_of}
+use Rattle.sspi_names.specs.declared.credentials.Credentials.TheVariants as credentials
+use Rattle.sspi_names.specs.declared.credentials.CredentialsBuffers.{CredentialsBuffers}
+use Rattle.sspi_names.specs.declared.identity.AuthIdentity.{AuthIdentity}
+use Rattle.sspi_mech.specs.declared.step.Answer.TheVariants.{Done}
+use Rattle.sspi_mech.specs.declared.step.Step.{Step}
+use Rattle.sspi_mech.specs.Calls.{AcceptArgs, Counts}
+use Rattle.sspi_mech.specs.Laws.{IsMechanism}
+use Rattle.sspi_mech.specs.Meaning.{Meaning}
+use Rattle.sspi_mech.specs.Settings.{Setting}
+use Rattle.sspi_negotiate.specs.declared.protocol.NegotiatedProtocol.{NegotiatedProtocol}
+use Rattle.sspi_negotiate.specs.declared.protocol.Protocol.{Protocol}
+use Rattle.sspi_negotiate.specs.declared.state.NegotiateState.TheVariants as states
+use Rattle.sspi_negotiate.specs.Hand.{hand, hand_of}
+use Rattle.sspi_negotiate.specs.Negotiate.{negotiate}
+use Rattle.sspi_negotiate.specs.Rows.{is_over as is_over_status, is_guest_text}
+use Rattle.sspi_negotiate.specs.Server.{spnego_server}
+use Rattle.sspi_negotiate.specs.Values.{Values, Negotiation, values_of}
+use Rattle.sspi_negotiate.specs.Verified.{IsGuestNamed}
+use Rattle.sspi_negotiate.proofs.Ending.{server_ended_before}
+use Rattle.sspi_negotiate.proofs.Ends.{ends}
+use Rattle.sspi_negotiate.proofs.HandLaws.{hand_lawful}
+use Rattle.sspi_credssp.specs.declared.context.SspiContext.{SspiContext}
+use Rattle.sspi_credssp.specs.declared.context.SspiContext.TheVariants as contexts
+use Rattle.sspi_credssp.specs.declared.mode.ServerMode.{ServerMode}
+use Rattle.sspi_credssp.specs.declared.mode.ServerMode.TheVariants as modes
+use Rattle.sspi_credssp.specs.declared.turn.Outcome.{Outcome}
+use Rattle.sspi_credssp.specs.declared.turn.Outcome.TheVariants as outcome
+use Rattle.sspi_credssp.specs.declared.turn.Turn.{Turn}
+use Rattle.sspi_credssp.specs.Context.{Begun, goes_on, is_new, IfContext, ForServer, either}
+use Rattle.sspi_credssp.specs.Ends.{ServerView}
+use Rattle.sspi_credssp.specs.Proxy.{ProxyMeaning, ProxyTells, AreFound}
+use Rattle.sspi_credssp.specs.ServerTurn as accept
+use Rattle.sspi_credssp.specs.ServerTurn.{UnlessMade}
+use Rattle.sspi_credssp.specs.Turn.{ShowsServerActs, server_shown}
+use Rattle.sspi_delegate.specs.Chain.{ServerStage, server_at, ServerMovedBy, ServerChain}
+use Rattle.sspi_delegate.specs.Turns.{ServerEnd, EachServerTurn, server_frame_at, is_over, is_replied, any_over}
+use Rattle.sspi_delegate.specs.Turns.{IsUnrefused, NoneRefused, OthersUnrefused}
+use Rattle.sspi_play.specs.Negotiated.{TookGuest, NeedsMic, HasVerifiedOrGuest}
+use Rattle.sspi_play.proofs.ClientVerifies.{VerifiedOne, one_stays, verified_one}
+use Rattle.sspi_play.proofs.Contexts.{identified_hand}
+use Rattle.sspi_play.proofs.Marks.{hand_keeps}
+use Rattle.sspi_play.proofs.OnNegotiation.{OnNegotiation, map_on, IsLike, IsOfLike, counted_on, cleared_on}
+use Rattle.sspi_play.proofs.Picking.{StaysChosen, StaysAt, server_stays}
+use Rattle.sspi_play.proofs.ServerNeeds.{AreNeeded, Secured, SecuredAt, server_secured}
+use Rattle.sspi_play.proofs.ServerOver.{not_over, some_status, over_some, replied_unrefused}
+use Rattle.sspi_play.proofs.ServerPicks.{by_state}
+
+-- ---- one step
+
+module _ {N K : Type 0} (n : Meaning Setting N) (k : Meaning Setting K) (tells : ProxyTells) where
+  -- of whom no MIC is needed, by how far the server knows its peer
+  abbrev Excuses : accept.Knowing → Negotiation (NegotiatedProtocol N K) → Type 0
+  Excuses accept.Unknown = λ s. IsGuestNamed (hand n k) s.mech
+  Excuses accept.Identified = λ s. TookGuest n k tells s.mech
+  Excuses accept.Completed = λ s. TookGuest n k tells s.mech
+
+  -- what a step leaves that came to this status
+  record Stepped (Excused : Negotiation (NegotiatedProtocol N K) → Type 0) (status : SecurityStatus)
+      (s : Negotiation (NegotiatedProtocol N K)) : Type 0 where
+    begun : s.state ≢ states.Initial
+    over : is_over_status status ≡ true → s.state ≡ states.Ok
+    done : s.state ≡ states.Ok → is_over_status status ≡ true
+    needs : s.state ≢ states.Ok → AreNeeded (values_of s)
+    verified : s.state ≡ states.Ok → NeedsMic (hand_of s.mech) s.list → VerifiedOne n k s ⊎ Excused s
+
+  abbrev Next : accept.Knowing → Result Step Error → Negotiation (NegotiatedProtocol N K) → Type 0
+  Next known (Ok step) s = Stepped (Excuses known) step.status s
+  Next known (Err error) s = Unit {0}
+
+  -- what holds between two turns
+  record Guards (turns : List Turn) (s : Negotiation (NegotiatedProtocol N K)) : Type 0 where
+    needs : s.state ≢ states.Initial → s.state ≢ states.Ok → AreNeeded (values_of s)
+    over : any_over turns ≡ true → s.state ≡ states.Ok
+    verified : s.state ≡ states.Ok → NeedsMic (hand_of s.mech) s.list → VerifiedOne n k s ⊎ TookGuest n k tells s.mech
+
+  stepped_of_like : (Excused Excused2 : Negotiation (NegotiatedProtocol N K) → Type 0) (status : SecurityStatus)
+      (s : Negotiation (NegotiatedProtocol N K)) (mech : NegotiatedProtocol N K) → hand_of mech ≡ hand_of s.mech →
+      (VerifiedOne n k s → VerifiedOne n k (record s { mech = mech })) → (Excused s → Excused2 (record s { mech = mech })) →
+      Stepped Excused status s → Stepped Excused2 status (record s { mech = mech })
+  stepped_of_like Excused Excused2 status s mech same one excuse h = record {
+    begun = h.begun;
+    over = h.over;
+    done = h.done;
+    needs = λ before mic. h.needs before (subst (λ (x : Protocol). NeedsMic x s.list) same mic);
+    verified = λ at mic. ⊎_map one excuse (h.verified at (subst (λ (x : Protocol). NeedsMic x s.list) same mic));
+  }
+
+  took_of_like : (mech mech2 : NegotiatedProtocol N K) → IsLike n k mech mech2 → TookGuest n k tells mech → TookGuest n k tells mech2
+  took_of_like mech mech2 like h = let is = like.counted h.taken (h.counts, h.left) in record {
+    before = h.before;
+    taken = h.taken;
+    name = h.name;
+    identities = h.identities;
+    named = h.named;
+    is_guest = h.is_guest;
+    found = h.found;
+    some = h.some;
+    peer = h.peer;
+    counts = is.0;
+    left = is.1;
+  }
+
+  guest_of_like : (known : accept.Knowing) (s : Negotiation (NegotiatedProtocol N K)) (mech : NegotiatedProtocol N K) →
+      IsLike n k s.mech mech → Excuses known s → Excuses known (record s { mech = mech })
+  guest_of_like accept.Unknown s mech like h = record { name = h.name; named = like.names ∙ h.named; is_guest = h.is_guest }
+  guest_of_like accept.Identified s mech like h = took_of_like s.mech mech like h
+  guest_of_like accept.Completed s mech like h = took_of_like s.mech mech like h
+
+  next_of_like : (known : accept.Knowing) (x : Result Step Error) → IsOfLike n k (Next known x)
+  next_of_like known (Ok step) = λ s mech like h. stepped_of_like (Excuses known) (Excuses known) step.status s mech like.protocol
+      (λ one. one_stays n k s.mech mech like one) (guest_of_like known s mech like) h
+  next_of_like known (Err error) = λ s mech like h. tt
+
+  guards_of_like : (turns : List Turn) → IsOfLike n k (Guards turns)
+  guards_of_like turns = λ s mech like h. record {
+    needs = λ begun before mic. h.needs begun before (subst (λ (x : Protocol). NeedsMic x s.list) like.protocol mic);
+    over = h.over;
+    verified = λ at mic. ⊎_map (λ one. one_stays n k s.mech mech like one) (took_of_like s.mech mech like)
+        (h.verified at (subst (λ (x : Protocol). NeedsMic x s.list) like.protocol mic));
+  }
+
+module _ {N K : Type 0} (r q : ℕ) (n : Meaning Setting N) (k : Meaning Setting K) (ln : IsMechanism r n) (lk : IsMechanism q k)
+    (tells : ProxyTells) where
+  abbrev Needs : Negotiation (NegotiatedProtocol N K) → Type 0
+  Needs s = s.state ≢ states.Initial → s.state ≢ states.Ok → AreNeeded (values_of s)
+
+  -- a mechanism and a list that stay need MICs as before
+  mic_before : (old new : Values) → StaysChosen old new → NeedsMic new.hand new.list → NeedsMic old.hand old.list
+  mic_before old new stays mic = subst (λ (x : Protocol). NeedsMic x old.list) stays.hand
+      (subst (λ (x : List (List ℕ)). NeedsMic new.hand x) stays.list mic)
+
+  step_next : (s s2 : Negotiation (NegotiatedProtocol N K)) (args : AcceptArgs) (x : Result Step Error) →
+      (negotiate r n k).accepts s args x s2 → Needs s → Next n k tells accept.Unknown x s2
+  step_next s s2 args (Err error) moves need = tt
+  step_next s s2 args (Ok step) moves need =
+      let h : Secured s.state step.status (values_of s2) =
+      ends (SecuredAt s.state) (hand n k) (spnego_server (values_of s) args) s.mech s2.mech (Done step) (values_of s2)
+      (server_secured (values_of s) args need) moves.moves.follows.as_planned in
+      record {
+        begun = h.begun;
+        over = h.over;
+        done = h.done;
+        needs = h.needs;
+        verified = λ at mic. by_state (VerifiedOne n k s2 ⊎ IsGuestNamed (hand n k) s2.mech) s.state
+            (λ first. absurd (h.first first mic at))
+            (λ late. ⊎_map (verified_one r q n k ln lk s2.list s2.mech) (λ guest. guest)
+            (server_ended_before n k s s2 args step moves at late (need late h.before (mic_before (values_of s) (values_of s2)
+            (ends (StaysAt (values_of s)) (hand n k) (spnego_server (values_of s) args) s.mech s2.mech (Done step) (values_of s2)
+            (server_stays (values_of s) args late) moves.moves.follows.as_planned) mic))));
+      }
+
+  -- ---- a context
+
+  accepted_on : (m m2 : SspiContext N K) (args : AcceptArgs) (x : Result Step Error) → (either r n k).accepts m args x m2 →
+      OnNegotiation n k Needs m → OnNegotiation n k (Next n k tells accept.Unknown x) m2
+  accepted_on (contexts.Negotiate s) (contexts.Negotiate s2) args x a h = step_next s s2 args x a h
+  accepted_on (contexts.Ntlm m) (contexts.Negotiate s2) args x a h = absurd a
+  accepted_on (contexts.Kerberos m) (contexts.Negotiate s2) args x a h = absurd a
+  accepted_on m (contexts.Ntlm m2) args x a h = tt
+  accepted_on m (contexts.Kerberos m2) args x a h = tt
+
+  -- a guest whose identities the proxy found
+  took_guest : (name : Name) (ids : List AuthIdentity) (mech mech2 : NegotiatedProtocol N K) → (hand n k).names mech ≡ Some name →
+      AreFound tells name ids → ids ≢ [] → (hand n k).identifies mech (map credentials.AuthIdentity ids) mech2 →
+      IsGuestNamed (hand n k) mech → TookGuest n k tells mech2
+  took_guest name ids mech mech2 named found some peer guest = record {
+    before = mech;
+    taken = mech2;
+    name = name;
+    identities = ids;
+    named = named;
+    is_guest = subst (λ (x : Name). is_guest_text (inner_of x) ≡ true) (same_Some guest.name name (sym guest.named ∙ named)) guest.is_guest;
+    found = found;
+    some = some;
+    peer = peer;
+    counts = (hand n k).counts mech2;
+    left = sym ((hand_lawful r q n k ln lk).counted_counts mech2);
+  }
+
+  identified_next : (s : Negotiation (NegotiatedProtocol N K)) (mech : NegotiatedProtocol N K) (name : Name) (ids : List AuthIdentity)
+      (x : Result Step Error) → (hand n k).names s.mech ≡ Some name → AreFound tells name ids → ids ≢ [] →
+      (hand n k).identifies s.mech (map credentials.AuthIdentity ids) mech → Next n k tells accept.Unknown x s →
+      Next n k tells accept.Identified x (record s { mech = mech })
+  identified_next s mech name ids (Ok step) named found some peer h =
+      stepped_of_like n k tells (Excuses n k tells accept.Unknown) (Excuses n k tells accept.Identified) step.status s mech
+      (identified_hand n k s.mech mech (map credentials.AuthIdentity ids) peer)
+      (λ one. record {
+        one = subst (λ (x : Counts). 1 ≤ x.verifications) (sym ((hand_keeps r q n k ln lk).identified s.mech mech
+            (map credentials.AuthIdentity ids) peer))
+            one.one;
+      })
+      (took_guest name ids s.mech mech named found some peer) h
+  identified_next s mech name ids (Err error) named found some peer h = tt
+
+  identified_on : (m m2 : SspiContext N K) (name : Name) (ids : List AuthIdentity) (x : Result Step Error) →
+      (either r n k).names m ≡ Some name → AreFound tells name ids → ids ≢ [] →
+      (either r n k).identifies m (map credentials.AuthIdentity ids) m2 → OnNegotiation n k (Next n k tells accept.Unknown x) m →
+      OnNegotiation n k (Next n k tells accept.Identified x) m2
+  identified_on (contexts.Negotiate s) (contexts.Negotiate s2) name ids x named found some peer h =
+      subst (Next n k tells accept.Identified x) (sym peer.1) (identified_next s s2.mech name ids x named found some peer.0 h)
+  identified_on (contexts.Ntlm m) (contexts.Negotiate s2) name ids x named found some peer h = absurd peer
+  identified_on (contexts.Kerberos m) (contexts.Negotiate s2) name ids x named found some peer h = absurd peer
+  identified_on m (contexts.Ntlm m2) name ids x named found some peer h = tt
+  identified_on m (contexts.Kerberos m2) name ids x named found some peer h = tt
+
+  completed_next : (x : Result Step Error) (s : Negotiation (NegotiatedProtocol N K)) → Next n k tells accept.Identified x s →
+      Next n k tells accept.Completed x s
+  completed_next (Ok step) s h = h
+  completed_next (Err error) s h = h
+
+  -- a context that was just made has taken no step
+  acquired_initial : (m m2 : SspiContext N K) (mode : ServerMode) (entries : Option (List AuthIdentity))
+      (buffers : Option CredentialsBuffers) → (either r n k).made (ForServer mode entries) m →
+      (either r n k).acquires m Inbound None buffers m2 →
+      OnNegotiation n k (λ (s : Negotiation (NegotiatedProtocol N K)). s.state ≡ states.Initial) m2
+  acquired_initial (contexts.Negotiate s) (contexts.Negotiate s2) (modes.Negotiate config) entries buffers made got =
+      ap (λ (x : Negotiation (NegotiatedProtocol N K)). x.state) got.kept
+      ∙ ap (λ (x : Negotiation (NegotiatedProtocol N K)). x.state) made.1.1
+  acquired_initial (contexts.Negotiate s) (contexts.Negotiate s2) (modes.Ntlm config) entries buffers made got = absurd made
+  acquired_initial (contexts.Ntlm m) (contexts.Negotiate s2) mode entries buffers made got = absurd got
+  acquired_initial (contexts.Kerberos m) (contexts.Negotiate s2) mode entries buffers made got = absurd got
+  acquired_initial m (contexts.Ntlm m2) mode entries buffers made got = tt
+  acquired_initial m (contexts.Kerberos m2) mode entries buffers made got = tt
+
+  -- ---- the context between two turns
+
+  -- before there is a context no turn has ended the authentication
+  abbrev GuardsIn : List Turn → Option (SspiContext N K) → Type 0
+  GuardsIn turns None = any_over turns ≡ true → ⊥
+  GuardsIn turns (Some m) = OnNegotiation n k (Guards n k tells turns) m
+
+  begun_needs : (turns : List Turn) (context : Option (SspiContext N K)) (had handle : Option CredentialsBuffers) (mode : ServerMode)
+      (entries : Option (List AuthIdentity)) (m : SspiContext N K) → GuardsIn turns context →
+      Begun (either r n k) context had (ForServer mode entries) Inbound None handle m → OnNegotiation n k Needs m
+  begun_needs turns context had handle mode entries m h (goes_on is same) =
+      map_on n k (Guards n k tells turns) Needs (λ s g. g.needs) m (subst (λ (o : Option (SspiContext N K)). GuardsIn turns o) is h)
+  begun_needs turns context had handle mode entries m h (is_new m0 none made got) =
+      map_on n k (λ (s : Negotiation (NegotiatedProtocol N K)). s.state ≡ states.Initial) Needs (λ s at late. absurd (late at)) m
+      (acquired_initial m0 m mode entries handle made got)
+
+  module _ {P : Type 0} (p : ProxyMeaning P) (first : ServerView (SspiContext N K) P) (is_told : p.told first.proxy ≡ tells) where
+    accepts_next : (stage : ServerStage (SspiContext N K)) (past : List Turn) (handle : Option CredentialsBuffers)
+        (token : Option (List ℕ)) (known : accept.Knowing) (x : Result Step Error) (m : SspiContext N K) → GuardsIn past stage.context →
+        accept.Accepted (either r n k) p (server_at (either r n k) p first stage) handle token known x m →
+        OnNegotiation n k (Next n k tells known x) m
+    accepts_next stage past handle token known x m h (accept.accepted m0 m1 y begun accepts) =
+        accepted_on m0 m _ x accepts (begun_needs past stage.context stage.handle handle first.settings.mode _ m0 h begun)
+    accepts_next stage past handle token known x m h
+        (accept.identified m1 m2 y step (accept.is_identified name ids named found some peer)) =
+        identified_on m1 m name ids x named (subst (λ (z : ProxyTells). AreFound z name ids) is_told found) some peer
+        (accepts_next stage past handle token accept.Unknown x m1 h step)
+    accepts_next stage past handle token known x m h (accept.completed m1 y step permits) =
+        map_on n k (Next n k tells accept.Identified x) (Next n k tells accept.Completed x) (completed_next x) m
+        (accepts_next stage past handle token accept.Identified x m h step)
+    accepts_next stage past handle token known x m h (accept.recounted m1 m2 i so y step counted quiet) =
+        subst (λ (z : SspiContext N K). OnNegotiation n k (Next n k tells known x) z) (sym counted)
+        (counted_on r q n k ln lk (Next n k tells known x) (next_of_like n k tells known x) m1 i quiet
+        (accepts_next stage past handle token known x m1 h step))
+
+    -- where the authentication has ended the peer is known
+    known_guest : (status : SecurityStatus) (s : Negotiation (NegotiatedProtocol N K)) → is_over_status status ≡ true →
+        Excuses n k tells (accept.known_at (either r n k) p status) s → TookGuest n k tells s.mech
+    known_guest statuses.Ok s is h = h
+    known_guest statuses.CompleteNeeded s is h = h
+    known_guest statuses.ContinueNeeded s is h = absurd (false≢true is)
+    known_guest statuses.CompleteAndContinue s is h = absurd (false≢true is)
+    known_guest statuses.LocalLogon s is h = absurd (false≢true is)
+    known_guest statuses.ContextExpired s is h = absurd (false≢true is)
+    known_guest statuses.IncompleteCredentials s is h = absurd (false≢true is)
+    known_guest statuses.Renegotiate s is h = absurd (false≢true is)
+    known_guest statuses.NoLsaContext s is h = absurd (false≢true is)
+
+    step_guards : (turns : List Turn) (step : Step) → (any_over turns ≡ true → is_over_status step.status ≡ true) →
+        (s : Negotiation (NegotiatedProtocol N K)) → Next n k tells (accept.known_at (either r n k) p step.status) (Ok step) s →
+        Guards n k tells turns s
+    step_guards turns step ended s h = record {
+      needs = λ begun before. h.needs before;
+      over = λ is. h.over (ended is);
+      verified = λ at mic. ⊎_map (λ one. one) (known_guest step.status s (h.done at)) (h.verified at mic);
+    }
+
+    stepped_guards : (turns past : List Turn) (stage : ServerStage (SspiContext N K)) (handle : Option CredentialsBuffers)
+        (token : Option (List ℕ)) (step : Step) (context : Option (SspiContext N K)) →
+        (any_over turns ≡ true → is_over_status step.status ≡ true) → GuardsIn past stage.context →
+        IfContext context (accept.Accepted (either r n k) p (server_at (either r n k) p first stage) handle token
+        (accept.known_at (either r n k) p step.status) (Ok step)) → GuardsIn turns context
+    stepped_guards turns past stage handle token step None ended h accepted = absurd accepted
+    stepped_guards turns past stage handle token step (Some m) ended h accepted =
+        map_on n k (Next n k tells (accept.known_at (either r n k) p step.status) (Ok step)) (Guards n k tells turns)
+        (step_guards turns step ended) m (accepts_next stage past handle token _ (Ok step) m h accepted)
+
+    less_over : (turns past : List Turn) → (any_over turns ≡ true → any_over past ≡ true) → (s : Negotiation (NegotiatedProtocol N K)) →
+        Guards n k tells past s → Guards n k tells turns s
+    less_over turns past less s g = record { needs = g.needs; over = λ is. g.over (less is); verified = g.verified }
+
+    begun_guards : (turns past : List Turn) (context : Option (SspiContext N K)) (had handle : Option CredentialsBuffers)
+        (m : SspiContext N K) → (any_over turns ≡ true → any_over past ≡ true) → (any_over past ≡ true → ⊥) → context ≡ None →
+        Begun (either r n k) context had (accept.server_setting p first) Inbound None handle m →
+        OnNegotiation n k (Guards n k tells turns) m
+    begun_guards turns past context had handle m less none is (goes_on at same) = absurd (cc (is, at))
+    begun_guards turns past context had handle m less none is (is_new m0 still made got) =
+        map_on n k (λ (s : Negotiation (NegotiatedProtocol N K)). s.state ≡ states.Initial) (Guards n k tells turns) (λ s at. record {
+          needs = λ begun. absurd (begun at);
+          over = λ over. absurd (none (less over));
+          verified = λ over. absurd (cc (at, over));
+        }) m (acquired_initial m0 m first.settings.mode _ handle made got)
+
+    rested : (turns past : List Turn) (stage next : ServerStage (SspiContext N K)) (x y : Option (SspiContext N K)) →
+        (any_over turns ≡ true → any_over past ≡ true) → GuardsIn past x →
+        UnlessMade (either r n k) x y
+        (Begun (either r n k) stage.context stage.handle (accept.server_setting p first) Inbound None next.handle) →
+        stage.context ≡ x → GuardsIn turns y
+    rested turns past stage next None None less h made is = λ over. h (less over)
+    rested turns past stage next None (Some m) less h made is =
+        begun_guards turns past stage.context stage.handle next.handle m less h is made
+    rested turns past stage next (Some m) None less h made is = absurd made
+    rested turns past stage next (Some m) (Some m2) less h made is =
+        cleared_on r q n k ln lk (Guards n k tells turns) (guards_of_like n k tells turns) m m2 made
+        (map_on n k (Guards n k tells past) (Guards n k tells turns) (less_over turns past less) m h)
+
+    module _ (end : ServerEnd (SspiContext N K)) where
+      abbrev ActsAt : Turn → List Turn → Type 0
+      ActsAt t past = ShowsServerActs (server_shown (server_frame_at end past t)) t
+
+      -- a turn without a step ends no authentication
+      rest_over : (t : Turn) (past : List Turn) → ActsAt t past → t.acts.negotiated ≡ false → any_over (t ∷ past) ≡ true →
+          any_over past ≡ true
+      rest_over t past acts bare is = elim (or_cases (is_replied t.outcome && is_over t.acts.status) (any_over past) is) [
+        | inl here ↦ absurd (false≢true (sym bare
+            ∙ acts.answered (some_status t.acts.status (and_parts (is_replied t.outcome) (is_over t.acts.status) here).1)))
+        | inr before ↦ before
+      ]
+
+      -- a step that ends it came to a status that says so, and its turn was not refused
+      step_over : (t : Turn) (past : List Turn) → ActsAt t past → t.acts.negotiated ≡ true → any_over (t ∷ past) ≡ true →
+          (is_replied t.outcome ≡ true) × (is_over t.acts.status ≡ true)
+      step_over t past acts step is = elim (or_cases (is_replied t.outcome && is_over t.acts.status) (any_over past) is) [
+        | inl here ↦ and_parts (is_replied t.outcome) (is_over t.acts.status) here
+        | inr before ↦ absurd (not_over past (acts.negotiated step) before)
+      ]
+
+      moved : (t : Turn) (past : List Turn) (stage next : ServerStage (SspiContext N K)) (negotiated : Bool)
+          (status : Option SecurityStatus) (came : Outcome) → ActsAt t past → t.acts.negotiated ≡ negotiated → t.acts.status ≡ status →
+          (t.acts.negotiated ≡ true → IsUnrefused came) → GuardsIn past stage.context →
+          ServerMovedBy (either r n k) p first negotiated status came t.delivered.nego_tokens t.output stage next →
+          GuardsIn (t ∷ past) next.context
+      moved t past stage next false status came acts is at un h by =
+          rested (t ∷ past) past stage next stage.context next.context (rest_over t past acts is) h by.context refl
+      moved t past stage next true (Some status) (outcome.Refused kind reply) acts is at un h by = absurd (un is)
+      moved t past stage next true (Some status) (outcome.Reply reply) acts is at un h by =
+          stepped_guards (t ∷ past) past stage next.handle t.delivered.nego_tokens (record { status = status; output = t.output })
+          next.context (λ over. over_some status (subst (λ (x : Option SecurityStatus). is_over x ≡ true) at
+          (step_over t past acts is over).1)) h by
+      moved t past stage next true (Some status) (outcome.Final reply) acts is at un h by =
+          stepped_guards (t ∷ past) past stage next.handle t.delivered.nego_tokens (record { status = status; output = t.output })
+          next.context (λ over. over_some status (subst (λ (x : Option SecurityStatus). is_over x ≡ true) at
+          (step_over t past acts is over).1)) h by
+      moved t past stage next true (Some status) outcome.Finished acts is at un h by =
+          stepped_guards (t ∷ past) past stage next.handle t.delivered.nego_tokens (record { status = status; output = t.output })
+          next.context (λ over. over_some status (subst (λ (x : Option SecurityStatus). is_over x ≡ true) at
+          (step_over t past acts is over).1)) h by
+      moved t past stage next true None (outcome.Refused kind reply) acts is at un h by = absurd (un is)
+      moved t past stage next true None (outcome.Reply reply) acts is at un h by = absurd by
+      moved t past stage next true None (outcome.Final reply) acts is at un h by = absurd by
+      moved t past stage next true None outcome.Finished acts is at un h by = absurd by
+
+      chain_guards : (turns : List Turn) (stage : ServerStage (SspiContext N K)) → first.context ≡ None → NoneRefused turns →
+          EachServerTurn (either r n k) end turns → ServerChain (either r n k) p first turns stage → GuardsIn turns stage.context
+      chain_guards [] stage none un each chain = subst (λ (o : Option (SspiContext N K)). GuardsIn [] o)
+          (sym (ap (λ (x : ServerStage (SspiContext N K)). x.context) chain ∙ none)) (λ is. false≢true is)
+      chain_guards (t ∷ past) stage none un each chain =
+          moved t past chain.0 stage t.acts.negotiated t.acts.status t.outcome each.0.shown.acts refl refl (λ step. un.0)
+          (chain_guards past chain.0 none un.1 each.1 chain.1) chain.2.moved
+
+      guards_claim : (turns : List Turn) (context : Option (SspiContext N K)) → any_over turns ≡ true → GuardsIn turns context →
+          HasVerifiedOrGuest n k tells context
+      guards_claim turns None over h = absurd (h over)
+      guards_claim turns (Some (contexts.Negotiate s)) over h = λ mic. ⊎_map (λ one. one.one) (λ guest. guest)
+          (h.verified (h.over over) mic)
+      guards_claim turns (Some (contexts.Ntlm m)) over h = tt
+      guards_claim turns (Some (contexts.Kerberos m)) over h = tt
+
+      -- also where the newest turn was refused
+      pub left_claims : (turns : List Turn) (stage : ServerStage (SspiContext N K)) → first.context ≡ None → OthersUnrefused turns →
+          EachServerTurn (either r n k) end turns → ServerChain (either r n k) p first turns stage → any_over turns ≡ true →
+          HasVerifiedOrGuest n k tells stage.context
+      left_claims [] stage none un each chain over = absurd (false≢true over)
+      left_claims (t ∷ past) stage none un each chain over = guards_claim (t ∷ past) stage.context over
+          (moved t past chain.0 stage t.acts.negotiated t.acts.status t.outcome each.0.shown.acts refl refl
+          (λ step. replied_unrefused t.outcome (step_over t past each.0.shown.acts step over).0)
+          (chain_guards past chain.0 none un each.1 chain.1) chain.2.moved)
