@@ -15,7 +15,8 @@ pub struct Call {
 pub enum Served {
     /// The bytes of the server's message for its client.
     Answer(Bytes),
-    /// The credentials that the client delegated. The session is kept until it is closed.
+    /// The credentials that the client delegated, which need not be those that it authenticated with. The session is kept until it
+    /// is closed.
     Finished(AuthIdentity),
 }
 

@@ -9,7 +9,10 @@ pub enum PolicyError {
     InsufficientMemory,
 }
 
-/// Which of the users that a server knows by their credentials may log on.
+/// Which users may log on, by the names in the credentials that a client delegated.
+///
+/// Neither the password in them nor that their name is the one that was authenticated has been checked: a client may delegate any
+/// credentials. Who lets a user in by them must log that user on with them.
 ///
 /// The count of faults never falls. A call that answers `Failed` has raised it, but for one that found it as high as it goes. A
 /// policy may tell the names of those who may log on: then its decisions are by them, and no call changes them.
