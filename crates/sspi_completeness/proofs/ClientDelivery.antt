@@ -66,7 +66,8 @@ module _ {C D : Type 0} (c : Meaning ContextSetting C) (k : KdcCalls D) where
 
     never_replies : (mid : View) (kdc2 : D) (r : TsRequest) → ClientMakes c k old kdc d (outcome.Reply r) mid kdc2 → ⊥
     never_replies mid kdc2 r makes =
-        let nego = reply_nego (client_frame c old mid) (client_turn c d (outcome.Reply r) mid) mid.acts.status r makes.turn.turn.shown.reply in
+        let nego = reply_nego (client_frame c old mid) (client_turn c d (outcome.Reply r) mid) mid.acts.status r
+        makes.turn.turn.shown.reply in
         let auth = given.is.state_is in cc
 
     counts_on : (mid : View) → CountsEachAct c old.state old.context mid.acts mid.context → AddsActs c old.context mid.acts mid.context

@@ -201,7 +201,7 @@ impl<N: Mechanism, K: Mechanism> SspiContext<N, K> {
         })
     }
 
-    /// Tells a server which identity its peer may have. `IncompleteCredentials` exactly for a keytab with NTLM in hand, also
+    /// Tells a server which identity its peer may have. `IncompleteCredentials` for a keytab with NTLM in hand, also
     /// where it was negotiated; else as `custom_set_auth_identities` of this one. Refused, the context is as it was.
     pub fn custom_set_auth_identity(&mut self, identity: Credentials) -> Result<(), Error>
         // What `Ok` holds, and that the counts stay.

@@ -50,7 +50,7 @@ impl<N: Mechanism, K: Mechanism> SspiContext<N, K> {
         }
     }
 
-    /// The entry of the mechanism that a negotiation has in hand. `UnsupportedFunction` exactly where nothing is negotiated.
+    /// The entry of the mechanism that a negotiation has in hand. `UnsupportedFunction` where nothing is negotiated.
     pub fn query_context_negotiation_package(&self) -> Result<PackageInfo, Error>
         ensures entry { IfOk result (λ info. negotiated_entry N.meaning K.meaning self.now ≡ Some info) }
         ensures none { negotiated_entry N.meaning K.meaning self.now ≡ None → result ≡ Err unsupported }

@@ -167,7 +167,8 @@ impl<N: Mechanism, K: Mechanism, C: CredentialsProxy> CredSspServer<N, K, C> {
     /// Refused, in this order: `InternalError` where the proxy's list failed; with the kinds of a new context;
     /// `DowngradeDetected` where no version of the client is noted yet and this one is below the least, which then is not
     /// noted; `MessageAltered` where the client changes its version; then by the state. In the authentication with the kinds of
-    /// the context's step, `LogonDenied` where the look-up of the peer failed, `NoCredentials` where it found nobody,
+    /// the context's step, of naming its peer, of taking the identities that were found (as `LogonDenied` for a wrong password)
+    /// and of completing, `LogonDenied` where the look-up of the peer failed, `NoCredentials` where it found nobody,
     /// `InvalidToken` where it ended with neither a token nor a proof, `InternalError` at another status. With a proof
     /// `InvalidToken` where it is absent, where from version 5 on the nonce is, or where it has under 16 bytes; with the kinds
     /// of opening it; `MessageAltered` where it is not the right one; with the kinds of sealing the own one. With the

@@ -35,8 +35,8 @@ impl<T: Drop> From<AllocFailed<T>> for LinkError {
 /// What carries the messages of an exchange, and keeps a log of them.
 ///
 /// A call that answers `Failed` counts one fault, up to the last value of the count, and no other answer counts any: so the count
-/// shows a caller that tries a failed call again. A link that tells its edits delivers what they give, and fails exactly where
-/// they say so.
+/// shows a caller that tries a failed call again. A link that tells its edits delivers what they give, fails only where they say
+/// so, and carries nothing there.
 pub trait Link: Drop {
     ghost use Rattle.std.specs.Prelude.{◌≡◌, [], ◌∷◌, ℕ, List, Option, OnOk, OnErr};
     ghost use Rattle.sspi_delegate.specs.declared.carried.Carried.{Carried};

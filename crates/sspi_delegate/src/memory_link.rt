@@ -11,8 +11,8 @@ use std::marker::Model;
 
 /// A link in memory: it delivers what was sent, but for its edits, and it fails only where one of them says so.
 ///
-/// Where several edits name one entry, the first changes what was sent, and each further one the result so far. To carry a message
-/// takes time linear in the message, in the number of all edits and in the bytes that this entry's edits add or give.
+/// Where several edits name one entry, the first changes what was sent, and each further one the result so far. What no clause says:
+/// to carry a message takes time linear in it, in the number of all edits and in the bytes that this entry's edits add or give.
 #[derive(Drop)]
 pub struct MemoryLink {
     alloc: Global,

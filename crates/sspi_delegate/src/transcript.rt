@@ -37,7 +37,7 @@ impl Transcript {
         }
     }
 
-    /// Lets go of all turns. Their room stays; takes no memory.
+    /// Lets go of all turns. What no clause says: their room stays.
     pub fn clear(&mut self)
         ensures { self.new.turns ≡ [] }
     {

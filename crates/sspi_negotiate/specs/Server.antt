@@ -89,7 +89,7 @@ at_initial (Some token) v args = reads_list token.mech_types token.mech_token v 
 
 -- ---- InProgress
 
--- Beside accept-complete a MIC may be missing. A guest needs none, and the need goes once the negotiation is over.
+-- Beside accept-completed a MIC may be missing. A guest needs none, and the need goes once the negotiation is over.
 abbrev pub excuses : Values → List ℕ → Name → Plan
 excuses v token name = if is_guest_text (inner_of name) then completes v token false else Stops v InvalidToken
 
