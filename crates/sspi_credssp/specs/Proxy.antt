@@ -87,7 +87,8 @@ LookUpCause before now (Err InsufficientMemory) = before ≤ now
 abbrev pub fails_at : List ℕ → ℕ → Bool
 fails_at numbers call = list_any (λ n. n == call) numbers
 
--- where the failing calls are told: a call fails exactly where they say so, and the count of faults rises nowhere else
+-- where the failing calls are told: a call fails only where they say so and answers nowhere there; the count of faults rises nowhere
+-- else
 abbrev pub FailsAsTold : {X : Type 0} → Option (List ℕ) → ℕ → ℕ → ℕ → Result X ProxyError → Type 0
 FailsAsTold None call before now answer = Unit {0}
 FailsAsTold (Some numbers) call before now (Ok x) = (fails_at numbers call ≡ false) × (now ≡ before)

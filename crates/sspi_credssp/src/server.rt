@@ -167,13 +167,13 @@ impl<N: Mechanism, K: Mechanism, C: CredentialsProxy> CredSspServer<N, K, C> {
     /// Refused, in this order: `InternalError` where the proxy's list failed; with the kinds of a new context;
     /// `DowngradeDetected` where no version of the client is noted yet and this one is below the least, which then is not
     /// noted; `MessageAltered` where the client changes its version; then by the state. In the authentication with the kinds of
-    /// the context's step, of naming its peer, of taking the identities that were found (as `LogonDenied` for a wrong password)
-    /// and of completing, `LogonDenied` where the look-up of the peer failed, `NoCredentials` where it found nobody,
-    /// `InvalidToken` where it ended with neither a token nor a proof, `InternalError` at another status. With a proof
-    /// `InvalidToken` where it is absent, where from version 5 on the nonce is, or where it has under 16 bytes; with the kinds
-    /// of opening it; `MessageAltered` where it is not the right one; with the kinds of sealing the own one. With the
-    /// credentials `InvalidToken` where they are absent or have under 16 bytes, then the kinds of opening and of reading them.
-    /// `UnsupportedFunction` once they were read. Want of memory may come in place of any of these but the two of the version,
+    /// the context's step; `InternalError` at a status that neither goes on nor ends it; with the kinds of naming its peer;
+    /// `LogonDenied` where the look-up failed, `NoCredentials` where it found nobody; with the kinds of taking the identities
+    /// that were found, as `LogonDenied` for a wrong password, and of completing; `InvalidToken` where it ended with neither a
+    /// token nor a proof. With a proof `InvalidToken` where it is absent, where from version 5 on the nonce is, or where it has
+    /// under 16 bytes; with the kinds of opening it; `MessageAltered` where it is not the right one; with the kinds of sealing
+    /// the own one. With the credentials `InvalidToken` where they are absent or have under 16 bytes, then the kinds of opening
+    /// and of reading them. `UnsupportedFunction` once they were read. Want of memory may come in place of any of these but the two of the version,
     /// of a server that has its context.
     ///
     /// A refusal hands the request back with its code. The state, the mode and what was acquired before stay, and a context

@@ -93,7 +93,7 @@ abbrev pub IsWithin : Option ℕ → Result ℕ LinkError → Type 0
 IsWithin None result = Unit {0}
 IsWithin (Some most) result = IfOk result (λ n. n ≤ most)
 
--- where the edits give this, `carry` fails exactly where they give nothing, and then alone a fault is counted: one
+-- where the edits give this, `carry` fails only where they give nothing, is Ok nowhere there, and counts a fault then alone: one
 abbrev pub CarriesEdited : Option (List ℕ) → ℕ → ℕ → Result (Unit {0}) LinkError → Type 0
 CarriesEdited None before now (Ok done) = ⊥
 CarriesEdited None before now (Err Failed) = Counts before now

@@ -86,7 +86,7 @@ fn round<N: Mechanism, K: Mechanism, C: CredentialsProxy>(
     let message = message_of(client, delivered)?;
     match server.process(carried(alloc, &message)?) {
         Ok(state) => Ok(state),
-        // `refusal.ts_request` is for the client, which refuses with its code as status
+        // `refusal.ts_request` is for the client, whose refusal has its code, if any, as status
         Err(refusal) => Err(refusal.error),
     }
 }

@@ -4,7 +4,7 @@
 -- A server that verified a MIC of the client has the mechanism in hand that it picks, by its own configuration, of the list that
 -- the client offered; and a client that verified a MIC of the server keeps the list that the server read. A client that proved its
 -- key, or sealed its credentials, has verified one. A server that proved its own, or opened credentials, has too, if the mechanism in
--- hand is NTLM or is not the one that the list begins with. Both are so but for a guest, and rest on no premise.
+-- hand is NTLM or is not the one that the list that it read begins with. Both negotiate, but for a guest, and rest on no premise.
 use Rattle.std.specs.Prelude.{◌≡◌, ◌≢◌, ◌≤◌, ◌⊎◌, ℕ, List, [], ◌∷◌, map, option_map}
 use Rattle.std.specs.Prelude.{Option, None, Some, IsSome, Result, Ok, Err, true, false}
 use Rattle.sspi_types.specs.declared.error_kind.ErrorKind.{ErrorKind}
@@ -117,13 +117,14 @@ abbrev pub first_of : List (List ℕ) → Option Protocol
 first_of [] = None
 first_of (oid ∷ oids) = protocol_of_kind (kind_of oid)
 
--- a server with this mechanism in hand needs MICs over the list: with NTLM, and with any that the list does not begin with
+-- Where a server with this mechanism in hand needs MICs over the list: with NTLM, and with any that the list does not begin with, both
+-- identifiers of Kerberos being one. It needs them in other cases too, as user to user, of which nothing is said here.
 abbrev pub NeedsMic : Protocol → List (List ℕ) → Type 0
 NeedsMic protocol list = (protocol ≡ Ntlm) ⊎ (first_of list ≢ Some protocol)
 
 module _ {N K : Type 0} (n : Meaning Setting N) (k : Meaning Setting K) where
-  -- The mechanism named its peer as a guest, of whom a server needs no MIC, and took the identities that the proxy found under that
-  -- name; since then it has but counted messages.
+  -- The mechanism, but for its counts, is what one that named its peer a guest, of whom a server needs no MIC, became when it took
+  -- identities that a look-up of that name found. That the play came by that moment is not said.
   pub record TookGuest (tells : ProxyTells) (mech : NegotiatedProtocol N K) : Type 0 where
     pub before : NegotiatedProtocol N K
     pub taken : NegotiatedProtocol N K
