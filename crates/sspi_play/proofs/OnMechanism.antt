@@ -128,7 +128,7 @@ module _ {N K : Type 0} (r q : ℕ) (n : Meaning Setting N) (k : Meaning Setting
     pub verifies_first : (schedule : List Delivery) (old new : Both (SspiContext N K) P D) (result : Result Played DelegateError) →
         IsFreshClient old.client → IsFreshServer old.server → IsPlay (either r n k) p kdcs old result new →
         Accounts (either r n k) p kdcs schedule old result new →
-        VerifiesFirst r n k (p.told old.server.proxy) new.client (server_end new.server) new.turns
+        VerifiesFirst r n k p new.client old.server (server_end new.server) new.turns
     verifies_first schedule old new result client_fresh server_fresh play accounts =
         let law = lawful r q n k ln lk in
         let claims : Claims r q n k ln lk kdcs old.client (client_end new.client) (client_turns new.turns)
@@ -139,7 +139,7 @@ module _ {N K : Type 0} (r q : ℕ) (n : Meaning Setting N) (k : Meaning Setting
         (Err errors.InsufficientMemory) play.client_ran.others
         (played_left (either r n k) kdcs result old.client new.client old.kdc new.kdc (client_turns new.turns)
         accounts.client_turns_are_its_calls)) in
-        let server_claims = server_left_claims r q n k ln lk (p.told old.server.proxy) p old.server refl (server_end new.server)
+        let server_claims = server_left_claims r q n k ln lk p old.server (server_end new.server)
         (server_turns new.turns) (server_stage new.server) server_fresh.context play.server_ran.others play.server_ran.each
         play.the_server_has_the_context_of_its_chain in
         record {

@@ -30,13 +30,9 @@ module _ {N K : Type 0} (n : Meaning Setting N) (k : Meaning Setting K) where
   map_on Q R map (contexts.Ntlm m) h = tt
   map_on Q R map (contexts.Kerberos m) h = tt
 
-  -- the same mechanism with other counts
-  abbrev pub IsCountedOf : NegotiatedProtocol N K → NegotiatedProtocol N K → Type 0
-  IsCountedOf mech mech2 = (i : Counts) × (mech2 ≡ (hand n k).counted mech i)
-
-  -- the same mechanism with other counts, which verified as many MICs
+  -- the same mechanism but for what it sealed and opened
   pub record IsLike (mech mech2 : NegotiatedProtocol N K) : Type 0 where
-    pub counted : (first : NegotiatedProtocol N K) → IsCountedOf first mech → IsCountedOf first mech2
+    pub cleared : (hand n k).counted mech2 (silent ((hand n k).counts mech2)) ≡ (hand n k).counted mech (silent ((hand n k).counts mech))
     pub protocol : hand_of mech2 ≡ hand_of mech
     pub verifications : ((hand n k).counts mech2).verifications ≡ ((hand n k).counts mech).verifications
     pub names : (hand n k).names mech2 ≡ (hand n k).names mech
@@ -51,11 +47,9 @@ module _ {N K : Type 0} (r q : ℕ) (n : Meaning Setting N) (k : Meaning Setting
   pub counted_on : (Q : Negotiation (NegotiatedProtocol N K) → Type 0) → IsOfLike n k Q → (m : SspiContext N K) (i : Counts) →
       silent i ≡ silent ((either r n k).counts m) → OnNegotiation n k Q m → OnNegotiation n k Q ((either r n k).counted m i)
   counted_on Q of_like (contexts.Negotiate s) i same h = of_like s ((hand n k).counted s.mech i) (record {
-    counted = λ first is. (
-      i,
-      ap (λ (x : NegotiatedProtocol N K). (hand n k).counted x i) is.1
-          ∙ (hand_lawful r q n k ln lk).counted_counted first is.0 i,
-    );
+    cleared = (hand_lawful r q n k ln lk).counted_counted s.mech i _
+        ∙ ap (λ (x : Counts). (hand n k).counted s.mech (silent x)) ((hand_keeps r q n k ln lk).counted s.mech i)
+        ∙ ap (λ (x : Counts). (hand n k).counted s.mech x) same;
     protocol = counted_hand n k s.mech i;
     verifications = ap (λ (x : Counts). x.verifications) ((hand_keeps r q n k ln lk).counted s.mech i)
         ∙ ap (λ (x : Counts). x.verifications) same;

@@ -4,14 +4,16 @@
 -- A server that verified a MIC of the client has the mechanism in hand that it picks, by its own configuration, of the list that
 -- the client offered; and a client that verified a MIC of the server keeps the list that the server read. A client that proved its
 -- key, or sealed its credentials, has verified one. A server that proved its own, or opened credentials, has too, if the mechanism in
--- hand is NTLM or is not the one that the list that it read begins with. Both negotiate, but for a guest, and rest on no premise.
+-- hand is NTLM or is not the one that the list that it read begins with. That is so of ends that negotiate, but for a guest, and rests
+-- on no premise.
 use Rattle.std.specs.Prelude.{◌≡◌, ◌≢◌, ◌≤◌, ◌⊎◌, ℕ, List, [], ◌∷◌, map, option_map}
 use Rattle.std.specs.Prelude.{Option, None, Some, IsSome, Result, Ok, Err, true, false}
 use Rattle.sspi_types.specs.declared.error_kind.ErrorKind.{ErrorKind}
 use Rattle.sspi_names.specs.declared.credentials.Credentials.TheVariants as credentials
+use Rattle.sspi_names.specs.declared.credentials.CredentialsBuffers.{CredentialsBuffers}
 use Rattle.sspi_names.specs.declared.identity.AuthIdentity.{AuthIdentity}
 use Rattle.sspi_names.specs.Name.{Name, inner_of}
-use Rattle.sspi_mech.specs.Calls.{Counts}
+use Rattle.sspi_mech.specs.declared.step.Step.{Step}
 use Rattle.sspi_mech.specs.Meaning.{Meaning}
 use Rattle.sspi_mech.specs.Settings.{Setting}
 use Rattle.sspi_tokens.specs.declared.neg_token_init.NegTokenInit.{NegTokenInit}
@@ -22,7 +24,6 @@ use Rattle.sspi_negotiate.specs.declared.negotiate_config.NegotiateConfig.{Negot
 use Rattle.sspi_negotiate.specs.declared.pick.Choice.{Choice}
 use Rattle.sspi_negotiate.specs.declared.pick.Choice.TheVariants as choices
 use Rattle.sspi_negotiate.specs.declared.pick.Picked.{Picked}
-use Rattle.sspi_negotiate.specs.declared.protocol.NegotiatedProtocol.{NegotiatedProtocol}
 use Rattle.sspi_negotiate.specs.declared.protocol.Protocol.{Protocol}
 use Rattle.sspi_negotiate.specs.declared.protocol.Protocol.TheVariants.{Kerberos, Ntlm}
 use Rattle.sspi_negotiate.specs.declared.protocol_config.ProtocolConfig.TheVariants as configs
@@ -38,10 +39,13 @@ use Rattle.sspi_credssp.specs.declared.context.SspiContext.TheVariants as contex
 use Rattle.sspi_credssp.specs.declared.mode.ServerMode.{ServerMode}
 use Rattle.sspi_credssp.specs.declared.mode.ServerMode.TheVariants as modes
 use Rattle.sspi_credssp.specs.declared.turn.Turn.{Turn}
+use Rattle.sspi_credssp.specs.Acts.{SameBut}
 use Rattle.sspi_credssp.specs.Context.{either}
-use Rattle.sspi_credssp.specs.Ends.{ClientView}
-use Rattle.sspi_credssp.specs.Proxy.{ProxyTells, AreFound}
+use Rattle.sspi_credssp.specs.Ends.{ClientView, ServerView}
+use Rattle.sspi_credssp.specs.Proxy.{ProxyMeaning, AreFound}
 use Rattle.sspi_credssp.specs.Requests.{token_of}
+use Rattle.sspi_credssp.specs.ServerTurn.{Accepted, Unknown}
+use Rattle.sspi_delegate.specs.Chain.{ServerStage, ServerChain, server_at}
 use Rattle.sspi_delegate.specs.Turns.{ClientEnd, ServerEnd}
 use Rattle.sspi_delegate.specs.Turns.{client_turns, server_turns, IsUnrefused}
 use Rattle.sspi_play.specs.Agreement.{TurnOf}
@@ -122,29 +126,41 @@ first_of (oid ∷ oids) = protocol_of_kind (kind_of oid)
 abbrev pub NeedsMic : Protocol → List (List ℕ) → Type 0
 NeedsMic protocol list = (protocol ≡ Ntlm) ⊎ (first_of list ≢ Some protocol)
 
-module _ {N K : Type 0} (n : Meaning Setting N) (k : Meaning Setting K) where
-  -- The mechanism, but for its counts, is what one that named its peer a guest, of whom a server needs no MIC, became when it took
-  -- identities that a look-up of that name found. That the play came by that moment is not said.
-  pub record TookGuest (tells : ProxyTells) (mech : NegotiatedProtocol N K) : Type 0 where
-    pub before : NegotiatedProtocol N K
-    pub taken : NegotiatedProtocol N K
+-- the server is `first` as it was made
+module _ {N K P : Type 0} (requests : ℕ) (n : Meaning Setting N) (k : Meaning Setting K) (p : ProxyMeaning P)
+    (first : ServerView (SspiContext N K) P) where
+  -- A step of the context of this stage named the peer as a guest, of whom a server needs no MIC, and the context took the identities
+  -- that the proxy found by that name. But for what it sealed and opened it is now what that left.
+  pub record TookGuestAt (stage : ServerStage (SspiContext N K)) (token : Option (List ℕ)) (context : Option (SspiContext N K)) :
+      Type 0 where
+    pub handle : Option CredentialsBuffers
+    pub step : Step
+    pub before : SspiContext N K
+    pub stepped : Accepted (either requests n k) p (server_at (either requests n k) p first stage) handle token Unknown (Ok step) before
     pub name : Name
-    pub identities : List AuthIdentity
-    pub named : (hand n k).names before ≡ Some name
+    pub named : (either requests n k).names before ≡ Some name
     pub is_guest : is_guest_text (inner_of name) ≡ true
-    pub found : AreFound tells name identities
+    pub identities : List AuthIdentity
+    pub found : AreFound (p.told first.proxy) name identities
     pub some : identities ≢ []
-    pub peer : (hand n k).identifies before (map credentials.AuthIdentity identities) taken
-    pub counts : Counts
-    pub left : mech ≡ (hand n k).counted taken counts
+    pub taken : SspiContext N K
+    pub peer : (either requests n k).identifies before (map credentials.AuthIdentity identities) taken
+    pub left : SameBut (either requests n k) (Some taken) context
+
+  -- that was the step of one of these turns, at the stage to which those before it had led
+  pub record TookGuest (turns : List Turn) (context : Option (SspiContext N K)) : Type 0 where
+    pub at : TurnOf turns
+    pub stage : ServerStage (SspiContext N K)
+    pub came : ServerChain (either requests n k) p first at.before stage
+    pub took : TookGuestAt stage at.turn.delivered.nego_tokens context
 
   -- a server that negotiates, and whose mechanism needs MICs, has verified one, unless its peer is a guest
-  abbrev pub HasVerifiedOrGuest : ProxyTells → Option (SspiContext N K) → Type 0
-  HasVerifiedOrGuest tells None = ⊥
-  HasVerifiedOrGuest tells (Some (contexts.Negotiate s)) = NeedsMic (hand_of s.mech) s.list →
-      (1 ≤ ((hand n k).counts s.mech).verifications) ⊎ TookGuest tells s.mech
-  HasVerifiedOrGuest tells (Some (contexts.Ntlm m)) = Unit {0}
-  HasVerifiedOrGuest tells (Some (contexts.Kerberos m)) = Unit {0}
+  abbrev pub HasVerifiedOrGuest : List Turn → Option (SspiContext N K) → Type 0
+  HasVerifiedOrGuest turns None = ⊥
+  HasVerifiedOrGuest turns (Some (contexts.Negotiate s)) = NeedsMic (hand_of s.mech) s.list →
+      (1 ≤ ((hand n k).counts s.mech).verifications) ⊎ TookGuest turns (Some (contexts.Negotiate s))
+  HasVerifiedOrGuest turns (Some (contexts.Ntlm m)) = Unit {0}
+  HasVerifiedOrGuest turns (Some (contexts.Kerberos m)) = Unit {0}
 
 module _ {N K : Type 0} (requests : ℕ) (n : Meaning Setting N) (k : Meaning Setting K) where
   -- a client that negotiates has verified a MIC of its peer, unless its user is a guest, for whom NTLM may be chosen without one
@@ -152,16 +168,17 @@ module _ {N K : Type 0} (requests : ℕ) (n : Meaning Setting N) (k : Meaning Se
   HasVerified client = IsSome (in_hand client.context) → is_guest client.handle ≡ false →
       1 ≤ verifications_in (either requests n k) client.context
 
+module _ {N K P : Type 0} (requests : ℕ) (n : Meaning Setting N) (k : Meaning Setting K) (p : ProxyMeaning P) where
   -- A client that proved its key has, and so has one that sealed its credentials; and a server that answered with its own proof, or
-  -- opened credentials. No turn behind a proof takes a step, so that was before it.
-  pub record VerifiesFirst (tells : ProxyTells) (client : ClientView (SspiContext N K)) (server : ServerEnd (SspiContext N K))
-      (turns : List Turn) : Type 0 where
-    pub a_client_that_proved : (at : TurnOf (client_turns turns)) → at.turn.acts.proved ≡ true → HasVerified client
-    pub a_client_that_sealed : (at : TurnOf (client_turns turns)) → at.turn.acts.sealed ≡ true → HasVerified client
+  -- opened credentials. No turn behind the one of a proof takes a step, so it had then.
+  pub record VerifiesFirst (client : ClientView (SspiContext N K)) (first : ServerView (SspiContext N K) P)
+      (server : ServerEnd (SspiContext N K)) (turns : List Turn) : Type 0 where
+    pub a_client_that_proved : (at : TurnOf (client_turns turns)) → at.turn.acts.proved ≡ true → HasVerified requests n k client
+    pub a_client_that_sealed : (at : TurnOf (client_turns turns)) → at.turn.acts.sealed ≡ true → HasVerified requests n k client
     pub a_server_that_proved : (at : TurnOf (server_turns turns)) → at.turn.acts.proved ≡ true → IsUnrefused at.turn.outcome →
-        HasVerifiedOrGuest n k tells server.context
+        HasVerifiedOrGuest requests n k p first (server_turns turns) server.context
     pub a_server_that_opened : (at : TurnOf (server_turns turns)) → at.turn.acts.opened ≡ true →
-        HasVerifiedOrGuest n k tells server.context
+        HasVerifiedOrGuest requests n k p first (server_turns turns) server.context
 
 -- ---- what both agree on
 

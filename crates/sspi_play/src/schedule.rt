@@ -52,8 +52,8 @@ pub fn play<N: Mechanism, K: Mechanism, C: CredentialsProxy, D: Kdc>(
         AgreesIfFaithful (client_end client.new) (server_end server.new) transcript.new.turns (identity_of result) }
     ensures negotiates { IsFresh client.old server.old → NegotiatesIfFaithful N.REQUESTS N.meaning K.meaning
         (client_end client.new) (server_end server.new) server.old.settings.mode transcript.new.turns }
-    ensures verifies { IsFresh client.old server.old → VerifiesFirst N.REQUESTS N.meaning K.meaning
-        (C.meaning.told server.old.proxy) client.new (server_end server.new) transcript.new.turns }
+    ensures verifies { IsFresh client.old server.old → VerifiesFirst N.REQUESTS N.meaning K.meaning C.meaning
+        client.new server.old (server_end server.new) transcript.new.turns }
     // What stays.
     ensures kdc { KdcStays D.told D.faults kdc.old kdc.new }
     ensures proxy { ProxyStays C.meaning server.old.proxy server.new.proxy }
