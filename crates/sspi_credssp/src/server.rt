@@ -173,8 +173,8 @@ impl<N: Mechanism, K: Mechanism, C: CredentialsProxy> CredSspServer<N, K, C> {
     /// token nor a proof. With a proof `InvalidToken` where it is absent, where from version 5 on the nonce is, or where it has
     /// under 16 bytes; with the kinds of opening it; `MessageAltered` where it is not the right one; with the kinds of sealing
     /// the own one. With the credentials `InvalidToken` where they are absent or have under 16 bytes, then the kinds of opening
-    /// and of reading them. `UnsupportedFunction` once they were read. Want of memory may come in place of any of these but the two of the version,
-    /// of a server that has its context.
+    /// and of reading them. `UnsupportedFunction` once they were read. Want of memory may come in place of any of these but the
+    /// two of the version, of a server that has its context.
     ///
     /// A refusal hands the request back with its code. The state, the mode and what was acquired before stay, and a context
     /// that this call made stays with its credentials.
