@@ -7,6 +7,7 @@ use Rattle.sspi_names.specs.declared.network.NetworkRequest.{NetworkRequest}
 use Rattle.sspi_mech.specs.declared.step.Reply.{Reply}
 use Rattle.sspi_mech.specs.Context.{IsContext}
 use Rattle.sspi_mech.specs.Kerberos.{kerberos_meaning}
+use Rattle.sspi_tsreq.specs.declared.request.TsRequest.{TsRequest}
 use Rattle.sspi_negotiate.specs.declared.pick.Choice.{Choice}
 use Rattle.sspi_negotiate.specs.declared.pick.Choice.TheVariants as choices
 use Rattle.sspi_negotiate.specs.declared.protocol.Protocol.{Protocol}
@@ -161,17 +162,17 @@ module _ {D P : Type 0} (told : D → Option (ℕ → NetworkRequest → Reply))
   known_by (client_mode.Ntlm config) (server_mode.Negotiate config2) client_is server_is never = absurd never
   known_by (client_mode.Negotiate config) (server_mode.Ntlm config2) client_is server_is never = absurd never
 
-  pub settled_plainly : (kdc2 : D) (base : List Carried) (start now limit : ℕ) (x : ClientView C) (y : ServerView C P)
-      (edits edits2 : Option (List Edit))
+  pub settled_plainly : (due : TsRequest → Type 0) (kdc2 : D) (base : List Carried) (start now limit : ℕ) (x : ClientView C)
+      (y : ServerView C P) (edits edits2 : Option (List Edit))
       (result : Result Delegation DelegateError) (turns : List Turn) (log : List Carried) → IsUndisturbed edits base log start now →
       RunEnds base start limit result turns log now → StaysTold edits edits2 base log →
       AnswerTold edits start now result log turns →
-      ClientPast c (kdc_calls told calls faults) a kdc result (client_turns turns) x kdc2 → ServerHistory c p b (server_turns turns) y →
+      ClientPast c (kdc_calls told calls faults) due a kdc result (client_turns turns) x kdc2 → ServerHistory c p b (server_turns turns) y →
       IsCalm (p.faults b.proxy) (p.faults y.proxy) →
       IfOk result (λ delegation. GivesNewest c (server_end y) (server_turns turns) delegation.credentials) →
       Settled (messages_in matching) limit given result
-  settled_plainly kdc2 base start now limit x y edits edits2 result turns log undisturbed ends stays still clients servers calm gives =
+  settled_plainly due kdc2 base start now limit x y edits edits2 result turns log undisturbed ends stays still clients servers calm gives =
       let it = known_by a.settings.mode b.settings.mode refl refl matching.modes in
       subst (λ (n : ℕ). Settled n limit given result) it.2
-      (settled c (kdc_calls told calls faults) p a b kdc it.0 given it.1 base start now limit x kdc2 y edits edits2 result turns log
+      (settled c (kdc_calls told calls faults) p a b kdc it.0 given it.1 due base start now limit x kdc2 y edits edits2 result turns log
       undisturbed ends stays still clients servers calm gives)

@@ -274,39 +274,39 @@ module _ {C D P : Type 0} (c : Meaning ContextSetting C) (k : KdcCalls D) (p : P
         known.rank_within i in omega (arith, within, count, limit_is)
     spent turns (server_next i client server next count sent) here limit_is = absurd (wrong_end (next_end turns) here next)
 
-    settled_by : (result : Result Delegation DelegateError) (turns : List Turn) (log : List Carried) →
+    settled_by : (due : TsRequest → Type 0) (result : Result Delegation DelegateError) (turns : List Turn) (log : List Carried) →
         RunEnds base start limit result turns log now → AreWholePast (length base) log →
-        NoLinkFault result → ClientPast c k a kdc_first result (client_turns turns) x kdc → ServerHistory c p b (server_turns turns) y →
+        NoLinkFault result → ClientPast c k due a kdc_first result (client_turns turns) x kdc → ServerHistory c p b (server_turns turns) y →
         IfOk result (λ delegation. GivesNewest c (server_end y) (server_turns turns) delegation.credentials) →
         Settled (suc last) limit identity result
-    settled_by (Ok delegation) turns log ends whole still clients servers gives =
+    settled_by due (Ok delegation) turns log ends whole still clients servers gives =
         settle_ok delegation turns log ends whole clients servers gives
-    settled_by (Err (errors.Client error)) turns log ends whole still clients servers gives =
+    settled_by due (Err (errors.Client error)) turns log ends whole still clients servers gives =
         settle_client error turns log ends.order ends.cause whole
         (client_stopped_history c k a x kdc_first kdc error (client_turns turns) clients) servers
-    settled_by (Err (errors.Server error)) turns log ends whole still clients servers gives =
+    settled_by due (Err (errors.Server error)) turns log ends whole still clients servers gives =
         settle_server error turns log ends.order ends.cause whole clients servers
-    settled_by (Err (errors.Read to kind)) turns log ends whole still clients servers gives =
+    settled_by due (Err (errors.Read to kind)) turns log ends whole still clients servers gives =
         settle_read to kind turns log ends.order ends.cause whole clients servers
-    settled_by (Err (errors.Write from)) turns log ends whole still clients servers gives =
+    settled_by due (Err (errors.Write from)) turns log ends whole still clients servers gives =
         settle_write from turns log ends.order ends.cause whole clients servers
-    settled_by (Err errors.LinkFault) turns log ends whole still clients servers gives = still
-    settled_by (Err errors.TurnsSpent) turns log ends whole still clients servers gives =
+    settled_by due (Err errors.LinkFault) turns log ends whole still clients servers gives = still
+    settled_by due (Err errors.TurnsSpent) turns log ends whole still clients servers gives =
         spent turns (stands c k p a b kdc_first last identity known base turns log x kdc y ends.order ends.cause.0 ends.cause.3 whole
         clients servers calm)
         ends.cause.1 ends.cause.2
-    settled_by (Err errors.InsufficientMemory) turns log ends whole still clients servers gives = tt
+    settled_by due (Err errors.InsufficientMemory) turns log ends whole still clients servers gives = tt
 
   -- the ends of an undisturbed exchange come to what is known of them
-  pub settled : (base : List Carried) (start now limit : ℕ) (x : CView) (kdc : D) (y : SView) (edits edits2 : Option (List Edit))
-      (result : Result Delegation DelegateError)
+  pub settled : (due : TsRequest → Type 0) (base : List Carried) (start now limit : ℕ) (x : CView) (kdc : D) (y : SView)
+      (edits edits2 : Option (List Edit)) (result : Result Delegation DelegateError)
       (turns : List Turn) (log : List Carried) → IsUndisturbed edits base log start now → RunEnds base start limit result turns log now →
       StaysTold edits edits2 base log →
-      AnswerTold edits start now result log turns → ClientPast c k a kdc_first result (client_turns turns) x kdc →
+      AnswerTold edits start now result log turns → ClientPast c k due a kdc_first result (client_turns turns) x kdc →
       ServerHistory c p b (server_turns turns) y → IsCalm (p.faults b.proxy) (p.faults y.proxy) →
       IfOk result (λ delegation. GivesNewest c (server_end y) (server_turns turns) delegation.credentials) →
       Settled (suc last) limit identity result
-  settled base start now limit x kdc y edits edits2 result turns log undisturbed ends stays still clients servers calm gives =
+  settled due base start now limit x kdc y edits edits2 result turns log undisturbed ends stays still clients servers calm gives =
       let quiet = undisturbed_is edits edits2 base log limit start now result turns undisturbed ends stays still in
-      settled_by base start now limit x kdc y (record { still = calm.same; few = calm.counted }) result turns log ends quiet.0 quiet.1
+      settled_by base start now limit x kdc y (record { still = calm.same; few = calm.counted }) due result turns log ends quiet.0 quiet.1
       clients servers gives

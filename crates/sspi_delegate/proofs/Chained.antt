@@ -168,31 +168,32 @@ module _ {C : Type 0} (c : Meaning ContextSetting C) where
             },
           )
 
-      left_chained : (now : ClientView C) (kdc kdc2 : D) (turns : List Turn) → OthersGoOn turns → ClientLeft c k first kdc turns now kdc2 →
-          ClientChainLeft c k first kdc turns (client_stage now kdc2)
-      left_chained now kdc kdc2 turns others (between h) = at_rest (client_chained now kdc kdc2 turns others h)
-      left_chained now kdc kdc2 turns others (history.waiting old kdc1 d went h way) =
+      left_chained : (due : TsRequest → Type 0) (now : ClientView C) (kdc kdc2 : D) (turns : List Turn) → OthersGoOn turns →
+          ClientLeft c k due first kdc turns now kdc2 → ClientChainLeft c k first due kdc turns (client_stage now kdc2)
+      left_chained due now kdc kdc2 turns others (between h) = at_rest (client_chained now kdc kdc2 turns others h)
+      left_chained due now kdc kdc2 turns others (history.waiting old kdc1 d is went h way) =
           let same = (history_follows c law k first old kdc kdc1 turns fresh went h).ran.same in
-          waiting (client_stage old kdc1) d.nego_tokens way.question way.asked_by went
+          waiting (client_stage old kdc1) d way.question way.asked_by is went
           (client_chained old kdc kdc1 turns (others_go turns went) h)
           (client_stepped old now kdc1 way.asked_by d way.takes.asked (Ask way.question) same way.takes.replied way.takes.step) way.lost
 
-      stops_chained : (now : ClientView C) (kdc kdc2 : D) (turns : List Turn) (error : DelegateError) → OthersGoOn turns →
-          ClientStops c k first kdc error turns now kdc2 → ClientChained c k first kdc (Err error) turns (client_stage now kdc2)
-      stops_chained now kdc kdc2 turns (errors.Client error) others s =
+      stops_chained : (due : TsRequest → Type 0) (now : ClientView C) (kdc kdc2 : D) (turns : List Turn) (error : DelegateError) →
+          OthersGoOn turns → ClientStops c k due first kdc error turns now kdc2 →
+          ClientChained c k first due kdc (Err error) turns (client_stage now kdc2)
+      stops_chained due now kdc kdc2 turns (errors.Client error) others s =
           client_chained now kdc kdc2 turns others (client_stopped_history c k first now kdc kdc2 error turns s)
-      stops_chained now kdc kdc2 turns (errors.Server error) others h = client_chained now kdc kdc2 turns others h
-      stops_chained now kdc kdc2 turns (errors.Read to kind) others h = client_chained now kdc kdc2 turns others h
-      stops_chained now kdc kdc2 turns (errors.Write from) others h = client_chained now kdc kdc2 turns others h
-      stops_chained now kdc kdc2 turns errors.LinkFault others h = client_chained now kdc kdc2 turns others h
-      stops_chained now kdc kdc2 turns errors.TurnsSpent others h = client_chained now kdc kdc2 turns others h
-      stops_chained now kdc kdc2 turns errors.InsufficientMemory others h = left_chained now kdc kdc2 turns others h
+      stops_chained due now kdc kdc2 turns (errors.Server error) others h = client_chained now kdc kdc2 turns others h
+      stops_chained due now kdc kdc2 turns (errors.Read to kind) others h = client_chained now kdc kdc2 turns others h
+      stops_chained due now kdc kdc2 turns (errors.Write from) others h = client_chained now kdc kdc2 turns others h
+      stops_chained due now kdc kdc2 turns errors.LinkFault others h = client_chained now kdc kdc2 turns others h
+      stops_chained due now kdc kdc2 turns errors.TurnsSpent others h = client_chained now kdc kdc2 turns others h
+      stops_chained due now kdc kdc2 turns errors.InsufficientMemory others h = left_chained due now kdc kdc2 turns others h
 
-      pub client_past_chained : (now : ClientView C) (kdc kdc2 : D) (turns : List Turn) (result : Result Delegation DelegateError) →
-          OthersGoOn turns →
-          ClientPast c k first kdc result turns now kdc2 → ClientChained c k first kdc result turns (client_stage now kdc2)
-      client_past_chained now kdc kdc2 turns (Ok delegation) others h = client_chained now kdc kdc2 turns others h
-      client_past_chained now kdc kdc2 turns (Err error) others h = stops_chained now kdc kdc2 turns error others h
+      pub client_past_chained : (due : TsRequest → Type 0) (now : ClientView C) (kdc kdc2 : D) (turns : List Turn)
+          (result : Result Delegation DelegateError) → OthersGoOn turns → ClientPast c k due first kdc result turns now kdc2 →
+          ClientChained c k first due kdc result turns (client_stage now kdc2)
+      client_past_chained due now kdc kdc2 turns (Ok delegation) others h = client_chained now kdc kdc2 turns others h
+      client_past_chained due now kdc kdc2 turns (Err error) others h = stops_chained due now kdc kdc2 turns error others h
 
   -- ---- the server
 

@@ -2,6 +2,7 @@
 use Rattle.std.proofs.Common.{inl, inr, List}
 use Rattle.sspi_types.specs.declared.error.Error.{Error}
 use Rattle.sspi_mech.specs.Meaning.{Meaning}
+use Rattle.sspi_tsreq.specs.declared.request.TsRequest.{TsRequest}
 use Rattle.sspi_credssp.specs.Ends.{ClientView, ServerView}
 use Rattle.sspi_credssp.specs.Context.{ContextSetting}
 use Rattle.sspi_credssp.specs.Proxy.{ProxyMeaning}
@@ -13,9 +14,9 @@ use Rattle.sspi_delegate.specs.History.{ClientHistory, ClientStopped, between, C
 use Rattle.sspi_delegate.proofs.Histories.{client_stopped_history, server_stopped_history}
 use Rattle.sspi_credssp.specs.declared.turn.Turn.{Turn}
 
-module _ {C D : Type 0} (c : Meaning ContextSetting C) (k : KdcCalls D) where
+module _ {C D : Type 0} (c : Meaning ContextSetting C) (k : KdcCalls D) (due : TsRequest → Type 0) where
   pub client_half_stopped : (first now : ClientView C) (kdc kdc2 : D) (turns : List Turn) (error : DelegateError) → IsNoRefusal error →
-      ClientHistory c k first kdc turns now kdc2 → ClientHalfStops c k first kdc error turns now kdc2
+      ClientHistory c k first kdc turns now kdc2 → ClientHalfStops c k due first kdc error turns now kdc2
   client_half_stopped first now kdc kdc2 turns (errors.Client error) link h = absurd link
   client_half_stopped first now kdc kdc2 turns (errors.Server error) link h = absurd link
   client_half_stopped first now kdc kdc2 turns (errors.Read to kind) link h = h
@@ -26,13 +27,13 @@ module _ {C D : Type 0} (c : Meaning ContextSetting C) (k : KdcCalls D) where
 
   pub client_half_refused : (first now : ClientView C) (kdc kdc2 : D) (turns : List Turn) (error : Error) (answer : DelegateError) →
       IsAnswerTo error.error_type (errors.Client error) answer → ClientStopped c k first kdc error turns now kdc2 →
-      ClientHalfStops c k first kdc answer turns now kdc2
+      ClientHalfStops c k due first kdc answer turns now kdc2
   client_half_refused first now kdc kdc2 turns error answer (inl memory) s =
       rw memory.1 (between (client_stopped_history c k first now kdc kdc2 error turns s))
   client_half_refused first now kdc kdc2 turns error answer (inr refusal) s = rw refusal.1 s
 
   pub client_half_past : (first now : ClientView C) (kdc kdc2 : D) (turns : List Turn) (error : DelegateError) →
-      ClientHalfStops c k first kdc error turns now kdc2 → ClientStops c k first kdc error turns now kdc2
+      ClientHalfStops c k due first kdc error turns now kdc2 → ClientStops c k due first kdc error turns now kdc2
   client_half_past first now kdc kdc2 turns (errors.Client error) h = h
   client_half_past first now kdc kdc2 turns (errors.Server error) h = absurd h
   client_half_past first now kdc kdc2 turns (errors.Read to kind) h = h
@@ -45,7 +46,7 @@ module _ {C D : Type 0} (c : Meaning ContextSetting C) (k : KdcCalls D) where
     -- the other end of a half that was ended by an error
     pub server_beside : (first now : ClientView C) (kdc kdc2 : D) (turns : List Turn) (error : DelegateError)
         (server server2 : ServerView C P)
-        (servers : List Turn) → ClientHalfStops c k first kdc error turns now kdc2 → ServerHistory c p server servers server2 →
+        (servers : List Turn) → ClientHalfStops c k due first kdc error turns now kdc2 → ServerHistory c p server servers server2 →
         ServerStops c p server error servers server2
     server_beside first now kdc kdc2 turns (errors.Client error) server server2 servers half h = h
     server_beside first now kdc kdc2 turns (errors.Server error) server server2 servers half h = absurd half
@@ -58,7 +59,7 @@ module _ {C D : Type 0} (c : Meaning ContextSetting C) (k : KdcCalls D) where
     pub client_beside : (first now : ClientView C) (kdc kdc2 : D) (turns : List Turn) (error : DelegateError)
         (server server2 : ServerView C P)
         (servers : List Turn) → ServerHalfStops c p server error servers server2 → ClientHistory c k first kdc turns now kdc2 →
-        ClientStops c k first kdc error turns now kdc2
+        ClientStops c k due first kdc error turns now kdc2
     client_beside first now kdc kdc2 turns (errors.Client error) server server2 servers half h = absurd half
     client_beside first now kdc kdc2 turns (errors.Server error) server server2 servers half h = h
     client_beside first now kdc kdc2 turns (errors.Read to kind) server server2 servers half h = h

@@ -219,19 +219,19 @@ module _ {C : Type 0} (c : Meaning ContextSetting C) where
                 (went_heeds (client_end h.0) past follows.ran.each follows.going),
           )
 
-      left_heeds : (first now : ClientView C) (kdc kdc2 : D) (turns : List Turn) → IsFreshClient first → OthersGoOn turns →
-          ClientLeft c k first kdc turns now kdc2 → EachHeedsServer c now.settings.least turns
-      left_heeds first now kdc kdc2 turns fresh others (between h) = history_heeds first now kdc kdc2 turns fresh others h
-      left_heeds first now kdc kdc2 turns fresh others (waiting old kdc1 d went h way) =
+      left_heeds : (due : TsRequest → Type 0) (first now : ClientView C) (kdc kdc2 : D) (turns : List Turn) → IsFreshClient first →
+          OthersGoOn turns → ClientLeft c k due first kdc turns now kdc2 → EachHeedsServer c now.settings.least turns
+      left_heeds due first now kdc kdc2 turns fresh others (between h) = history_heeds first now kdc kdc2 turns fresh others h
+      left_heeds due first now kdc kdc2 turns fresh others (waiting old kdc1 d is went h way) =
           let ran = client_underway c law first old now turns d
           (history_follows c law k first old kdc kdc1 turns fresh went h) way.takes.turn.0 in
           went_heeds (client_end now) turns ran.each went
 
-      pub client_past_heeds : (first now : ClientView C) (kdc kdc2 : D) (turns : List Turn) (result : Result Delegation DelegateError) →
-          IsFreshClient first → OthersGoOn turns → ClientPast c k first kdc result turns now kdc2 →
-          EachHeedsServer c now.settings.least turns
-      client_past_heeds first now kdc kdc2 turns result fresh others h =
-          left_heeds first now kdc kdc2 turns fresh others (client_past_left c k first now kdc kdc2 turns result h)
+      pub client_past_heeds : (due : TsRequest → Type 0) (first now : ClientView C) (kdc kdc2 : D) (turns : List Turn)
+          (result : Result Delegation DelegateError) → IsFreshClient first → OthersGoOn turns →
+          ClientPast c k due first kdc result turns now kdc2 → EachHeedsServer c now.settings.least turns
+      client_past_heeds due first now kdc kdc2 turns result fresh others h =
+          left_heeds due first now kdc kdc2 turns fresh others (client_past_left c k due first now kdc kdc2 turns result h)
 
   -- ---- a server's turns
 

@@ -21,7 +21,7 @@ use Rattle.sspi_credssp.specs.declared.turn.Outcome.TheVariants as outcome
 use Rattle.sspi_credssp.specs.declared.turn.Turn.{Turn}
 use Rattle.sspi_delegate.specs.Chain.{KdcCalls}
 use Rattle.sspi_delegate.specs.Turns.{client_turns, server_turns}
-use Rattle.sspi_delegate.specs.History.{ClientTakes, ClientMakes, ClientHistory, ClientStopped, ClientLeft, between, ClientPast}
+use Rattle.sspi_delegate.specs.History.{ClientTakes, ClientMakes, ClientHistory, ClientStopped, ClientLeft, between, waiting, ClientPast}
 use Rattle.sspi_delegate.specs.History.{ServerMakes, ServerHistory, ServerGave, ServerStopped, ServerPast}
 use Rattle.sspi_delegate.specs.Rounds.{newest_alone}
 use Rattle.sspi_delegate.specs.LogKeeping.{recorded}
@@ -77,18 +77,25 @@ module _ {C D : Type 0} (c : Meaning ContextSetting C) (k : KdcCalls D) where
     record { mid = s.mid; turn = refl; makes = (error, refl, s.takes); rest = s.rest },
   )
 
+  -- it was left on what was due by a weaker saying too
+  pub left_due : (due due2 : TsRequest → Type 0) (first now : ClientView C) (kdc kdc2 : D) (turns : List Turn) →
+      ((d : TsRequest) → due d → due2 d) → ClientLeft c k due first kdc turns now kdc2 → ClientLeft c k due2 first kdc turns now kdc2
+  left_due due due2 first now kdc kdc2 turns weaker (between h) = between h
+  left_due due due2 first now kdc kdc2 turns weaker (waiting old kdc1 d is went h way) = waiting old kdc1 d (weaker d is) went h way
+
   -- whatever the answer, its turns are a history, but for a turn in which it may wait
-  pub client_past_left : (first now : ClientView C) (kdc kdc2 : D) (turns : List Turn) (result : Result Delegation DelegateError) →
-      ClientPast c k first kdc result turns now kdc2 → ClientLeft c k first kdc turns now kdc2
-  client_past_left first now kdc kdc2 turns (Ok delegation) h = between h
-  client_past_left first now kdc kdc2 turns (Err (errors.Client error)) s =
+  pub client_past_left : (due : TsRequest → Type 0) (first now : ClientView C) (kdc kdc2 : D) (turns : List Turn)
+      (result : Result Delegation DelegateError) → ClientPast c k due first kdc result turns now kdc2 →
+      ClientLeft c k due first kdc turns now kdc2
+  client_past_left due first now kdc kdc2 turns (Ok delegation) h = between h
+  client_past_left due first now kdc kdc2 turns (Err (errors.Client error)) s =
       between (client_stopped_history first now kdc kdc2 error turns s)
-  client_past_left first now kdc kdc2 turns (Err (errors.Server error)) h = between h
-  client_past_left first now kdc kdc2 turns (Err (errors.Read to kind)) h = between h
-  client_past_left first now kdc kdc2 turns (Err (errors.Write from)) h = between h
-  client_past_left first now kdc kdc2 turns (Err errors.LinkFault) h = between h
-  client_past_left first now kdc kdc2 turns (Err errors.TurnsSpent) h = between h
-  client_past_left first now kdc kdc2 turns (Err errors.InsufficientMemory) h = h
+  client_past_left due first now kdc kdc2 turns (Err (errors.Server error)) h = between h
+  client_past_left due first now kdc kdc2 turns (Err (errors.Read to kind)) h = between h
+  client_past_left due first now kdc kdc2 turns (Err (errors.Write from)) h = between h
+  client_past_left due first now kdc kdc2 turns (Err errors.LinkFault) h = between h
+  client_past_left due first now kdc kdc2 turns (Err errors.TurnsSpent) h = between h
+  client_past_left due first now kdc kdc2 turns (Err errors.InsufficientMemory) h = h
 
 module _ {C : Type 0} (c : Meaning ContextSetting C) where
   module _ {P : Type 0} (p : ProxyMeaning P) where

@@ -80,16 +80,17 @@ module _ {C : Type 0} (c : Meaning ContextSetting C) (law : IsContext c) where
         (client_turned c law first h.0 made.mid past t.delivered t.outcome follows
         (client_turn_of h.0 made.mid h.1 kdc2 t.delivered t.outcome made.makes)))
 
-    left_ran : (first now : ClientView C) (kdc kdc2 : D) (turns : List Turn) → IsFreshClient first → OthersGoOn turns →
-        ClientLeft c k first kdc turns now kdc2 → ClientRan c first now turns
-    left_ran first now kdc kdc2 turns fresh others (between h) = history_ran first now kdc kdc2 turns fresh others h
-    left_ran first now kdc kdc2 turns fresh others (waiting old kdc1 d went h way) =
+    left_ran : (due : TsRequest → Type 0) (first now : ClientView C) (kdc kdc2 : D) (turns : List Turn) → IsFreshClient first →
+        OthersGoOn turns → ClientLeft c k due first kdc turns now kdc2 → ClientRan c first now turns
+    left_ran due first now kdc kdc2 turns fresh others (between h) = history_ran first now kdc kdc2 turns fresh others h
+    left_ran due first now kdc kdc2 turns fresh others (waiting old kdc1 d is went h way) =
         client_underway c law first old now turns d (history_follows first old kdc kdc1 turns fresh went h) way.takes.turn.0
 
-    pub client_past_ran : (first now : ClientView C) (kdc kdc2 : D) (turns : List Turn) (result : Result Delegation DelegateError) →
-        IsFreshClient first → OthersGoOn turns → ClientPast c k first kdc result turns now kdc2 → ClientRan c first now turns
-    client_past_ran first now kdc kdc2 turns result fresh others h =
-        left_ran first now kdc kdc2 turns fresh others (client_past_left c k first now kdc kdc2 turns result h)
+    pub client_past_ran : (due : TsRequest → Type 0) (first now : ClientView C) (kdc kdc2 : D) (turns : List Turn)
+        (result : Result Delegation DelegateError) → IsFreshClient first → OthersGoOn turns →
+        ClientPast c k due first kdc result turns now kdc2 → ClientRan c first now turns
+    client_past_ran due first now kdc kdc2 turns result fresh others h =
+        left_ran due first now kdc kdc2 turns fresh others (client_past_left c k due first now kdc kdc2 turns result h)
 
   -- ---- the server
 

@@ -3,6 +3,7 @@ use Rattle.std.proofs.Common.{subst, List, Result, Ok, Err}
 use Rattle.sspi_types.specs.declared.error.Error.{Error}
 use Rattle.sspi_mech.specs.Context.{IsContext}
 use Rattle.sspi_mech.specs.Meaning.{Meaning}
+use Rattle.sspi_tsreq.specs.declared.request.TsRequest.{TsRequest}
 use Rattle.sspi_credssp.specs.declared.turn.Turn.{Turn}
 use Rattle.sspi_credssp.specs.Ends.{ClientView, IsFreshClient, ServerView, IsFreshServer}
 use Rattle.sspi_credssp.specs.Context.{ContextSetting}
@@ -40,17 +41,18 @@ module _ {C D P : Type 0} (c : Meaning ContextSetting C) (law : IsContext c) (p 
       }
 
   -- the refusal that is answered
-  pub past_refused : (client client2 : ClientView C) (kdc kdc2 : D) (server server2 : ServerView C P) (clients servers : List Turn)
-      (result : Result Delegation DelegateError) → IsFreshClient client → IsFreshServer server → OthersGoOn clients → OthersGoOn servers →
-      ClientPast c k client kdc result clients client2 kdc2 → ServerPast c p server result servers server2 →
+  pub past_refused : (due : TsRequest → Type 0) (client client2 : ClientView C) (kdc kdc2 : D) (server server2 : ServerView C P)
+      (clients servers : List Turn) (result : Result Delegation DelegateError) → IsFreshClient client → IsFreshServer server → OthersGoOn clients → OthersGoOn servers →
+      ClientPast c k due client kdc result clients client2 kdc2 → ServerPast c p server result servers server2 →
       RefusedBy c p k client kdc client2 kdc2 server server2 result clients servers
-  past_refused client client2 kdc kdc2 server server2 clients servers (Ok delegation) fresh fresh2 others others2 h h2 = tt
-  past_refused client client2 kdc kdc2 server server2 clients servers (Err (errors.Client error)) fresh fresh2 others others2 h h2 =
+  past_refused due client client2 kdc kdc2 server server2 clients servers (Ok delegation) fresh fresh2 others others2 h h2 = tt
+  past_refused due client client2 kdc kdc2 server server2 clients servers (Err (errors.Client error)) fresh fresh2 others others2 h h2 =
       client_refused client client2 kdc kdc2 clients error fresh others h
-  past_refused client client2 kdc kdc2 server server2 clients servers (Err (errors.Server error)) fresh fresh2 others others2 h h2 =
+  past_refused due client client2 kdc kdc2 server server2 clients servers (Err (errors.Server error)) fresh fresh2 others others2 h h2 =
       server_refused server server2 servers error fresh2 (others_unrefused servers others2) h2
-  past_refused client client2 kdc kdc2 server server2 clients servers (Err (errors.Read to kind)) fresh fresh2 others others2 h h2 = tt
-  past_refused client client2 kdc kdc2 server server2 clients servers (Err (errors.Write from)) fresh fresh2 others others2 h h2 = tt
-  past_refused client client2 kdc kdc2 server server2 clients servers (Err errors.LinkFault) fresh fresh2 others others2 h h2 = tt
-  past_refused client client2 kdc kdc2 server server2 clients servers (Err errors.TurnsSpent) fresh fresh2 others others2 h h2 = tt
-  past_refused client client2 kdc kdc2 server server2 clients servers (Err errors.InsufficientMemory) fresh fresh2 others others2 h h2 = tt
+  past_refused due client client2 kdc kdc2 server server2 clients servers (Err (errors.Read to kind)) fresh fresh2 others others2 h h2 = tt
+  past_refused due client client2 kdc kdc2 server server2 clients servers (Err (errors.Write from)) fresh fresh2 others others2 h h2 = tt
+  past_refused due client client2 kdc kdc2 server server2 clients servers (Err errors.LinkFault) fresh fresh2 others others2 h h2 = tt
+  past_refused due client client2 kdc kdc2 server server2 clients servers (Err errors.TurnsSpent) fresh fresh2 others others2 h h2 = tt
+  past_refused due client client2 kdc kdc2 server server2 clients servers (Err errors.InsufficientMemory) fresh fresh2 others others2 h h2 =
+      tt

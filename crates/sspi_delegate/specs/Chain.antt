@@ -12,6 +12,7 @@ use Rattle.sspi_mech.specs.declared.step.Reply.{Reply}
 use Rattle.sspi_mech.specs.declared.step.Reply.TheVariants.{Answered, Failed}
 use Rattle.sspi_mech.specs.declared.step.Step.{Step}
 use Rattle.sspi_mech.specs.Meaning.{Meaning}
+use Rattle.sspi_tsreq.specs.declared.request.TsRequest.{TsRequest}
 use Rattle.sspi_credssp.specs.declared.turn.Outcome.{Outcome}
 use Rattle.sspi_credssp.specs.declared.turn.Outcome.TheVariants as outcome
 use Rattle.sspi_credssp.specs.declared.turn.Turn.{Turn}
@@ -129,18 +130,19 @@ module _ {C D : Type 0} (c : Meaning ContextSetting C) (k : KdcCalls D) (first :
   ClientChain kdc [] stage = stage ≡ client_stage first kdc
   ClientChain kdc (t ∷ past) next = (stage : ClientStage C D) × ClientChain kdc past stage × ClientLink past t stage next
 
-  -- where there was no memory: the stage of all turns, or in one further turn, without a record, a step that waits for its KDC
-  pub data ClientChainLeft (kdc : D) (turns : List Turn) (now : ClientStage C D) : Type 0 where
-    at_rest : ClientChain kdc turns now → ClientChainLeft kdc turns now
-    waiting : (stage : ClientStage C D) (token : Option (List ℕ)) (question : NetworkRequest) (asked : D) → AllGoOn turns →
-        ClientChain kdc turns stage → ClientStepped stage token (Ask question) (record now { kdc = asked }) → k.lost asked now.kdc →
-        ClientChainLeft kdc turns now
+  -- where there was no memory: the stage of all turns, or in one further turn, without a record, a step that waits for its KDC, on the
+  -- token of the request that was due
+  pub data ClientChainLeft (due : TsRequest → Type 0) (kdc : D) (turns : List Turn) (now : ClientStage C D) : Type 0 where
+    at_rest : ClientChain kdc turns now → ClientChainLeft due kdc turns now
+    waiting : (stage : ClientStage C D) (d : TsRequest) (question : NetworkRequest) (asked : D) → due d → AllGoOn turns →
+        ClientChain kdc turns stage → ClientStepped stage d.nego_tokens (Ask question) (record now { kdc = asked }) →
+        k.lost asked now.kdc → ClientChainLeft due kdc turns now
 
   -- the stage of an exchange's client, by the answer
-  abbrev pub ClientChained : D → Result Delegation DelegateError → List Turn → ClientStage C D → Type 0
-  ClientChained kdc (Ok delegation) turns now = ClientChain kdc turns now
-  ClientChained kdc (Err errors.InsufficientMemory) turns now = ClientChainLeft kdc turns now
-  ClientChained kdc (Err error) turns now = ClientChain kdc turns now
+  abbrev pub ClientChained : (TsRequest → Type 0) → D → Result Delegation DelegateError → List Turn → ClientStage C D → Type 0
+  ClientChained due kdc (Ok delegation) turns now = ClientChain kdc turns now
+  ClientChained due kdc (Err errors.InsufficientMemory) turns now = ClientChainLeft due kdc turns now
+  ClientChained due kdc (Err error) turns now = ClientChain kdc turns now
 
 -- `first` is the server as it was made; its proxy may tell its entries, and what a look-up of a name finds
 module _ {C P : Type 0} (c : Meaning ContextSetting C) (p : ProxyMeaning P) (first : ServerView C P) where

@@ -88,13 +88,14 @@ module _ {C D : Type 0} (c : Meaning ContextSetting C) (k : KdcCalls D) where
   ClientConcludes old kdc d round.Lost new kdc2 = IsWaiting c k old kdc d new kdc2
 
   -- what half a round makes of it
-  abbrev pub ClientHalfStops : ClientView C → D → DelegateError → List Turn → ClientView C → D → Type 0
-  ClientHalfStops first kdc (errors.Server error) turns now kdc2 = ⊥
-  ClientHalfStops first kdc error turns now kdc2 = ClientStops c k first kdc error turns now kdc2
+  abbrev pub ClientHalfStops : (TsRequest → Type 0) → ClientView C → D → DelegateError → List Turn → ClientView C → D → Type 0
+  ClientHalfStops due first kdc (errors.Server error) turns now kdc2 = ⊥
+  ClientHalfStops due first kdc error turns now kdc2 = ClientStops c k due first kdc error turns now kdc2
 
-  abbrev pub ClientHalfPast : ClientView C → D → Result (Unit {0}) DelegateError → List Turn → ClientView C → D → Type 0
-  ClientHalfPast first kdc (Ok done) turns now kdc2 = ClientHistory c k first kdc turns now kdc2
-  ClientHalfPast first kdc (Err error) turns now kdc2 = ClientHalfStops first kdc error turns now kdc2
+  abbrev pub ClientHalfPast : (TsRequest → Type 0) → ClientView C → D → Result (Unit {0}) DelegateError → List Turn → ClientView C →
+      D → Type 0
+  ClientHalfPast due first kdc (Ok done) turns now kdc2 = ClientHistory c k first kdc turns now kdc2
+  ClientHalfPast due first kdc (Err error) turns now kdc2 = ClientHalfStops due first kdc error turns now kdc2
 
 module _ {C P : Type 0} (c : Meaning ContextSetting C) (p : ProxyMeaning P) where
   abbrev pub ServerHalfStops : ServerView C P → DelegateError → List Turn → ServerView C P → Type 0

@@ -5,6 +5,7 @@ use Rattle.sspi_types.specs.declared.error_kind.ErrorKind.TheVariants.{Downgrade
 use Rattle.sspi_mech.specs.Meaning.{Meaning}
 use Rattle.sspi_credssp.specs.declared.public_key.EndpointType.TheVariants as endpoint
 use Rattle.sspi_credssp.specs.declared.state.CredSspState.TheVariants.{AuthInfo}
+use Rattle.sspi_credssp.specs.declared.turn.End.TheVariants.{Client}
 use Rattle.sspi_credssp.specs.declared.turn.Outcome.{Outcome}
 use Rattle.sspi_credssp.specs.declared.turn.Outcome.TheVariants as outcome
 use Rattle.sspi_credssp.specs.declared.turn.Turn.{Turn}
@@ -18,7 +19,7 @@ use Rattle.sspi_credssp.specs.Turn.{AtNoted}
 use Rattle.sspi_delegate.specs.declared.carried.Carried.{Carried}
 use Rattle.sspi_delegate.specs.Turns.{ClientEnd, client_state, client_noted, ClientRan, server_noted, ServerRan, client_turns, server_turns}
 use Rattle.sspi_delegate.specs.Turns.{opened_in, Alternates, client_end, server_end, GivesNewest}
-use Rattle.sspi_delegate.specs.Log.{HasLog, RunEnds, Exactly}
+use Rattle.sspi_delegate.specs.Log.{HasLog, IsDue, RunEnds, Exactly}
 use Rattle.sspi_names.specs.declared.network.NetworkRequest.{NetworkRequest}
 use Rattle.sspi_mech.specs.declared.step.Reply.{Reply}
 use Rattle.sspi_credssp.specs.Proxy.{list_calls, ProxyMeaning, HasAsked}
@@ -174,7 +175,8 @@ module _ {C P L D : Type 0} (c : Meaning ContextSetting C) (around : Around P L 
         (around.log new.link) (around.link_faults new.link)
     pub no_other_answer_fits : Exactly (around.log old.link) limit result new.turns (around.log new.link)
     -- each turn of an end was one of its calls, and nothing moved it in between; the last one refused so, or gave the identity
-    pub client_turns_are_its_calls : ClientPast c (calls_of_kdc around) old.client old.kdc result
+    pub client_turns_are_its_calls : ClientPast c (calls_of_kdc around)
+        (IsDue (around.log old.link) Client new.turns (around.log new.link)) old.client old.kdc result
         (client_turns new.turns) new.client new.kdc
     pub server_turns_are_its_calls : ServerPast c around.proxy old.server result (server_turns new.turns) new.server
 
@@ -191,7 +193,8 @@ module _ {C P L D : Type 0} (c : Meaning ContextSetting C) (around : Around P L 
     pub no_call_of_the_proxy_before_ok_was_to_fail : OnOk result
         (HasAsked around.proxy (list_calls old.server.settings.mode + 1) old.server.proxy new.server.proxy)
     -- so what an end offered, chose, signed and verified in a turn is what its context did in that step
-    pub the_client_has_the_context_of_its_chain : ClientChained c (calls_of_kdc around) old.client old.kdc result (client_turns new.turns)
+    pub the_client_has_the_context_of_its_chain : ClientChained c (calls_of_kdc around) old.client
+        (IsDue (around.log old.link) Client new.turns (around.log new.link)) old.kdc result (client_turns new.turns)
         (client_stage new.client new.kdc)
     pub the_server_has_the_context_of_its_chain : ServerChain c around.proxy old.server (server_turns new.turns) (server_stage new.server)
     pub a_refusal_has_its_cause : RefusedBy c around.proxy (calls_of_kdc around) old.client old.kdc new.client new.kdc

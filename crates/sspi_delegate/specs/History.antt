@@ -105,22 +105,24 @@ module _ {C D : Type 0} (c : Meaning ContextSetting C) (k : KdcCalls D) where
     pub follows : ClientFollows c first stopped.old stopped.past
     pub chain : ClientChain c k first kdc stopped.past (client_stage stopped.old stopped.kdc1)
 
-  -- where there was no memory the client may have been left waiting for its KDC, in a turn that is not recorded
-  pub data ClientLeft (first : ClientView C) (kdc : D) (turns : List Turn) (now : ClientView C) (kdc2 : D) : Type 0 where
-    between : ClientHistory first kdc turns now kdc2 → ClientLeft first kdc turns now kdc2
-    waiting : (old : ClientView C) (kdc1 : D) (d : TsRequest) → AllGoOn turns → ClientHistory first kdc turns old kdc1 →
-        IsWaiting old kdc1 d now kdc2 → ClientLeft first kdc turns now kdc2
+  -- where there was no memory the client may have been left waiting for its KDC, in a turn on what was due, which is not recorded
+  pub data ClientLeft (due : TsRequest → Type 0) (first : ClientView C) (kdc : D) (turns : List Turn) (now : ClientView C)
+      (kdc2 : D) : Type 0 where
+    between : ClientHistory first kdc turns now kdc2 → ClientLeft due first kdc turns now kdc2
+    waiting : (old : ClientView C) (kdc1 : D) (d : TsRequest) → due d → AllGoOn turns → ClientHistory first kdc turns old kdc1 →
+        IsWaiting old kdc1 d now kdc2 → ClientLeft due first kdc turns now kdc2
 
   -- the history of the client of an exchange that ended in this error
-  abbrev pub ClientStops : ClientView C → D → DelegateError → List Turn → ClientView C → D → Type 0
-  ClientStops first kdc (errors.Client error) turns now kdc2 = ClientStopped first kdc error turns now kdc2
-  ClientStops first kdc errors.InsufficientMemory turns now kdc2 = ClientLeft first kdc turns now kdc2
-  ClientStops first kdc other turns now kdc2 = ClientHistory first kdc turns now kdc2
+  abbrev pub ClientStops : (TsRequest → Type 0) → ClientView C → D → DelegateError → List Turn → ClientView C → D → Type 0
+  ClientStops due first kdc (errors.Client error) turns now kdc2 = ClientStopped first kdc error turns now kdc2
+  ClientStops due first kdc errors.InsufficientMemory turns now kdc2 = ClientLeft due first kdc turns now kdc2
+  ClientStops due first kdc other turns now kdc2 = ClientHistory first kdc turns now kdc2
 
   -- the history of the client of an exchange, by its answer
-  abbrev pub ClientPast : ClientView C → D → Result Delegation DelegateError → List Turn → ClientView C → D → Type 0
-  ClientPast first kdc (Ok delegation) turns now kdc2 = ClientHistory first kdc turns now kdc2
-  ClientPast first kdc (Err error) turns now kdc2 = ClientStops first kdc error turns now kdc2
+  abbrev pub ClientPast : (TsRequest → Type 0) → ClientView C → D → Result Delegation DelegateError → List Turn → ClientView C → D →
+      Type 0
+  ClientPast due first kdc (Ok delegation) turns now kdc2 = ClientHistory first kdc turns now kdc2
+  ClientPast due first kdc (Err error) turns now kdc2 = ClientStops due first kdc error turns now kdc2
 
 module _ {C P : Type 0} (c : Meaning ContextSetting C) (p : ProxyMeaning P) where
   -- the server took d and came to this outcome, by one call of `process`

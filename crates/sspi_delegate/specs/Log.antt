@@ -111,7 +111,11 @@ module _ (base : List Carried) where
   Logged (t ∷ past) [] = ⊥
   Logged (t ∷ past) (e ∷ log) = IsEntry t e × IsDelivered past log t.delivered × Logged past log
 
-  -- the same, but for the newest turn, which has no entry
+  -- the next turn is this end's, and is given this request: those before it went on, and each has its entry
+  abbrev pub IsDue : End → List Turn → List Carried → TsRequest → Type 0
+  IsDue end turns log request = AllGoOn turns × (next_end turns ≡ end) × Logged turns log × IsDelivered turns log request
+
+  -- the same as `Logged`, but for the newest turn, which has no entry
   abbrev pub LoggedButLast : List Turn → List Carried → Type 0
   LoggedButLast [] log = ⊥
   LoggedButLast (t ∷ past) log = IsDelivered past log t.delivered × Logged past log

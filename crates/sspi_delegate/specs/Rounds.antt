@@ -1,7 +1,8 @@
 -- What a turn, and what half a round, makes of an end and of its history.
-use Rattle.std.specs.Prelude.{List, [], ◌∷◌, Option, None, Some}
+use Rattle.std.specs.Prelude.{◌≡◌, List, [], ◌∷◌, Option, None, Some}
 use Rattle.sspi_mech.specs.Meaning.{Meaning}
 use Rattle.sspi_names.specs.declared.identity.AuthIdentity.{AuthIdentity}
+use Rattle.sspi_tsreq.specs.declared.request.TsRequest.{TsRequest}
 use Rattle.sspi_credssp.specs.Ends.{ClientView, ServerView}
 use Rattle.sspi_credssp.specs.Context.{ContextSetting}
 use Rattle.sspi_credssp.specs.Proxy.{ProxyMeaning}
@@ -28,11 +29,11 @@ added_by_server (round.Refused error) turns = newest_alone turns
 added_by_server round.Lost turns = []
 
 module _ {C D : Type 0} (c : Meaning ContextSetting C) (k : KdcCalls D) where
-  -- what a turn makes of the client's history
-  abbrev pub ClientRoundPast : ClientView C → D → Round (Unit {0}) → List Turn → ClientView C → D → Type 0
-  ClientRoundPast first kdc (round.Answered done) turns now kdc2 = ClientHistory c k first kdc turns now kdc2
-  ClientRoundPast first kdc (round.Refused error) turns now kdc2 = ClientStopped c k first kdc error turns now kdc2
-  ClientRoundPast first kdc round.Lost turns now kdc2 = ClientLeft c k first kdc turns now kdc2
+  -- what a turn on this request makes of the client's history
+  abbrev pub ClientRoundPast : TsRequest → ClientView C → D → Round (Unit {0}) → List Turn → ClientView C → D → Type 0
+  ClientRoundPast request first kdc (round.Answered done) turns now kdc2 = ClientHistory c k first kdc turns now kdc2
+  ClientRoundPast request first kdc (round.Refused error) turns now kdc2 = ClientStopped c k first kdc error turns now kdc2
+  ClientRoundPast request first kdc round.Lost turns now kdc2 = ClientLeft c k (λ d. d ≡ request) first kdc turns now kdc2
 
 module _ {C P : Type 0} (c : Meaning ContextSetting C) (p : ProxyMeaning P) where
   abbrev pub ServerRoundPast : ServerView C P → Round (Option AuthIdentity) → List Turn → ServerView C P → Type 0

@@ -87,12 +87,12 @@ pub fn client_round<N: Mechanism, K: Mechanism, D: Kdc>(
 ) -> Round<()>
     // The turn that was made and recorded.
     ensures turn { ClientPushed request result transcript.old.turns transcript.new.turns }
-    ensures made { ClientRoundPast (either N.REQUESTS N.meaning K.meaning) (kdc_calls D.told D.asked D.faults) client.old kdc.old result
-        (client_turns (added_by_client result transcript.new.turns)) client.new kdc.new }
+    ensures made { ClientRoundPast (either N.REQUESTS N.meaning K.meaning) (kdc_calls D.told D.asked D.faults) request
+        client.old kdc.old result (client_turns (added_by_client result transcript.new.turns)) client.new kdc.new }
     ensures client_history { let c = either N.REQUESTS N.meaning K.meaning in let k = kdc_calls D.told D.asked D.faults in
         (first : ClientView (SspiContext N K)) (kdc_first : D) → AllGoOn (client_turns transcript.old.turns) →
         ClientHistory c k first kdc_first (client_turns transcript.old.turns) client.old kdc.old →
-        ClientRoundPast c k first kdc_first result (client_turns transcript.new.turns) client.new kdc.new }
+        ClientRoundPast c k request first kdc_first result (client_turns transcript.new.turns) client.new kdc.new }
     // What stays.
     ensures server { server_turns transcript.new.turns ≡ server_turns transcript.old.turns }
     ensures kdc { KdcStays D.told D.faults kdc.old kdc.new }

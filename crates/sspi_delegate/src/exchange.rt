@@ -3,11 +3,11 @@ ghost use Rattle.sspi_credssp.specs.Ends.{ClientView, ServerView};
 ghost use Rattle.sspi_credssp.specs.Context.{either};
 ghost use Rattle.sspi_delegate.specs.Chain.{kdc_calls};
 ghost use Rattle.sspi_delegate.specs.Headline.{around_by, parties, Delegates, Accounts, Stays};
-ghost use Rattle.sspi_delegate.specs.Turns.{client_turns, server_turns, next_end, AllGoOn};
+ghost use Rattle.sspi_delegate.specs.Turns.{client_turns, server_turns, next_end};
 ghost use Rattle.sspi_delegate.specs.History.{ClientHistory, ClientPast, ServerHistory, ServerPast, KdcStays, ProxyStays};
 ghost use Rattle.sspi_delegate.specs.Halves.{IsNoRefusal, ClientHalfPast, ServerHalfPast, Between};
 ghost use Rattle.sspi_delegate.specs.declared.carried.Carried.{Carried};
-ghost use Rattle.sspi_delegate.specs.Log.{Stopped, RunEnds, TurnLeft, Given, turns_of};
+ghost use Rattle.sspi_delegate.specs.Log.{Stopped, RunEnds, TurnLeft, IsDue, Given, turns_of};
 ghost use Rattle.sspi_delegate.specs.Halves.{Asked, Turned, ClientHalf, ServerHalf, HasMessage, IsAnswerTo};
 ghost use Rattle.sspi_delegate.specs.Headline.{IsFresh};
 ghost use Rattle.sspi_delegate.specs.Link.{StaysTold, newest_message, AnswerTold};
@@ -48,7 +48,7 @@ use std::alloc::Global;
 ///
 /// The transcript lets go of the turns that it held before. Whatever the answer, it then has each turn that was made, a refused one
 /// too, and the log of the link each message that it took. Both ends are as their last turn left them. Where there was no memory
-/// for a reply of the KDC, the client waits for it in one further turn, which has no record.
+/// for a reply of the KDC, the client waits for it in one further turn, on the request that was due, which has no record.
 ///
 /// `delegates` speaks of ends to which nothing was delivered since they were made, by whatever version and least version;
 /// `accounts` and `stays` speak of every call, and `delegates` holds both.
@@ -96,7 +96,8 @@ fn rounds<N: Mechanism, K: Mechanism, C: CredentialsProxy, L: Link, D: Kdc>(
     ensures within { (limit ≡ 0 → result ≡ Err DelegateError.TurnsSpent) × IfOk result (λ delegation. delegation.rounds ≤ limit) }
     // What both ends did.
     ensures client_history { transcript.old.turns ≡ [] →
-        ClientPast (either N.REQUESTS N.meaning K.meaning) (kdc_calls D.told D.asked D.faults) client.old kdc.old result
+        ClientPast (either N.REQUESTS N.meaning K.meaning) (kdc_calls D.told D.asked D.faults)
+        (IsDue (L.log link.old) End.Client transcript.new.turns (L.log link.new)) client.old kdc.old result
         (client_turns transcript.new.turns) client.new kdc.new }
     ensures server_history { transcript.old.turns ≡ [] →
         ServerPast (either N.REQUESTS N.meaning K.meaning) C.meaning server.old result (server_turns transcript.new.turns) server.new }
@@ -136,9 +137,11 @@ fn client_half<N: Mechanism, K: Mechanism, L: Link, D: Kdc>(
         transcript.new.turns }
     // What the ends did.
     ensures client_history { let c = either N.REQUESTS N.meaning K.meaning in let k = kdc_calls D.told D.asked D.faults in
-        (first : ClientView (SspiContext N K)) (kdc_first : D) → AllGoOn transcript.old.turns →
+        (base : List Carried) (start : ℕ) (first : ClientView (SspiContext N K)) (kdc_first : D) →
+        next_end transcript.old.turns ≡ End.Client → Between base start transcript.old.turns (L.log link.old) (L.faults link.old) →
         ClientHistory c k first kdc_first (client_turns transcript.old.turns) client.old kdc.old →
-        ClientHalfPast c k first kdc_first result (client_turns transcript.new.turns) client.new kdc.new }
+        ClientHalfPast c k (IsDue base End.Client transcript.new.turns (L.log link.new)) first kdc_first result
+        (client_turns transcript.new.turns) client.new kdc.new }
     ensures kdc { KdcStays D.told D.faults kdc.old kdc.new }
     ensures server { server_turns transcript.new.turns ≡ server_turns transcript.old.turns }
 {

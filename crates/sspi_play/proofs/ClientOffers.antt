@@ -15,6 +15,7 @@ use Rattle.sspi_mech.specs.Answers.{OnRefused}
 use Rattle.sspi_mech.specs.Calls.{StepArgs, no_counts}
 use Rattle.sspi_mech.specs.Laws.{IsMechanism}
 use Rattle.sspi_mech.specs.Meaning.{Meaning}
+use Rattle.sspi_tsreq.specs.declared.request.TsRequest.{TsRequest}
 use Rattle.sspi_mech.specs.Settings.{Setting}
 use Rattle.sspi_negotiate.specs.declared.negotiate_config.NegotiateConfig.{NegotiateConfig}
 use Rattle.sspi_negotiate.specs.declared.protocol.NegotiatedProtocol.{NegotiatedProtocol}
@@ -367,9 +368,10 @@ module _ {N K : Type 0} (r q : ℕ) (n : Meaning Setting N) (k : Meaning Setting
         (moved t past chain.0 stage t.acts.negotiated t.acts.status t.outcome
         (chain_offers kdc past chain.0 none others chain.1) chain.2.moved)
 
-    pub left_offers : (kdc : D) (turns : List Turn) (now : ClientStage (SspiContext N K) D) → first.context ≡ None → OthersGoOn turns →
-        ClientChainLeft (either r n k) kdcs first kdc turns now → ShowsOffered n k turns now.context
-    left_offers kdc turns now none others (at_rest chain) = rest_shows kdc turns now none others chain
-    left_offers kdc turns now none others (waiting stage token question asked going chain step lost) = offers_show n k turns now.context
-        (stepped_next turns stage (record now { kdc = asked }) token (Ask question) now.context
+    pub left_offers : (due : TsRequest → Type 0) (kdc : D) (turns : List Turn) (now : ClientStage (SspiContext N K) D) →
+        first.context ≡ None → OthersGoOn turns → ClientChainLeft (either r n k) kdcs first due kdc turns now →
+        ShowsOffered n k turns now.context
+    left_offers due kdc turns now none others (at_rest chain) = rest_shows kdc turns now none others chain
+    left_offers due kdc turns now none others (waiting stage d question asked is going chain step lost) = offers_show n k turns now.context
+        (stepped_next turns stage (record now { kdc = asked }) d.nego_tokens (Ask question) now.context
         (chain_offers kdc turns stage none going chain) step.asked step.walked)

@@ -15,6 +15,7 @@ use Rattle.sspi_mech.specs.declared.step.Step.{Step}
 use Rattle.sspi_mech.specs.Calls.{StepArgs, Counts, one_verification}
 use Rattle.sspi_mech.specs.Laws.{IsMechanism}
 use Rattle.sspi_mech.specs.Meaning.{Meaning}
+use Rattle.sspi_tsreq.specs.declared.request.TsRequest.{TsRequest}
 use Rattle.sspi_mech.specs.Settings.{Setting}
 use Rattle.sspi_negotiate.specs.declared.protocol.NegotiatedProtocol.{NegotiatedProtocol}
 use Rattle.sspi_negotiate.specs.declared.state.NegotiateState.TheVariants as states
@@ -506,9 +507,10 @@ module _ {N K : Type 0} (r q : ℕ) (n : Meaning Setting N) (k : Meaning Setting
         map_on n k (Barred (Ask question)) (VerifiedOne n k) (λ s barred. absurd barred) m
         (walks_barred turns (client_at (either r n k) kdcs first stage) now.handle token 0 log (Ask question) m refl did h walked)
 
-    pub left_claims : (kdc : D) (turns : List Turn) (now : ClientStage (SspiContext N K) D) → first.context ≡ None → OthersGoOn turns →
-        EachClientTurn (either r n k) end turns → ClientChainLeft (either r n k) kdcs first kdc turns now → Claims turns now
-    left_claims kdc turns now none others each (at_rest chain) = rest_claims kdc turns now none others each chain
-    left_claims kdc turns now none others each (waiting stage token question asked going chain step lost) =
-        λ did known. waiting_claims turns stage now token question step.asked now.context
+    pub left_claims : (due : TsRequest → Type 0) (kdc : D) (turns : List Turn) (now : ClientStage (SspiContext N K) D) →
+        first.context ≡ None → OthersGoOn turns →
+        EachClientTurn (either r n k) end turns → ClientChainLeft (either r n k) kdcs first due kdc turns now → Claims turns now
+    left_claims due kdc turns now none others each (at_rest chain) = rest_claims kdc turns now none others each chain
+    left_claims due kdc turns now none others each (waiting stage d question asked is going chain step lost) =
+        λ did known. waiting_claims turns stage now d.nego_tokens question step.asked now.context
         (chain_guards kdc turns stage none going each chain) did step.walked

@@ -30,13 +30,13 @@ module _ {C D : Type 0} (c : Meaning ContextSetting C) (k : KdcCalls D) where
   history_goes first now kdc kdc2 (t ∷ past) un h =
       (made_goes h.0 h.3.mid h.1 kdc2 t.delivered t.outcome h.3.makes un.0, history_goes first h.0 kdc h.1 past un.1 h.2)
 
-  pub history_played : {X : Type 0} (result : Result X DelegateError) (first now : ClientView C) (kdc kdc2 : D) (turns : List Turn) →
-      ClientHistory c k first kdc turns now kdc2 → ClientPlayed c k first kdc result turns now kdc2
-  history_played (Ok done) first now kdc kdc2 turns h = h
-  history_played (Err error) first now kdc kdc2 turns h = between h
+  pub history_played : {X : Type 0} (due : TsRequest → Type 0) (result : Result X DelegateError) (first now : ClientView C) (kdc kdc2 : D)
+      (turns : List Turn) → ClientHistory c k first kdc turns now kdc2 → ClientPlayed c k due first kdc result turns now kdc2
+  history_played due (Ok done) first now kdc kdc2 turns h = h
+  history_played due (Err error) first now kdc kdc2 turns h = between h
 
-  pub stopped_played : {X : Type 0} (result : Result X DelegateError) (first now : ClientView C) (kdc kdc2 : D) (error : Error)
-      (turns : List Turn) →
-      ClientStopped c k first kdc error turns now kdc2 → ClientPlayed c k first kdc result turns now kdc2
-  stopped_played result first now kdc kdc2 error turns s =
-      history_played result first now kdc kdc2 turns (client_stopped_history c k first now kdc kdc2 error turns s)
+  pub stopped_played : {X : Type 0} (due : TsRequest → Type 0) (result : Result X DelegateError) (first now : ClientView C) (kdc kdc2 : D)
+      (error : Error) (turns : List Turn) →
+      ClientStopped c k first kdc error turns now kdc2 → ClientPlayed c k due first kdc result turns now kdc2
+  stopped_played due result first now kdc kdc2 error turns s =
+      history_played due result first now kdc kdc2 turns (client_stopped_history c k first now kdc kdc2 error turns s)

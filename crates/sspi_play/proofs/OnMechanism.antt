@@ -28,6 +28,7 @@ use Rattle.sspi_play.specs.Faithful.{signings_in, verifications_in}
 use Rattle.sspi_play.specs.Kept.{kept_list}
 use Rattle.sspi_play.specs.Negotiated.{HasOffered, HasRead, IsPickOf, NegotiatesIfFaithful, VerifiesFirst}
 use Rattle.sspi_play.specs.Played.{Both, Accounts, IsPlay}
+use Rattle.sspi_play.specs.Plays.{IsNext}
 use Rattle.sspi_play.proofs.ClientOffers.{ShowsOffered, left_offers}
 use Rattle.sspi_play.proofs.ClientVerifies.{Claims, left_claims, verified_in, some_proved, sealed_proved}
 use Rattle.sspi_play.proofs.Marks.{is_marked}
@@ -97,16 +98,17 @@ module _ {N K : Type 0} (r q : ℕ) (n : Meaning Setting N) (k : Meaning Setting
   module _ {P D : Type 0} (p : ProxyMeaning P) (kdcs : KdcCalls D) where
     pub negotiates_if_faithful : (schedule : List Delivery) (old new : Both (SspiContext N K) P D)
         (result : Result Played DelegateError) → IsFreshClient old.client → IsFreshServer old.server →
-        IsPlay (either r n k) p kdcs old result new → Accounts (either r n k) p kdcs schedule old result new →
+        IsPlay (either r n k) p kdcs schedule old result new → Accounts (either r n k) p kdcs schedule old result new →
         NegotiatesIfFaithful r n k (client_end new.client) (server_end new.server) old.server.settings.mode new.turns
     negotiates_if_faithful schedule old new result client_fresh server_fresh play accounts =
         let law = lawful r q n k ln lk in
+        let due = IsNext schedule new.turns in
         let offers : ShowsOffered n k (client_turns new.turns) new.client.context =
-        left_offers r q n k ln lk kdcs old.client old.kdc (client_turns new.turns) (client_stage new.client new.kdc) client_fresh.context
-        play.client_ran.others
-        (client_past_chained (either r n k) kdcs old.client law client_fresh new.client old.kdc new.kdc (client_turns new.turns)
+        left_offers r q n k ln lk kdcs old.client due old.kdc (client_turns new.turns) (client_stage new.client new.kdc)
+        client_fresh.context play.client_ran.others
+        (client_past_chained (either r n k) kdcs old.client law client_fresh due new.client old.kdc new.kdc (client_turns new.turns)
         (Err errors.InsufficientMemory) play.client_ran.others
-        (played_left (either r n k) kdcs result old.client new.client old.kdc new.kdc (client_turns new.turns)
+        (played_left (either r n k) kdcs due result old.client new.client old.kdc new.kdc (client_turns new.turns)
         accounts.client_turns_are_its_calls)) in
         let shows : Shows r q n k ln lk old.server.settings.mode (server_turns new.turns) new.server.context =
         chain_shows r q n k ln lk p old.server (server_turns new.turns) (server_stage new.server) server_fresh.context
@@ -126,18 +128,19 @@ module _ {N K : Type 0} (r q : ℕ) (n : Meaning Setting N) (k : Meaning Setting
         }
 
     pub verifies_first : (schedule : List Delivery) (old new : Both (SspiContext N K) P D) (result : Result Played DelegateError) →
-        IsFreshClient old.client → IsFreshServer old.server → IsPlay (either r n k) p kdcs old result new →
+        IsFreshClient old.client → IsFreshServer old.server → IsPlay (either r n k) p kdcs schedule old result new →
         Accounts (either r n k) p kdcs schedule old result new →
         VerifiesFirst r n k p new.client old.server (server_end new.server) new.turns
     verifies_first schedule old new result client_fresh server_fresh play accounts =
         let law = lawful r q n k ln lk in
+        let due = IsNext schedule new.turns in
         let claims : Claims r q n k ln lk kdcs old.client (client_end new.client) (client_turns new.turns)
         (client_stage new.client new.kdc) =
-        left_claims r q n k ln lk kdcs old.client (client_end new.client) old.kdc (client_turns new.turns)
+        left_claims r q n k ln lk kdcs old.client (client_end new.client) due old.kdc (client_turns new.turns)
         (client_stage new.client new.kdc) client_fresh.context play.client_ran.others play.client_ran.each
-        (client_past_chained (either r n k) kdcs old.client law client_fresh new.client old.kdc new.kdc (client_turns new.turns)
+        (client_past_chained (either r n k) kdcs old.client law client_fresh due new.client old.kdc new.kdc (client_turns new.turns)
         (Err errors.InsufficientMemory) play.client_ran.others
-        (played_left (either r n k) kdcs result old.client new.client old.kdc new.kdc (client_turns new.turns)
+        (played_left (either r n k) kdcs due result old.client new.client old.kdc new.kdc (client_turns new.turns)
         accounts.client_turns_are_its_calls)) in
         let server_claims = server_left_claims r q n k ln lk p old.server (server_end new.server)
         (server_turns new.turns) (server_stage new.server) server_fresh.context play.server_ran.others play.server_ran.each

@@ -3,6 +3,7 @@ use Rattle.std.proofs.Common.{◌≡◌, List, [], ◌∷◌, length, reverse, t
 use Rattle.std.proofs.Common.{subst}
 use Rattle.sspi_mech.specs.Context.{IsContext}
 use Rattle.sspi_mech.specs.Meaning.{Meaning}
+use Rattle.sspi_tsreq.specs.declared.request.TsRequest.{TsRequest}
 use Rattle.sspi_names.specs.declared.identity.AuthIdentity.{AuthIdentity}
 use Rattle.sspi_credssp.specs.Ends.{ClientSettings, ClientView, IsFreshClient, ServerView, IsFreshServer}
 use Rattle.sspi_credssp.specs.Context.{ContextSetting}
@@ -25,7 +26,7 @@ use Rattle.sspi_play.specs.Agreement.{OpensBehindTag, AgreesIfFaithful}
 use Rattle.sspi_play.specs.History.{ClientPlayed, ClientPlayedChain, Gave, GaveIn, IfRefused}
 use Rattle.sspi_play.specs.Kept.{identity_of}
 use Rattle.sspi_play.specs.Played.{Both, PlaysBy, Accounts, IsPlay}
-use Rattle.sspi_play.specs.Plays.{Plays, last_refusal, first_unread}
+use Rattle.sspi_play.specs.Plays.{Plays, IsNext, last_refusal, first_unread}
 use Rattle.sspi_play.proofs.Agreed.{agreement}
 use Rattle.sspi_play.proofs.Histories.{history_goes}
 use Rattle.sspi_play.proofs.Order.{others_of}
@@ -46,24 +47,25 @@ module _ {C D : Type 0} (c : Meaning ContextSetting C) (k : KdcCalls D) where
   history_others first now kdc kdc2 [] un h = tt
   history_others first now kdc kdc2 (t ∷ past) un h = history_goes c k first h.0 kdc h.1 past un h.2
 
-  left_others : (first now : ClientView C) (kdc kdc2 : D) (turns : List Turn) → OthersUnrefused turns →
-      ClientLeft c k first kdc turns now kdc2 → OthersGoOn turns
-  left_others first now kdc kdc2 turns un (between h) = history_others first now kdc kdc2 turns un h
-  left_others first now kdc kdc2 turns un (waiting old kdc1 d went h way) = going_others turns went
+  left_others : (due : TsRequest → Type 0) (first now : ClientView C) (kdc kdc2 : D) (turns : List Turn) → OthersUnrefused turns →
+      ClientLeft c k due first kdc turns now kdc2 → OthersGoOn turns
+  left_others due first now kdc kdc2 turns un (between h) = history_others first now kdc kdc2 turns un h
+  left_others due first now kdc kdc2 turns un (waiting old kdc1 d is went h way) = going_others turns went
 
-  pub played_left : (result : Result Played DelegateError) (first now : ClientView C) (kdc kdc2 : D) (turns : List Turn) →
-      ClientPlayed c k {X = Played} first kdc result turns now kdc2 → ClientLeft c k first kdc turns now kdc2
-  played_left (Ok played) first now kdc kdc2 turns h = between h
-  played_left (Err error) first now kdc kdc2 turns h = h
+  pub played_left : (due : TsRequest → Type 0) (result : Result Played DelegateError) (first now : ClientView C) (kdc kdc2 : D)
+      (turns : List Turn) → ClientPlayed c k {X = Played} due first kdc result turns now kdc2 → ClientLeft c k due first kdc turns now kdc2
+  played_left due (Ok played) first now kdc kdc2 turns h = between h
+  played_left due (Err error) first now kdc kdc2 turns h = h
 
 module _ {C P D : Type 0} (c : Meaning ContextSetting C) (law : IsContext c) (p : ProxyMeaning P) (k : KdcCalls D) where
-  played_chained : (result : Result Played DelegateError) (first now : ClientView C) (kdc kdc2 : D) (turns : List Turn) →
-      IsFreshClient first → OthersGoOn turns → ClientPlayed c k {X = Played} first kdc result turns now kdc2 →
-      ClientPlayedChain c k {X = Played} first kdc result turns (client_stage now kdc2)
-  played_chained (Ok played) first now kdc kdc2 turns fresh others h =
+  played_chained : (due : TsRequest → Type 0) (result : Result Played DelegateError) (first now : ClientView C) (kdc kdc2 : D)
+      (turns : List Turn) → IsFreshClient first → OthersGoOn turns →
+      ClientPlayed c k {X = Played} due first kdc result turns now kdc2 →
+      ClientPlayedChain c k {X = Played} due first kdc result turns (client_stage now kdc2)
+  played_chained due (Ok played) first now kdc kdc2 turns fresh others h =
       client_chained c k first law fresh now kdc kdc2 turns others h
-  played_chained (Err error) first now kdc kdc2 turns fresh others h =
-      client_past_chained c k first law fresh now kdc kdc2 turns (Err errors.InsufficientMemory) others h
+  played_chained due (Err error) first now kdc kdc2 turns fresh others h =
+      client_past_chained c k first law fresh due now kdc kdc2 turns (Err errors.InsufficientMemory) others h
 
   client_is_refused : (schedule : List Delivery) (old new : Both C P D) (result : Result Played DelegateError) → IsFreshClient old.client →
       OthersGoOn (client_turns new.turns) → Accounts c p k schedule old result new →
@@ -88,15 +90,16 @@ module _ {C P D : Type 0} (c : Meaning ContextSetting C) (law : IsContext c) (p 
 
   pub is_play : (schedule : List Delivery) (old new : Both C P D) (result : Result Played DelegateError) → IsFreshClient old.client →
       IsFreshServer old.server →
-      Accounts c p k schedule old result new → IsPlay c p k old result new
+      Accounts c p k schedule old result new → IsPlay c p k schedule old result new
   is_play schedule old new result client_fresh server_fresh accounts =
       let plays = played_some schedule result new.turns accounts.the_turns_are_those_of_the_deliveries in
-      let left = played_left c k result old.client new.client old.kdc new.kdc
+      let due = IsNext schedule new.turns in
+      let left = played_left c k due result old.client new.client old.kdc new.kdc
       (client_turns new.turns) accounts.client_turns_are_its_calls in
-      let client_others = left_others c k old.client new.client old.kdc new.kdc (client_turns new.turns)
+      let client_others = left_others c k due old.client new.client old.kdc new.kdc (client_turns new.turns)
       (others_of Client plays.0 new.turns plays.1) left in
       let server_others = others_of Server plays.0 new.turns plays.1 in
-      let client = client_past_ran c law k old.client new.client old.kdc new.kdc (client_turns new.turns)
+      let client = client_past_ran c law k due old.client new.client old.kdc new.kdc (client_turns new.turns)
       (Err errors.InsufficientMemory) client_fresh client_others left in
       let server = server_past_ran c law p old.server new.server (server_turns new.turns)
       (Err errors.InsufficientMemory) server_fresh server_others
@@ -104,15 +107,15 @@ module _ {C P D : Type 0} (c : Meaning ContextSetting C) (law : IsContext c) (p 
       record {
         client_ran = client;
         server_ran = server;
-        client_heeds = client_past_heeds c law k old.client new.client old.kdc new.kdc (client_turns new.turns)
+        client_heeds = client_past_heeds c law k due old.client new.client old.kdc new.kdc (client_turns new.turns)
             (Err errors.InsufficientMemory)
             client_fresh client_others left;
         server_heeds = server_past_heeds c law p old.server new.server (server_turns new.turns) (Err errors.InsufficientMemory)
             server_fresh server_others accounts.server_turns_are_its_calls;
         credentials_are_sealed_at_most_once = sealed_once c (client_end new.client)
             (server_end new.server) new.turns client.each client_others server.each;
-        the_client_has_the_context_of_its_chain = played_chained result old.client new.client old.kdc new.kdc (client_turns new.turns)
-            client_fresh client_others accounts.client_turns_are_its_calls;
+        the_client_has_the_context_of_its_chain = played_chained due result old.client new.client old.kdc new.kdc
+            (client_turns new.turns) client_fresh client_others accounts.client_turns_are_its_calls;
         the_server_has_the_context_of_its_chain = server_past_chained c p old.server law server_fresh new.server
             (server_turns new.turns) (Err errors.InsufficientMemory) server_others accounts.server_turns_are_its_calls;
         a_refusal_of_the_client_has_its_cause = client_is_refused schedule old new result client_fresh client_others accounts;
@@ -135,7 +138,7 @@ module _ {C P D : Type 0} (c : Meaning ContextSetting C) (law : IsContext c) (p 
 
   pub agrees_if_faithful : (schedule : List Delivery) (old new : Both C P D)
       (result : Result Played DelegateError) → length old.client.settings.nonce ≡ 32 →
-      IsPlay c p k old result new → Accounts c p k schedule old result new → OpensBehindTag c →
+      IsPlay c p k schedule old result new → Accounts c p k schedule old result new → OpensBehindTag c →
       AgreesIfFaithful (client_end new.client) (server_end new.server) new.turns (identity_of result)
   agrees_if_faithful schedule old new result long play accounts tags = λ opens.
       agreement c (client_end new.client) (server_end new.server) tags p old.server new.server new.turns (identity_of result)

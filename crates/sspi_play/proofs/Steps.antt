@@ -21,9 +21,9 @@ use Rattle.sspi_play.specs.declared.hand.Standing.{Standing}
 use Rattle.sspi_play.specs.declared.played.Delivery.{Delivery}
 use Rattle.sspi_play.specs.declared.played.Ending.{Ending}
 use Rattle.sspi_play.specs.declared.played.Ending.TheVariants.{Running, Refused, Unread}
-use Rattle.sspi_play.specs.Hands.{RequestIs, EndsBy, TurnsSo, EndsSo, LacksSo, ClientHands, ServerHands, Stands, StopsAt}
+use Rattle.sspi_play.specs.Hands.{RequestIs, IsLeft, EndsBy, TurnsSo, EndsSo, LacksSo, ClientHands, ServerHands, Stands, StopsAt}
 use Rattle.sspi_play.specs.Plays.{IsNoWant, any_for, is_start, unread_kind, refusal_in, ending_by, ending_of, IsGiven, Plays, begins}
-use Rattle.sspi_play.specs.Plays.{takes, passes}
+use Rattle.sspi_play.specs.Plays.{takes, passes, IsTaken}
 use Rattle.sspi_play.specs.Played.{PlaysFront}
 use Rattle.sspi_play.proofs.Order.{reverse_more, reverse_all, still_runs, is_unread, stays, server_apart, client_apart, client_after}
 use Rattle.sspi_play.proofs.Order.{server_after, server_beside, client_beside}
@@ -204,6 +204,22 @@ client_stops d past start error turns new standing to started running h stands =
       (subst (λ (s : Bool). TurnsSo Client s d.bytes (IsClientRefusal kinds.InsufficientMemory) turns new)
       (started ∙ ap not stands.begun) turn) stands.plays)
 ]
+
+-- what a delivery to the client has, of which no turn was made
+pub left_taken : (d : Delivery) (past : List Delivery) (start : Bool) (turns new : List Turn) (standing : Standing) (request : TsRequest) →
+    d.to ≡ Client →
+    start ≡ not standing.begun → standing.played.client ≡ Running → Stands past turns standing →
+    IsLeft start d.bytes turns new request → IsTaken d past new request
+left_taken d past start turns new standing request to started running stands left =
+    let read : RequestIs (is_start Client past) d.bytes (Ok request) =
+    subst (λ (s : Bool). RequestIs s d.bytes (Ok request)) (started ∙ ap not stands.begun) left.0 in
+    subst (λ (l : List Turn). IsTaken d past l request) (sym left.1)
+    (record {
+      plays = stands.plays;
+      to = to;
+      runs = still_runs Client d past turns to (sym stands.client ∙ running) read.1;
+      given = read.0;
+    })
 
 -- ---- a delivery to the server
 

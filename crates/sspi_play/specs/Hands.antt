@@ -36,6 +36,10 @@ RequestIs start bytes (Err wire.ReadFault) = ⊥
 RequestIs start bytes (Err wire.WriteFault) = ⊥
 RequestIs start bytes (Err wire.InsufficientMemory) = Unit {0}
 
+-- the request of a delivery of which no turn was made
+abbrev pub IsLeft : Bool → List ℕ → List Turn → List Turn → TsRequest → Type 0
+IsLeft start bytes old new request = RequestIs start bytes (Ok request) × (new ≡ old)
+
 -- an end that refused with this kind stands so, but want of memory ends the play
 abbrev pub EndsBy : ErrorKind → Result Ending DelegateError → Type 0
 EndsBy kind (Ok ending) = (ending ≡ Refused kind) × (kind ≢ kinds.InsufficientMemory)

@@ -2,6 +2,7 @@
 use Rattle.std.specs.Prelude.{◌≡◌, false, List, ◌∷◌, ◌++◌, Option, None, Some, Result, Ok, Err}
 use Rattle.sspi_types.specs.declared.error.Error.{Error}
 use Rattle.sspi_mech.specs.Meaning.{Meaning}
+use Rattle.sspi_tsreq.specs.declared.request.TsRequest.{TsRequest}
 use Rattle.sspi_names.specs.declared.identity.AuthIdentity.{AuthIdentity}
 use Rattle.sspi_credssp.specs.Ends.{ClientView, ServerView}
 use Rattle.sspi_credssp.specs.Context.{ContextSetting}
@@ -22,15 +23,18 @@ IfRefused endings.Running Q = Unit {0}
 IfRefused (endings.Unread kind) Q = Unit {0}
 
 module _ {C D : Type 0} (c : Meaning ContextSetting C) (k : KdcCalls D) where
-  -- the history of a client, by the answer: where there was no memory it may have been left waiting for its KDC
-  abbrev pub ClientPlayed : {X : Type 0} → ClientView C → D → Result X DelegateError → List Turn → ClientView C → D → Type 0
-  ClientPlayed first kdc (Ok done) turns now kdc2 = ClientHistory c k first kdc turns now kdc2
-  ClientPlayed first kdc (Err error) turns now kdc2 = ClientLeft c k first kdc turns now kdc2
+  -- the history of a client, by the answer: where there was no memory it may have been left waiting for its KDC, in a turn on what was
+  -- due
+  abbrev pub ClientPlayed : {X : Type 0} → (TsRequest → Type 0) → ClientView C → D → Result X DelegateError → List Turn →
+      ClientView C → D → Type 0
+  ClientPlayed due first kdc (Ok done) turns now kdc2 = ClientHistory c k first kdc turns now kdc2
+  ClientPlayed due first kdc (Err error) turns now kdc2 = ClientLeft c k due first kdc turns now kdc2
 
   -- the chain of a client's context, by the answer
-  abbrev pub ClientPlayedChain : {X : Type 0} → ClientView C → D → Result X DelegateError → List Turn → ClientStage C D → Type 0
-  ClientPlayedChain first kdc (Ok done) turns now = ClientChain c k first kdc turns now
-  ClientPlayedChain first kdc (Err error) turns now = ClientChainLeft c k first kdc turns now
+  abbrev pub ClientPlayedChain : {X : Type 0} → (TsRequest → Type 0) → ClientView C → D → Result X DelegateError → List Turn →
+      ClientStage C D → Type 0
+  ClientPlayedChain due first kdc (Ok done) turns now = ClientChain c k first kdc turns now
+  ClientPlayedChain due first kdc (Err error) turns now = ClientChainLeft c k first due kdc turns now
 
 module _ {C P : Type 0} (c : Meaning ContextSetting C) (p : ProxyMeaning P) where
   -- one of these turns of the server finished, and gave this identity; those behind it led to the server that is left

@@ -1,6 +1,6 @@
 -- What a schedule of deliveries makes of two ends: which turns, and how each end stands after them. Deliveries and turns are lists,
 -- the newest first.
-use Rattle.std.specs.Prelude.{◌≡◌, ◌≢◌, ◌||◌, ℕ, List, [], ◌∷◌, Option, None, Some, Bool, true, false, not, if◌then◌else◌}
+use Rattle.std.specs.Prelude.{◌≡◌, ◌≢◌, ◌||◌, ℕ, List, [], ◌∷◌, reverse, take, Option, None, Some, Bool, true, false, not, if◌then◌else◌}
 use Rattle.sspi_types.specs.declared.error_kind.ErrorKind.{ErrorKind}
 use Rattle.sspi_ber.specs.Pieces.{Fault, Ended, Invalid}
 use Rattle.sspi_ber.specs.declared.wire_kind.WireKind.{WireKind}
@@ -104,6 +104,21 @@ pub data Plays : List Delivery → List Turn → Type 0 where
       Plays (d ∷ past) (t ∷ turns)
   passes : (d : Delivery) (past : List Delivery) (turns : List Turn) → Plays past turns →
       ending_of d.to (d ∷ past) turns ≢ Running → Plays (d ∷ past) turns
+
+-- This delivery, behind those of which these turns were made, gives a client that still runs with it this request.
+pub record IsTaken (d : Delivery) (past : List Delivery) (turns : List Turn) (request : TsRequest) : Type 0 where
+  pub plays : Plays past turns
+  pub to : d.to ≡ Client
+  pub runs : ending_of Client (d ∷ past) turns ≡ Running
+  pub given : IsGiven (is_start Client past) d.bytes request
+
+-- the next delivery of the schedule, once these turns were made, gives the client this request
+pub record IsNext (schedule : List Delivery) (turns : List Turn) (request : TsRequest) : Type 0 where
+  pub handed : ℕ
+  pub delivery : Delivery
+  pub past : List Delivery
+  pub front : reverse (take handed schedule) ≡ delivery ∷ past
+  pub taken : IsTaken delivery past turns request
 
 -- no end stands refused for want of memory
 abbrev pub IsNoWant : Ending → Type 0

@@ -5,8 +5,10 @@ ghost use Rattle.sspi_delegate.specs.Chain.{kdc_calls};
 ghost use Rattle.sspi_delegate.specs.Turns.{client_turns, server_turns, AllGoOn};
 ghost use Rattle.sspi_delegate.specs.History.{ClientHistory, ServerHistory, KdcStays, ProxyStays};
 ghost use Rattle.sspi_play.specs.declared.played.Delivery.{Delivery};
-ghost use Rattle.sspi_play.specs.Hands.{RequestIs, EndsBy, ClientHands, ServerHands, Stands, StopsAt, ServerHandPast, ServerHandMade};
+ghost use Rattle.sspi_play.specs.Hands.{RequestIs, IsLeft, EndsBy, ClientHands, ServerHands, Stands, StopsAt};
+ghost use Rattle.sspi_play.specs.Hands.{ServerHandPast, ServerHandMade};
 ghost use Rattle.sspi_play.specs.History.{ClientPlayed, Gave};
+ghost use Rattle.sspi_play.specs.Plays.{IsTaken};
 
 use crate::played::{Delivery, Ending, Played};
 use sspi_ber::WireKind;
@@ -67,7 +69,8 @@ fn hand_client<N: Mechanism, K: Mechanism, D: Kdc>(
     ensures history { let c = either N.REQUESTS N.meaning K.meaning in let k = kdc_calls D.told D.asked D.faults in
         (first : ClientView (SspiContext N K)) (kdc_first : D) → AllGoOn (client_turns transcript.old.turns) →
         ClientHistory c k first kdc_first (client_turns transcript.old.turns) client.old kdc.old →
-        ClientPlayed c k first kdc_first result (client_turns transcript.new.turns) client.new kdc.new }
+        ClientPlayed c k (IsLeft start bytes.now transcript.old.turns transcript.new.turns) first kdc_first result
+        (client_turns transcript.new.turns) client.new kdc.new }
     ensures server { server_turns transcript.new.turns ≡ server_turns transcript.old.turns }
     ensures kdc { KdcStays D.told D.faults kdc.old kdc.new }
 {
@@ -134,7 +137,8 @@ pub(crate) fn hand<N: Mechanism, K: Mechanism, C: CredentialsProxy, D: Kdc>(
     ensures client_history { let c = either N.REQUESTS N.meaning K.meaning in let k = kdc_calls D.told D.asked D.faults in
         (first : ClientView (SspiContext N K)) (kdc_first : D) (past : List Delivery) → Stands past transcript.old.turns standing.old →
         ClientHistory c k first kdc_first (client_turns transcript.old.turns) client.old kdc.old →
-        ClientPlayed c k first kdc_first result (client_turns transcript.new.turns) client.new kdc.new }
+        ClientPlayed c k (IsTaken delivery.now past transcript.new.turns) first kdc_first result
+        (client_turns transcript.new.turns) client.new kdc.new }
     ensures server_history { let c = either N.REQUESTS N.meaning K.meaning in (first : ServerView (SspiContext N K) C) →
         ServerHistory c C.meaning first (server_turns transcript.old.turns) server.old →
         ServerHistory c C.meaning first (server_turns transcript.new.turns) server.new }

@@ -26,7 +26,7 @@ use std::alloc::Global;
 /// Ok says how each end stands, and the identity that the server opened. The only error is `InsufficientMemory`, that of an end
 /// or of the KDC among it. The transcript lets go of the turns that it held before. Whatever the answer, it then has each turn that
 /// was made, a refused one too, in the order of the deliveries, and both ends are as their last turn left them; where there was no
-/// memory for a reply of the KDC, the client waits for it in one further turn, which has no record.
+/// memory for a reply of the KDC, the client waits for it in one further turn, on the next delivery, which has no record.
 ///
 /// `accounts` speaks of any ends, `plays` and what follows it of ends to which nothing was delivered since they were made, by
 /// whatever version and least version; `agrees` and `negotiates` have premises of their own, which `specs/Agreement.antt`,
@@ -46,7 +46,7 @@ pub fn play<N: Mechanism, K: Mechanism, C: CredentialsProxy, D: Kdc>(
         (both client.new server.new kdc.new transcript.new.turns) }
     // Of ends that were just made.
     ensures plays { IsFresh client.old server.old → IsPlay (either N.REQUESTS N.meaning K.meaning) C.meaning
-        (kdc_calls D.told D.asked D.faults) (both client.old server.old kdc.old []) result
+        (kdc_calls D.told D.asked D.faults) schedule.now (both client.old server.old kdc.old []) result
         (both client.new server.new kdc.new transcript.new.turns) }
     ensures agrees { IsFresh client.old server.old → OpensBehindTag (either N.REQUESTS N.meaning K.meaning) →
         AgreesIfFaithful (client_end client.new) (server_end server.new) transcript.new.turns (identity_of result) }

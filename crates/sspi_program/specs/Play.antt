@@ -45,8 +45,8 @@ pub record HasPlay (r : Record) : Type 0 where
   pub outcome_is : r.outcome ≡ outcomes.Played answer
   pub accounts : Accounts plain_meaning table_meaning (calls_of_kdc around) r.scenario.deliver
       (both client server (kdc_in r.scenario) []) answer (both r.client.value r.server.value r.kdc r.transcript.turns)
-  pub plays : IsPlay plain_meaning table_meaning (calls_of_kdc around) (both client server (kdc_in r.scenario) []) answer
-      (both r.client.value r.server.value r.kdc r.transcript.turns)
+  pub plays : IsPlay plain_meaning table_meaning (calls_of_kdc around) r.scenario.deliver
+      (both client server (kdc_in r.scenario) []) answer (both r.client.value r.server.value r.kdc r.transcript.turns)
   -- the plain mechanisms open what stands behind a tag, so that is no premise
   pub agrees : AgreesIfFaithful (client_end r.client.value) (server_end r.server.value) r.transcript.turns (identity_of answer)
   pub negotiates : NegotiatesIfFaithful 0 ntlm_meaning kerberos_meaning (client_end r.client.value) (server_end r.server.value)

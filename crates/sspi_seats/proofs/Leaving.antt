@@ -77,8 +77,8 @@ module _ {C D : Type 0} (c : Meaning ContextSetting C) (k : KdcCalls D) (first n
       AreClients turns → OthersGoOn turns → ClientCame c k first kdc out turns now kdc2 → ClientRuns c k first kdc out turns now kdc2
   runs_by law p server out fresh own others came =
       let history = came_history out came in
-      let ran = client_past_ran c law k first now kdc kdc2 turns (Err errors.TurnsSpent) fresh others history in
-      let heeds = client_past_heeds c law k first now kdc kdc2 turns (Err errors.TurnsSpent) fresh others history in
+      let ran = client_past_ran c law k (λ d. ⊥) first now kdc kdc2 turns (Err errors.TurnsSpent) fresh others history in
+      let heeds = client_past_heeds c law k (λ d. ⊥) first now kdc kdc2 turns (Err errors.TurnsSpent) fresh others history in
       record {
         client_ran = ran;
         client_heeds = heeds;

@@ -27,7 +27,7 @@ returns-clause-matched g c matching calm =
     let made = c.delegate.ensures.delegates fresh in
     let stays = c.delegate.ensures.stays in
     let settled = settled_plainly g.D.Kdc.told g.D.Kdc.asked g.D.Kdc.faults laws g.C.CredentialsProxy.meaning
-    c.args.client.now c.args.server.now c.args.kdc.now fresh.client_is fresh.server_is matching _ _ _ _ c.args.limit c.delegate.new.client
+    c.args.client.now c.args.server.now c.args.kdc.now fresh.client_is fresh.server_is matching _ _ _ _ _ c.args.limit c.delegate.new.client
     c.delegate.new.server _ _ _ _ _ calm.link made.accounts.turns_and_log_show_the_answer stays.the_link_tells_what_it_told
     stays.the_link_fails_where_its_edits_say_so
     made.accounts.client_turns_are_its_calls (server_past_history

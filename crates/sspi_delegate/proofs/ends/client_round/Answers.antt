@@ -38,7 +38,7 @@ returns-in-Refused-clause-client_history g c first kdc_first went history =
 
 pub returns-in-Lost-clause-client_history : goal.returns-in-Lost-clause-client_history
 returns-in-Lost-clause-client_history g c first kdc_first went history =
-    rw c.in-Ok.ensures.turns (waiting c.args.client.now c.args.kdc.now c.args.request went history c.in-Lost.ensures.turn)
+    rw c.in-Ok.ensures.turns (waiting c.args.client.now c.args.kdc.now c.args.request refl went history c.in-Lost.ensures.turn)
 
 pub returns-in-Answered-ReplyNeeded-clause-made : goal.returns-in-Answered-ReplyNeeded-clause-made
 returns-in-Answered-ReplyNeeded-clause-made g c =
@@ -70,4 +70,4 @@ returns-in-Refused-clause-made g c =
     (rw (← c.in-Ok.ensures.turns, ← c.in-Ok-clone.ensures) c.record_client-in-Refused.ensures.turn)
 
 pub returns-in-Lost-clause-made : goal.returns-in-Lost-clause-made
-returns-in-Lost-clause-made g c = waiting c.args.client.now c.args.kdc.now c.args.request tt (refl, refl) c.in-Lost.ensures.turn
+returns-in-Lost-clause-made g c = waiting c.args.client.now c.args.kdc.now c.args.request refl tt (refl, refl) c.in-Lost.ensures.turn

@@ -40,10 +40,10 @@ returns-clause-delegates g c fresh =
     let client_past = c.rounds.ensures.client_history c.clear.ensures in
     let server_past = c.rounds.ensures.server_history c.clear.ensures in
     let order = run_order _ _ _ _ _ _ _ cause in
-    let client = client_past_ran m law k _ _ _ _ _ result fresh.client_is (clients_others turns order) client_past in
+    let client = client_past_ran m law k _ _ _ _ _ _ result fresh.client_is (clients_others turns order) client_past in
     let server = server_past_ran m law g.C.CredentialsProxy.meaning _ _ _ result fresh.server_is
     (others_unrefused _ (servers_others turns order)) server_past in
-    let client_heeds = client_past_heeds m law k _ _ _ _ _ result fresh.client_is (clients_others turns order) client_past in
+    let client_heeds = client_past_heeds m law k _ _ _ _ _ _ result fresh.client_is (clients_others turns order) client_past in
     let server_heeds = server_past_heeds m law g.C.CredentialsProxy.meaning _ _ _ result fresh.server_is
     (others_unrefused _ (servers_others turns order)) server_past in
     record {
@@ -63,13 +63,13 @@ returns-clause-delegates g c fresh =
       both_proofs_came_before_ok = exchanged_ok m _ _ _ _ _ _ _ cause _ server.each;
       no_call_of_the_proxy_before_ok_was_to_fail =
           ok_asked m g.C.CredentialsProxy.meaning _ _ _ result turns _ _ _ _ fresh.server_is cause (servers_others turns order) server_past;
-      the_client_has_the_context_of_its_chain = client_past_chained m k _ law fresh.client_is _ _ _ _ result
+      the_client_has_the_context_of_its_chain = client_past_chained m k _ law fresh.client_is _ _ _ _ _ result
           (clients_others turns order) client_past;
       the_server_has_the_context_of_its_chain =
           server_past_chained m g.C.CredentialsProxy.meaning _ law fresh.server_is _ _ result
           (others_unrefused _ (servers_others turns order)) server_past;
       a_refusal_has_its_cause =
-          past_refused m law g.C.CredentialsProxy.meaning k _ _ _ _ _ _ _ _ result
+          past_refused m law g.C.CredentialsProxy.meaning k _ _ _ _ _ _ _ _ _ result
           fresh.client_is fresh.server_is (clients_others turns order) (servers_others turns order) client_past server_past;
       accounts = returns-clause-accounts g c;
       stays = returns-clause-stays g c;

@@ -66,7 +66,8 @@ loop-turn-preserved g c = record {
       };
   client_history = λ empty.
       rw c.in_ok-credentials.ensures.client
-      (c.in_ok-client_half.ensures.client_history _ _ (c.loop-turn.invariant.at_turn empty).between.going
+      (c.in_ok-client_half.ensures.client_history _ _ _ _ (c.loop-turn.invariant.at_turn empty).next
+      (c.loop-turn.invariant.at_turn empty).between
       (c.loop-turn.invariant.client_history empty));
   server_history = λ empty.
       rw c.in_default.is at
@@ -92,8 +93,9 @@ returns-in_err-client_half-clause-client_history g c empty =
     let p = err_from_is_err_and c.from_residual.result c.from_residual.ensures.1 in
     rw (p.1, p.2)
     (client_half_past (either g.N.Mechanism.REQUESTS g.N.Mechanism.meaning g.K.Mechanism.meaning)
-    (kdc_calls g.D.Kdc.told g.D.Kdc.asked g.D.Kdc.faults) _ _ _ _ _ c.in_err-client_half.field-0.0
-    (c.in_err-client_half.ensures.client_history _ _ (c.loop-turn.invariant.at_turn empty).between.going
+    (kdc_calls g.D.Kdc.told g.D.Kdc.asked g.D.Kdc.faults) _ _ _ _ _ _ c.in_err-client_half.field-0.0
+    (c.in_err-client_half.ensures.client_history _ _ _ _ (c.loop-turn.invariant.at_turn empty).next
+    (c.loop-turn.invariant.at_turn empty).between
     (c.loop-turn.invariant.client_history empty)))
 
 pub returns-in_err-client_half-clause-server_history : goal.returns-in_err-client_half-clause-server_history
@@ -101,16 +103,18 @@ returns-in_err-client_half-clause-server_history g c empty =
     let p = err_from_is_err_and c.from_residual.result c.from_residual.ensures.1 in
     rw (p.1, p.2)
     (server_beside (either g.N.Mechanism.REQUESTS g.N.Mechanism.meaning g.K.Mechanism.meaning)
-    (kdc_calls g.D.Kdc.told g.D.Kdc.asked g.D.Kdc.faults) g.C.CredentialsProxy.meaning
+    (kdc_calls g.D.Kdc.told g.D.Kdc.asked g.D.Kdc.faults) _ g.C.CredentialsProxy.meaning
     _ _ _ _ _ c.in_err-client_half.field-0.0 _ _ _
-    (c.in_err-client_half.ensures.client_history _ _ (c.loop-turn.invariant.at_turn empty).between.going
+    (c.in_err-client_half.ensures.client_history _ _ _ _ (c.loop-turn.invariant.at_turn empty).next
+    (c.loop-turn.invariant.at_turn empty).between
     (c.loop-turn.invariant.client_history empty))
     (rw c.in_err-client_half.ensures.server (c.loop-turn.invariant.server_history empty)))
 
 pub returns-in-Some-clause-client_history : goal.returns-in-Some-clause-client_history
 returns-in-Some-clause-client_history g c empty =
     rw c.in_ok-credentials.ensures.client
-    (c.in_ok-client_half.ensures.client_history _ _ (c.loop-turn.invariant.at_turn empty).between.going
+    (c.in_ok-client_half.ensures.client_history _ _ _ _ (c.loop-turn.invariant.at_turn empty).next
+    (c.loop-turn.invariant.at_turn empty).between
     (c.loop-turn.invariant.client_history empty))
 
 pub returns-in-Some-clause-server_history : goal.returns-in-Some-clause-server_history
@@ -124,12 +128,13 @@ returns-in_err-credentials-clause-client_history g c empty =
     let p = err_from_is_err_and c.from_residual-in_err-credentials.result c.from_residual-in_err-credentials.ensures.1 in
     rw (p.1, p.2)
     (client_beside (either g.N.Mechanism.REQUESTS g.N.Mechanism.meaning g.K.Mechanism.meaning)
-    (kdc_calls g.D.Kdc.told g.D.Kdc.asked g.D.Kdc.faults) g.C.CredentialsProxy.meaning
+    (kdc_calls g.D.Kdc.told g.D.Kdc.asked g.D.Kdc.faults) _ g.C.CredentialsProxy.meaning
     _ _ _ _ _ c.in_err-credentials.field-0.0 _ _ _
     (c.in_err-credentials.ensures.server_history c.args.server.now
     (rw c.in_ok-client_half.ensures.server (c.loop-turn.invariant.server_history empty)))
     (rw c.in_err-credentials.ensures.client
-    (c.in_ok-client_half.ensures.client_history _ _ (c.loop-turn.invariant.at_turn empty).between.going
+    (c.in_ok-client_half.ensures.client_history _ _ _ _ (c.loop-turn.invariant.at_turn empty).next
+    (c.loop-turn.invariant.at_turn empty).between
     (c.loop-turn.invariant.client_history empty))))
 
 pub returns-in_err-credentials-clause-server_history : goal.returns-in_err-credentials-clause-server_history

@@ -3,10 +3,11 @@ use Rattle.std.proofs.lemmas.Result.{err_from_is_err_and}
 use Rattle.sspi_credssp.specs.Context.{either}
 use Rattle.sspi_credssp.specs.declared.turn.End.TheVariants.{Client}
 use Rattle.sspi_delegate.specs.Chain.{kdc_calls}
+use Rattle.sspi_delegate.proofs.Histories.{left_due}
 use Rattle.sspi_play.proofs.Gives.{gave_on, gave_now}
 use Rattle.sspi_play.proofs.Histories.{history_goes}
 use Rattle.sspi_play.proofs.Order.{running_unrefused}
-use Rattle.sspi_play.proofs.Steps.{unread_stops, refused_stops, client_stands, client_passed, client_stops, server_stands}
+use Rattle.sspi_play.proofs.Steps.{unread_stops, refused_stops, left_taken, client_stands, client_passed, client_stops, server_stands}
 use Rattle.sspi_play.proofs.Steps.{server_finishes, server_passed, server_stops}
 use Rattle.sspi_play.proofs.hand.hand.Goals as goal
 
@@ -33,10 +34,14 @@ pub returns-in_err-ending-in-Running-clause-client_history : goal.returns-in_err
 returns-in_err-ending-in-Running-clause-client_history g c first kdc_first past stands history =
     let p = err_from_is_err_and c.from_residual.result c.from_residual.ensures.1 in
     rw p.1
+    (left_due (either g.N.Mechanism.REQUESTS g.N.Mechanism.meaning g.K.Mechanism.meaning)
+    (kdc_calls g.D.Kdc.told g.D.Kdc.asked g.D.Kdc.faults) _ _ first c.hand_client.new.client kdc_first c.hand_client.new.kdc _
+    (λ d left. left_taken c.args.delivery.now past _ c.args.transcript.now.turns _ c.args.standing.now d c.in-Client.is refl
+    c.in-Running.is stands left)
     (c.in_err-ending-in-Running.ensures.history first kdc_first
     (history_goes (either g.N.Mechanism.REQUESTS g.N.Mechanism.meaning g.K.Mechanism.meaning)
     (kdc_calls g.D.Kdc.told g.D.Kdc.asked g.D.Kdc.faults) _ _ _ _ _
-    (running_unrefused Client past _ stands.plays (sym stands.client ∙ c.in-Running.is)) history) history)
+    (running_unrefused Client past _ stands.plays (sym stands.client ∙ c.in-Running.is)) history) history))
 
 pub returns-in-Refused-clause-stands : goal.returns-in-Refused-clause-stands
 returns-in-Refused-clause-stands g c past stands =

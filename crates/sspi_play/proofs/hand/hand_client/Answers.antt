@@ -1,9 +1,11 @@
-use Rattle.std.proofs.Common.{refl, rules}
+use Rattle.std.proofs.Common.{◌≡◌, refl, rules}
 use Rattle.sspi_credssp.specs.Context.{either}
 use Rattle.sspi_credssp.specs.declared.turn.End.TheVariants.{Client}
 use Rattle.sspi_delegate.specs.Chain.{kdc_calls}
 use Rattle.sspi_delegate.specs.Log.{IsClientRefusal}
 use Rattle.sspi_delegate.specs.Turns.{GoesOn}
+use Rattle.sspi_delegate.proofs.Histories.{left_due}
+use Rattle.sspi_play.specs.Hands.{IsLeft}
 use Rattle.sspi_play.proofs.Histories.{stopped_played}
 use Rattle.sspi_play.proofs.Steps.{unread_is, pushed_turn, client_ended}
 use Rattle.sspi_play.proofs.hand.hand_client.Goals as goal
@@ -25,5 +27,14 @@ pub returns-in-Refused-clause-history : goal.returns-in-Refused-clause-history
 returns-in-Refused-clause-history g c first kdc_first going history =
     stopped_played (either g.N.Mechanism.REQUESTS g.N.Mechanism.meaning g.K.Mechanism.meaning)
     (kdc_calls g.D.Kdc.told g.D.Kdc.asked g.D.Kdc.faults)
+    (IsLeft c.args.start c.args.bytes.now c.args.transcript.now.turns c.client_round.new.transcript.turns)
     c.ending_by.result first c.client_round.new.client kdc_first c.client_round.new.kdc c.in-Refused.error _
     (c.in-Refused.ensures.client_history first kdc_first going history)
+
+pub returns-in-Lost-clause-history : goal.returns-in-Lost-clause-history
+returns-in-Lost-clause-history g c first kdc_first going history =
+    left_due (either g.N.Mechanism.REQUESTS g.N.Mechanism.meaning g.K.Mechanism.meaning)
+    (kdc_calls g.D.Kdc.told g.D.Kdc.asked g.D.Kdc.faults) (λ d. d ≡ c.in-Ok.request)
+    (IsLeft c.args.start c.args.bytes.now c.args.transcript.now.turns c.client_round.new.transcript.turns)
+    first c.client_round.new.client kdc_first c.client_round.new.kdc _ (λ d is. rw is (c.in-Ok.ensures, c.in-Lost.ensures.turn))
+    (c.in-Lost.ensures.client_history first kdc_first going history)

@@ -1,6 +1,9 @@
-use Rattle.std.proofs.Common.{List, sym, subst, refl, arith}
+use Rattle.std.proofs.Common.{List, ◌+◌, take, reverse, sym, subst, refl, arith}
 use Rattle.std.proofs.lemmas.Result.{err_from_is_err_and}
+use Rattle.sspi_credssp.specs.Context.{either}
+use Rattle.sspi_delegate.specs.Chain.{kdc_calls}
 use Rattle.sspi_delegate.proofs.Asking.{kdc_on}
+use Rattle.sspi_delegate.proofs.Histories.{left_due}
 use Rattle.sspi_delegate.proofs.Refusing.{proxy_on}
 use Rattle.sspi_play.specs.declared.played.Delivery.{Delivery}
 use Rattle.sspi_play.specs.Hands.{Stands}
@@ -44,7 +47,17 @@ returns-in_err-hand-clause-accounts g c empty =
           front_of c.args.schedule.now c.loop-delivery.delivery-index c.delivery-item.result _ c.loop-delivery-test.true c.delivery-item.is
           (c.in_err-hand.ensures.stops _ (at.stands empty));
       deliveries_and_turns_say_how_the_ends_stand = tt;
-      client_turns_are_its_calls = c.in_err-hand.ensures.client_history _ _ _ (at.stands empty) (at.client_history empty);
+      client_turns_are_its_calls = left_due (either g.N.Mechanism.REQUESTS g.N.Mechanism.meaning g.K.Mechanism.meaning)
+          (kdc_calls g.D.Kdc.told g.D.Kdc.asked g.D.Kdc.faults) _ _ _ c.hand.new.client _ c.hand.new.kdc _
+          (λ d taken. record {
+            handed = c.loop-delivery.delivery-index + 1;
+            delivery = c.delivery-item.result;
+            past = reverse (take c.loop-delivery.delivery-index c.args.schedule.now);
+            front = reverse_more c.args.schedule.now c.loop-delivery.delivery-index c.delivery-item.result c.loop-delivery-test.true
+                c.delivery-item.is;
+            taken = taken;
+          })
+          (c.in_err-hand.ensures.client_history _ _ _ (at.stands empty) (at.client_history empty));
       server_turns_are_its_calls = c.in_err-hand.ensures.server_history _ (at.server_history empty);
       the_identity_is_that_of_the_turn_that_finished = tt;
     })

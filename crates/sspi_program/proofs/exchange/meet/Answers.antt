@@ -57,7 +57,7 @@ returns-clause-exchange c ends link_is held =
     λ matching. subst (λ (n : ℕ). Settled n s.turns (delegated_as client.settings.delegation (user_identity s)) answer)
     (match_messages s client server kdc client_named server_named ends.kdc held matching)
     (settled_plainly told_replies kdc_asked kdc_faults laws table_meaning client server kdc client_fresh server_fresh
-    (ends_match s client server kdc client_named server_named ends.kdc held matching) _ _ _ _ s.turns made.client made.server _ _ _ _ _
+    (ends_match s client server kdc client_named server_named ends.kdc held matching) _ _ _ _ _ s.turns made.client made.server _ _ _ _ _
     (unedited_link s c.args.link made.link.log made.link.faults link_is matching)
     delegates.accounts.turns_and_log_show_the_answer stays.the_link_tells_what_it_told stays.the_link_fails_where_its_edits_say_so
     delegates.accounts.client_turns_are_its_calls server_history
