@@ -21,9 +21,9 @@ use Rattle.sspi_play.specs.declared.hand.Standing.{Standing}
 use Rattle.sspi_play.specs.declared.played.Delivery.{Delivery}
 use Rattle.sspi_play.specs.declared.played.Ending.{Ending}
 use Rattle.sspi_play.specs.declared.played.Ending.TheVariants.{Running, Refused, Unread}
-use Rattle.sspi_play.specs.Hands.{RequestIs, IsLeft, EndsBy, TurnsSo, EndsSo, LacksSo, ClientHands, ServerHands, Stands, StopsAt}
+use Rattle.sspi_play.specs.Hands.{RequestIs, IsLeft, EndsBy, HasTurn, TurnsSo, EndsSo, LacksSo, ClientHands, ServerHands, Stands, StopsAt}
 use Rattle.sspi_play.specs.Plays.{IsNoWant, any_for, is_start, unread_kind, refusal_in, ending_by, ending_of, IsGiven, Plays, begins}
-use Rattle.sspi_play.specs.Plays.{takes, passes, IsTaken}
+use Rattle.sspi_play.specs.Plays.{takes, passes, AllHadMemory, OthersHadMemory, IsTaken}
 use Rattle.sspi_play.specs.Played.{PlaysFront}
 use Rattle.sspi_play.proofs.Order.{reverse_more, reverse_all, still_runs, is_unread, stays, server_apart, client_apart, client_after}
 use Rattle.sspi_play.proofs.Order.{server_after, server_beside, client_beside}
@@ -94,6 +94,17 @@ server_refused_ending kind outcome.Finished is = absurd is
 server_refused_ending kind (outcome.Refused refused None) is = absurd is
 server_refused_ending kind (outcome.Refused refused (Some reply)) is = ap Refused is
 
+had_memory : (out : Outcome) (ending : Ending) → ending_by (refusal_in out) None ≡ ending → IsNoWant ending →
+    refusal_in out ≢ Some kinds.InsufficientMemory
+had_memory out ending is want = λ wanted.
+    let no : IsNoWant (Refused kinds.InsufficientMemory) =
+    subst IsNoWant (sym is ∙ ap (λ (r : Option ErrorKind). ending_by r None) wanted) want in
+    no refl
+
+others_had : (turns : List Turn) → AllHadMemory turns → OthersHadMemory turns
+others_had [] memory = tt
+others_had (t ∷ past) memory = memory.1
+
 -- ---- one more turn
 
 turn_plays : (end : End) (d : Delivery) (past : List Delivery) (t : Turn) (before turns : List Turn) → d.to ≡ end → before ≡ turns →
@@ -118,6 +129,16 @@ has_plays : (end : End) (d : Delivery) (past : List Delivery) (P : Outcome → T
     TurnsSo end (is_start end past) d.bytes P turns new → Plays past turns → Plays (d ∷ past) new
 has_plays end d past P turns [] to runs h plays = absurd h.1
 has_plays end d past P turns (t ∷ before) to runs h plays = turn_plays end d past t before turns to h.1.0 h.1.1 runs h.0 h.1.2 plays
+
+none_stops : (d : Delivery) (past : List Delivery) (turns new : List Turn) → new ≡ turns → Plays past turns → AllHadMemory turns →
+    StopsAt d past new
+none_stops d past turns new none plays memory =
+    subst (λ (l : List Turn). StopsAt d past l) (sym none) (inl plays, others_had turns memory)
+
+newest_had : (end : End) (start : Bool) (bytes : List ℕ) (P : Outcome → Type 0) (turns new : List Turn) →
+    HasTurn end start bytes P turns new → AllHadMemory turns → OthersHadMemory new
+newest_had end start bytes P turns [] h memory = tt
+newest_had end start bytes P turns (t ∷ before) h memory = rw h.0 memory
 
 pub unread_stops : (ending : Ending) (kind : WireKind) → ending ≡ Unread kind → ending ≢ Running
 unread_stops ending kind is runs = absurd (cc (is, runs))
@@ -144,6 +165,7 @@ client_turned d past P ending turns (t ∷ before) standing to running want by h
     let all = still_runs Client d past turns to runs h.0 in
     record {
       plays = turn_plays Client d past t before turns to h.1.0 h.1.1 runs h.0 h.1.2 stands.plays;
+      memory = (had_memory t.outcome ending (by t.outcome h.1.3) want, rw h.1.0 stands.memory);
       begun = begun_more d past to;
       client = subst (λ (l : List Turn). ending ≡ ending_of Client (d ∷ past) (t ∷ l)) (sym h.1.0)
           (sym (client_after (d ∷ past) t turns ending h.1.1 all (by t.outcome h.1.3)));
@@ -171,6 +193,7 @@ client_stands d past start (Unread kind) turns new standing to started running h
     (sym h.1)
     (record {
       plays = no_turn_plays Client d past turns to (unread_stops _ kind ending) stands.plays;
+      memory = stands.memory;
       begun = begun_more d past to;
       client = sym ending;
       server = stands.server ∙ sym (server_apart d past turns to);
@@ -187,6 +210,7 @@ client_passed d past turns standing to stopped stands =
     let same = stays Client d past turns stops in
     record {
       plays = no_turn_plays Client d past turns to (λ runs. stops (sym same ∙ runs)) stands.plays;
+      memory = stands.memory;
       begun = begun_more d past to;
       client = stands.client ∙ sym same;
       server = stands.server ∙ sym (server_apart d past turns to);
@@ -199,10 +223,13 @@ pub client_stops : (d : Delivery) (past : List Delivery) (start : Bool) (error :
     start ≡ not standing.begun → standing.played.client ≡ Running → LacksSo Client IsClientRefusal start d.bytes error turns new →
     Stands past turns standing → StopsAt d past new
 client_stops d past start error turns new standing to started running h stands = elim h.turns [
-  | inl none ↦ inl (subst (λ (l : List Turn). Plays past l) (sym none) stands.plays)
-  | inr turn ↦ inr (has_plays Client d past (IsClientRefusal kinds.InsufficientMemory) turns new to (sym stands.client ∙ running)
-      (subst (λ (s : Bool). TurnsSo Client s d.bytes (IsClientRefusal kinds.InsufficientMemory) turns new)
-      (started ∙ ap not stands.begun) turn) stands.plays)
+  | inl none ↦ none_stops d past turns new none stands.plays stands.memory
+  | inr turn ↦ (
+    inr (has_plays Client d past (IsClientRefusal kinds.InsufficientMemory) turns new to (sym stands.client ∙ running)
+        (subst (λ (s : Bool). TurnsSo Client s d.bytes (IsClientRefusal kinds.InsufficientMemory) turns new)
+        (started ∙ ap not stands.begun) turn) stands.plays),
+    newest_had Client start d.bytes (IsClientRefusal kinds.InsufficientMemory) turns new turn.1 stands.memory,
+  )
 ]
 
 -- what a delivery to the client has, of which no turn was made
@@ -216,6 +243,7 @@ left_taken d past start turns new standing request to started running stands lef
     subst (λ (l : List Turn). IsTaken d past l request) (sym left.1)
     (record {
       plays = stands.plays;
+      memory = stands.memory;
       to = to;
       runs = still_runs Client d past turns to (sym stands.client ∙ running) read.1;
       given = read.0;
@@ -234,6 +262,7 @@ server_turned d past P ending turns (t ∷ before) standing to running want by h
     let all = still_runs Server d past turns to runs h.0 in
     record {
       plays = turn_plays Server d past t before turns to h.1.0 h.1.1 runs h.0 h.1.2 stands.plays;
+      memory = (had_memory t.outcome ending (by t.outcome h.1.3) want, rw h.1.0 stands.memory);
       begun = stands.begun ∙ begun_apart d past to;
       client = subst (λ (l : List Turn). standing.played.client ≡ ending_of Client (d ∷ past) (t ∷ l)) (sym h.1.0)
           (stands.client ∙ sym (client_apart d past turns to) ∙ sym (client_beside (d ∷ past) t turns h.1.1));
@@ -255,6 +284,7 @@ server_stands d past (Unread kind) turns new standing to running h stands =
     subst (λ (l : List Turn). Stands (d ∷ past) l (record standing { played = record standing.played { server = Unread kind } })) (sym h.1)
     (record {
       plays = no_turn_plays Server d past turns to (unread_stops _ kind ending) stands.plays;
+      memory = stands.memory;
       begun = stands.begun ∙ begun_apart d past to;
       client = stands.client ∙ sym (client_apart d past turns to);
       server = sym ending;
@@ -271,6 +301,7 @@ server_finishes d past identity turns new standing to running h stands =
     let s = server_turned d past IsFinished Running turns new standing to running tt finished_ending h stands in
     record {
       plays = s.plays;
+      memory = s.memory;
       begun = s.begun;
       client = s.client;
       server = running ∙ s.server;
@@ -286,6 +317,7 @@ server_passed d past turns standing to stopped stands =
     let same = stays Server d past turns stops in
     record {
       plays = no_turn_plays Server d past turns to (λ runs. stops (sym same ∙ runs)) stands.plays;
+      memory = stands.memory;
       begun = stands.begun ∙ begun_apart d past to;
       client = stands.client ∙ sym (client_apart d past turns to);
       server = stands.server ∙ sym same;
@@ -298,9 +330,11 @@ pub server_stops : (d : Delivery) (past : List Delivery) (error : DelegateError)
     standing.played.server ≡ Running → LacksSo Server IsServerRefusal false d.bytes error turns new → Stands past turns standing →
     StopsAt d past new
 server_stops d past error turns new standing to running h stands = elim h.turns [
-  | inl none ↦ inl (subst (λ (l : List Turn). Plays past l) (sym none) stands.plays)
-  | inr turn ↦ inr (has_plays Server d past (IsServerRefusal kinds.InsufficientMemory) turns new to
-      (sym stands.server ∙ running) turn stands.plays)
+  | inl none ↦ none_stops d past turns new none stands.plays stands.memory
+  | inr turn ↦ (
+    inr (has_plays Server d past (IsServerRefusal kinds.InsufficientMemory) turns new to (sym stands.server ∙ running) turn stands.plays),
+    newest_had Server false d.bytes (IsServerRefusal kinds.InsufficientMemory) turns new turn.1 stands.memory,
+  )
 ]
 
 -- ---- from the first delivery to the last
@@ -312,15 +346,16 @@ first_stands turns empty =
       begun = false;
       played = record { client = Running; server = Running; identity = None };
     })) (sym empty)
-    (record { plays = begins; begun = refl; client = refl; server = refl; client_kind = tt; server_kind = tt })
+    (record { plays = begins; memory = tt; begun = refl; client = refl; server = refl; client_kind = tt; server_kind = tt })
 
 pub front_of : (schedule : List Delivery) (n : ℕ) (d : Delivery) (turns : List Turn) → n < length schedule → d ≡ get_or schedule n d →
     StopsAt d (reverse (take n schedule)) turns → PlaysFront schedule turns
-front_of schedule n d turns here is (inl plays) = record { handed = n; within = omega arith; plays = plays }
-front_of schedule n d turns here is (inr plays) = record {
+front_of schedule n d turns here is (inl plays, memory) = record { handed = n; within = omega arith; plays = plays; memory = memory }
+front_of schedule n d turns here is (inr plays, memory) = record {
   handed = n + 1;
   within = omega arith;
   plays = subst (λ (l : List Delivery). Plays l turns) (sym (reverse_more schedule n d here is)) plays;
+  memory = memory;
 }
 
 pub all_stands : (schedule : List Delivery) (n : ℕ) (turns : List Turn) (standing : Standing) → length schedule ≤ n →

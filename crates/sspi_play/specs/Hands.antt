@@ -25,7 +25,7 @@ use Rattle.sspi_play.specs.declared.hand.Standing.{Standing}
 use Rattle.sspi_play.specs.declared.played.Delivery.{Delivery}
 use Rattle.sspi_play.specs.declared.played.Ending.{Ending}
 use Rattle.sspi_play.specs.declared.played.Ending.TheVariants.{Running, Refused, Unread}
-use Rattle.sspi_play.specs.Plays.{any_for, unread_kind, ending_of, IsGiven, Plays, IsNoWant}
+use Rattle.sspi_play.specs.Plays.{any_for, unread_kind, ending_of, IsGiven, Plays, AllHadMemory, OthersHadMemory, IsNoWant}
 
 -- the request of a delivery, or why it has none
 abbrev pub RequestIs : Bool → List ℕ → Result TsRequest WireKind → Type 0
@@ -78,6 +78,7 @@ ServerHands bytes (Err error) old new = LacksSo Server IsServerRefusal false byt
 -- a play that stands so after these deliveries and turns
 pub record Stands (deliveries : List Delivery) (turns : List Turn) (standing : Standing) : Type 0 where
   pub plays : Plays deliveries turns
+  pub memory : AllHadMemory turns
   pub begun : standing.begun ≡ any_for Client deliveries
   pub client : standing.played.client ≡ ending_of Client deliveries turns
   pub server : standing.played.server ≡ ending_of Server deliveries turns
@@ -86,7 +87,7 @@ pub record Stands (deliveries : List Delivery) (turns : List Turn) (standing : S
 
 -- a play that this delivery ended by an error: it made a turn, or it made none
 abbrev pub StopsAt : Delivery → List Delivery → List Turn → Type 0
-StopsAt d past turns = Plays past turns ⊎ Plays (d ∷ past) turns
+StopsAt d past turns = (Plays past turns ⊎ Plays (d ∷ past) turns) × OthersHadMemory turns
 
 module _ {C P : Type 0} (c : Meaning ContextSetting C) (p : ProxyMeaning P) where
   abbrev pub ServerHandPast : ServerView C P → Result Handed DelegateError → List Turn → ServerView C P → Type 0

@@ -14,7 +14,7 @@ use Rattle.sspi_delegate.specs.Headline.{sealed_turns, EachHeedsServer, EachHeed
 use Rattle.sspi_delegate.specs.History.{ServerHistory, ClientRefused, ServerRefused}
 use Rattle.sspi_play.specs.declared.played.Delivery.{Delivery}
 use Rattle.sspi_play.specs.declared.played.Played.{Played}
-use Rattle.sspi_play.specs.Plays.{IsNoWant, ending_of, Plays, IsNext}
+use Rattle.sspi_play.specs.Plays.{IsNoWant, ending_of, Plays, OthersHadMemory, IsNext}
 use Rattle.sspi_play.specs.History.{ClientPlayed, ClientPlayedChain, Gave, IfRefused}
 
 -- what takes part in a play, at one moment
@@ -33,6 +33,7 @@ pub record PlaysFront (schedule : List Delivery) (turns : List Turn) : Type 0 wh
   pub handed : ℕ
   pub within : handed ≤ length schedule
   pub plays : Plays (reverse (take handed schedule)) turns
+  pub memory : OthersHadMemory turns
 
 abbrev pub PlaysBy : List Delivery → Result Played DelegateError → List Turn → Type 0
 PlaysBy schedule (Ok played) turns = Plays (reverse schedule) turns

@@ -105,9 +105,20 @@ pub data Plays : List Delivery → List Turn → Type 0 where
   passes : (d : Delivery) (past : List Delivery) (turns : List Turn) → Plays past turns →
       ending_of d.to (d ∷ past) turns ≢ Running → Plays (d ∷ past) turns
 
+-- no turn was refused for want of memory
+abbrev pub AllHadMemory : List Turn → Type 0
+AllHadMemory [] = Unit {0}
+AllHadMemory (t ∷ past) = (refusal_in t.outcome ≢ Some kinds.InsufficientMemory) × AllHadMemory past
+
+-- a refusal for want of memory ends the play, so only the newest turn may be one
+abbrev pub OthersHadMemory : List Turn → Type 0
+OthersHadMemory [] = Unit {0}
+OthersHadMemory (t ∷ past) = AllHadMemory past
+
 -- This delivery, behind those of which these turns were made, gives a client that still runs with it this request.
 pub record IsTaken (d : Delivery) (past : List Delivery) (turns : List Turn) (request : TsRequest) : Type 0 where
   pub plays : Plays past turns
+  pub memory : AllHadMemory turns
   pub to : d.to ≡ Client
   pub runs : ending_of Client (d ∷ past) turns ≡ Running
   pub given : IsGiven (is_start Client past) d.bytes request
