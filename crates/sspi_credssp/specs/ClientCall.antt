@@ -76,6 +76,8 @@ module _ {C : Type 0} (c : Meaning ContextSetting C) where
         Awaits start d tries log q old → OnErr result (new.acts.status ≡ None → is_waiting_in c new.context ≡ true →
         Awaits start d (tries + 1) (record { question = q; reply = reply } ∷ log) q new)
     pub idle : is_waiting_in c old.context ≡ false → OnlyForgets old result new
+    -- nor where the context waits by itself, for no turn that is suspended
+    pub stray : is_waiting_in c old.context ≡ true → old.kept ≡ None → OnlyForgets old result new
 
   -- the call goes on with the turn that is suspended, by a step of its context; another question is one fewer to come
   pub record ResumeCall (old : ClientView C) (reply : Reply) (result : Result Progress Error) (new : ClientView C) : Type 0 where

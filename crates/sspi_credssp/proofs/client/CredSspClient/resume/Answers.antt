@@ -42,5 +42,6 @@ returns-in-Some g c =
             (search rules) (search rules)
             (subst (λ v. StepsTo it start d tries log (Ask q) v) (sym forgot) awaits.walked));
         idle = search rules;
+        stray = search rules;
       };
     })
