@@ -9,7 +9,7 @@ use Rattle.sspi_delegate.specs.Headline.{Around, Parties, Delegates, Accounts, S
 use Rattle.sspi_delegate.specs.Headline.{IsFresh}
 use Rattle.sspi_early.specs.declared.answer.Early.{Early}
 use Rattle.sspi_early.specs.declared.answer.EarlyError.{EarlyError}
-use Rattle.sspi_early.specs.declared.answer.EarlyError.TheVariants.{Delegate, InsufficientMemory}
+use Rattle.sspi_early.specs.declared.answer.EarlyError.TheVariants.{Delegate, Policy, InsufficientMemory}
 use Rattle.sspi_early.specs.Authorizes.{Authorizes, LinkAt, link_at}
 use Rattle.sspi_early.specs.Policy.{PolicyMeaning}
 
@@ -53,3 +53,5 @@ module _ {C P L D : Type 0} (c : Meaning ContextSetting C) (around : Around P L 
     pub link : L
     pub delegation : IsDelegated old limit delegated (record new { link = link })
     pub goes_on : GoesOn (shown_by around) p delegated link new.link policy policy2 result
+    -- where the policy failed, the link was not asked
+    pub untouched : result ≡ Err Policy → new.link ≡ link

@@ -1,4 +1,4 @@
-ghost use Rattle.std.specs.Prelude.{[]};
+ghost use Rattle.std.specs.Prelude.{◌≡◌, [], Err};
 ghost use Rattle.sspi_completeness.specs.Matching.{AreMatching, IsCalm, NothingDisturbs, messages_in};
 ghost use Rattle.sspi_credssp.specs.Exchange.{delegated_as};
 ghost use Rattle.sspi_credssp.specs.Context.{either};
@@ -66,7 +66,9 @@ pub fn tell_early<L: Link, P: Policy>(
     policy: &mut P,
     delegated: Result<Delegation, DelegateError>,
 ) -> Result<Early, EarlyError>
-    ensures { GoesOn (λ l. link_at (L.log l) (L.edits l) (L.faults l)) P.meaning delegated link.old link.new policy.old policy.new result }
+    ensures goes_on { GoesOn (λ l. link_at (L.log l) (L.edits l) (L.faults l)) P.meaning delegated link.old link.new
+        policy.old policy.new result }
+    ensures untouched { result ≡ Err EarlyError.Policy → link.new ≡ link.old }
 {
     let delegation = match delegated {
         Ok(delegation) => delegation,

@@ -16,7 +16,7 @@ returns-clause-matched g c matching nothing calm =
           (λ l. link_at (g.L.Link.log l) (g.L.Link.edits l) (g.L.Link.faults l))
           c.delegate_plainly-delegated.result made.link c.tell_early.new.link c.args.policy.now c.tell_early.new.policy c.tell_early.result
           c.args.limit made.transcript.turns (messages_in matching) (delegated_as c.args.client.now.settings.delegation matching.identity)
-          c.tell_early.ensures ends ensures.stays.the_link_tells_what_it_told
+          c.tell_early.ensures.goes_on ends ensures.stays.the_link_tells_what_it_told
           (λ same. (ensures.matched matching (record { fresh = nothing.fresh; link = same; proxy = nothing.proxy })).comes enough)
           nothing.link calm;
       short = λ few.
@@ -24,7 +24,7 @@ returns-clause-matched g c matching nothing calm =
           (λ l. link_at (g.L.Link.log l) (g.L.Link.edits l) (g.L.Link.faults l))
           c.delegate_plainly-delegated.result made.link c.tell_early.new.link c.args.policy.now c.tell_early.new.policy c.tell_early.result
           c.args.limit made.transcript.turns
-          c.tell_early.ensures ends
+          c.tell_early.ensures.goes_on ends
           (λ same. (ensures.matched matching (record { fresh = nothing.fresh; link = same; proxy = nothing.proxy })).short few)
           nothing.link;
     }
