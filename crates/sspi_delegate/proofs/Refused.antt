@@ -42,7 +42,8 @@ module _ {C D P : Type 0} (c : Meaning ContextSetting C) (law : IsContext c) (p 
 
   -- the refusal that is answered
   pub past_refused : (due : TsRequest → Type 0) (client client2 : ClientView C) (kdc kdc2 : D) (server server2 : ServerView C P)
-      (clients servers : List Turn) (result : Result Delegation DelegateError) → IsFreshClient client → IsFreshServer server → OthersGoOn clients → OthersGoOn servers →
+      (clients servers : List Turn) (result : Result Delegation DelegateError) → IsFreshClient client → IsFreshServer server →
+      OthersGoOn clients → OthersGoOn servers →
       ClientPast c k due client kdc result clients client2 kdc2 → ServerPast c p server result servers server2 →
       RefusedBy c p k client kdc client2 kdc2 server server2 result clients servers
   past_refused due client client2 kdc kdc2 server server2 clients servers (Ok delegation) fresh fresh2 others others2 h h2 = tt
