@@ -1,6 +1,6 @@
 -- Parts of a step, each with what comes after it.
 use Rattle.std.proofs.Common.{◌≡◌, ◌≢◌, ◌==◌, ℕ, length, cond, false, List, Option, None, Some}
-use Rattle.std.proofs.Common.{Result, Ok, Err, OnOk, OnErr, IfErr, refl, sym, ◌∙◌, subst}
+use Rattle.std.proofs.Common.{Result, Ok, Err, OnOk, OnErr, IfErr, refl, sym, ◌∙◌, subst, inl, inr}
 use Rattle.sspi_types.specs.declared.error.Error.{Error}
 use Rattle.sspi_types.specs.declared.error_kind.ErrorKind.TheVariants.{InsufficientMemory, NoCredentials}
 use Rattle.sspi_names.specs.Name.{Name}
@@ -72,13 +72,13 @@ module _ {N K : Type 0} {n : Meaning Setting N} {k : Meaning Setting K} where
         onward = (
           same,
           λ rest r v2 m2 after. record {
-            as_planned = unless_map r (λ q. answered tt new.mech (h, q))
-                after.as_planned;
+            as_planned = unless_map r (λ q. answered tt new.mech (h, q)) after.as_planned;
+            reached = inr (new.mech, h, after.reached);
           },
         );
       }
   identified_part found old new (Err error) same h still cause =
-      record { onward = λ rest. record { as_planned = λ other. refused error (cause other, still) refl same } }
+      record { onward = λ rest. record { as_planned = λ other. refused error (cause other, still) refl same; reached = inl still } }
 
   pub verified_part : (mic text : List ℕ) (old new : Negotiation (NegotiatedProtocol N K)) (result : Result (Unit {0}) Error) →
       values_of new ≡ values_of old →
@@ -91,12 +91,14 @@ module _ {N K : Type 0} {n : Meaning Setting N} {k : Meaning Setting K} where
       record {
         onward = (
           same,
-          λ rest r v2 m2 after.
-              record { as_planned = unless_map r (λ q. answered tt new.mech (h, counted, permitted, q)) after.as_planned },
+          λ rest r v2 m2 after. record {
+            as_planned = unless_map r (λ q. answered tt new.mech (h, counted, permitted, q)) after.as_planned;
+            reached = inr (new.mech, h, counted, permitted, after.reached);
+          },
         );
       }
   verified_part mic text old new (Err error) same h counted permitted still cause =
-      record { onward = λ rest. record { as_planned = λ other. refused error (cause, still) refl same } }
+      record { onward = λ rest. record { as_planned = λ other. refused error (cause, still) refl same; reached = inl still } }
 
   pub named_part : {T : Type 0} {v : Values} {part : Name → Plan → Plan} {old new : Negotiation (NegotiatedProtocol N K)}
       (result : Result T Error) (name : Name) →

@@ -1,5 +1,5 @@
 -- Tokens that are read and written on the way.
-use Rattle.std.proofs.Common.{◌≡◌, ◌≢◌, ℕ, List, true, Option, Some, None, Result, Ok, Err, refl, sym, ap, ◌∙◌, subst}
+use Rattle.std.proofs.Common.{◌≡◌, ◌≢◌, ℕ, List, true, Option, Some, None, Result, Ok, Err, refl, sym, ap, ◌∙◌, subst, inl}
 use Rattle.std.proofs.lemmas.Bool.{false≢true}
 use Rattle.sspi_types.specs.declared.error.Error.{Error}
 use Rattle.sspi_types.specs.declared.error_kind.ErrorKind.TheVariants.{InvalidToken, InternalError, InsufficientMemory}
@@ -24,8 +24,8 @@ module _ {M : Type 0} {c : Meaning Origin M} {m : M} where
   pub unread : {v : Values} {T : Type 0} (o : Option T) (plan : Option T → Plan) (error : Error) → plan None ≡ Stops v InvalidToken →
       ReadsAs o (Err error) → Meets c (plan o) m (Refused (error_of (refusal_of error))) v m
   unread {v = v} None plan error stops h = subst (λ p. Meets c p m (Refused (error_of (refusal_of error))) v m) (sym stops)
-      (record { as_planned = λ other. (ap (λ e. e.error_type) h, refl, refl) })
-  unread (Some x) plan error stops h = record { as_planned = λ other. absurd (other (ap (λ e. e.error_type) h)) }
+      (record { as_planned = λ other. (ap (λ e. e.error_type) h, refl, refl); reached = inl refl })
+  unread (Some x) plan error stops h = record { as_planned = λ other. absurd (other (ap (λ e. e.error_type) h)); reached = inl refl }
 
   pub read : {T : Type 0} {r : Answer} {v2 : Values} {m2 : M} (o : Option T) (plan : Option T → Plan) (x : T) → ReadsAs o (Ok x) →
       Meets c (plan (Some x)) m r v2 m2 → Meets c (plan o) m r v2 m2
@@ -36,8 +36,8 @@ module _ {M : Type 0} {c : Meaning Origin M} {m : M} where
       IsSpelled o (Err error) →
       Meets c (plan o) m (Refused error) v m
   unspelled {v = v} None plan error stops h =
-      subst (λ p. Meets c p m (Refused error) v m) (sym stops) (record { as_planned = λ other. (h, refl, refl) })
-  unspelled (Some x) plan error stops h = record { as_planned = λ other. absurd (other h) }
+      subst (λ p. Meets c p m (Refused error) v m) (sym stops) (record { as_planned = λ other. (h, refl, refl); reached = inl refl })
+  unspelled (Some x) plan error stops h = record { as_planned = λ other. absurd (other h); reached = inl refl }
 
   pub spelled : {r : Answer} {v2 : Values} {m2 : M} (o : Option (List ℕ)) (plan : Option (List ℕ) → Plan) (x : List ℕ) →
       IsSpelled o (Ok x) →

@@ -14,6 +14,7 @@ use Rattle.sspi_negotiate.specs.Follows.{Follows}
 use Rattle.sspi_negotiate.specs.Hand.{Origin, hand}
 use Rattle.sspi_negotiate.specs.Keeps.{KeepsPackages, is_opening}
 use Rattle.sspi_negotiate.specs.Plan.{Plan}
+use Rattle.sspi_negotiate.specs.Reaches.{Reaches}
 use Rattle.sspi_negotiate.specs.Values.{Values, Negotiation, values_of}
 use Rattle.sspi_negotiate.specs.Verified.{HasNoMic}
 
@@ -28,8 +29,11 @@ abbrev pub told : Result Step Error → Answer
 told (Ok step) = Done step
 told (Err error) = Refused error
 
+-- The plan is followed to its end, but for a refusal for want of memory. That breaks it off, and then too the mechanism in hand is
+-- the one from before, or what the first calls of the plan made of that.
 pub record Meets {M : Type 0} (c : Meaning Origin M) (p : Plan) (m : M) (r : Answer) (v2 : Values) (m2 : M) : Type 0 where
   pub as_planned : UnlessMemory r (Follows c p m r v2 m2)
+  pub reached : Reaches c p m r m2
 
 module _ {N K : Type 0} (n : Meaning Setting N) (k : Meaning Setting K) where
   -- the plan leads from the old state to the answer and the new state

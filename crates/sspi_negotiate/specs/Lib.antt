@@ -17,6 +17,7 @@ pub mod PackageList
 pub mod Pick
 pub mod Plan
 pub mod Protocol
+pub mod Reaches
 pub mod Rows
 pub mod Rule
 pub mod Server
