@@ -11,6 +11,7 @@ pub mod InTurn
 pub mod Keeping
 pub mod Kept
 pub mod KnownEntries
+pub mod Lives
 pub mod Moved
 pub mod Names
 pub mod Needed

@@ -11,6 +11,7 @@ pub mod Identity
 pub mod IpText
 pub mod Keeps
 pub mod Known
+pub mod Lives
 pub mod Negotiate
 pub mod New
 pub mod PackageList

@@ -17,6 +17,7 @@ ghost use Rattle.sspi_negotiate.specs.Hand.{hand, hand_of};
 ghost use Rattle.sspi_negotiate.specs.Holding.{StaysHeld};
 ghost use Rattle.sspi_negotiate.specs.Verified.{IsVerified, IsGuestNamed};
 ghost use Rattle.sspi_negotiate.specs.Keeps.{Keeps, KeepsPackages, is_opening, may_use};
+ghost use Rattle.sspi_negotiate.specs.Lives.{LivesOn};
 ghost use Rattle.sspi_negotiate.specs.Values.{Negotiation, values_of};
 ghost use Rattle.sspi_negotiate.specs.Negotiate.{negotiate};
 
@@ -69,7 +70,9 @@ pub fn choices_are_kept<N: Mechanism, K: Mechanism>()
 /// What is in hand and kept behind the first step, want of memory included. A client's step leaves the mechanism in hand, or takes
 /// the one that the server chooses, NTLM where the target is named by its IP address and NTLM may be used, or Kerberos where a KDC
 /// serves the domain of the user that the call hands over; the kept credentials stay, or are that user's. A resumed step, but for
-/// a resumed first one, and a server's step leave the list, the mechanism in hand and the kept credentials.
+/// a resumed first one, and a server's step leave the list, the mechanism in hand and the kept credentials. A server makes no other
+/// mechanism of the same name: the one that is left is the one from before, or what at most one token, the peer's identities, one MIC
+/// verified and one MIC made of it.
 pub fn hand_is_kept<N: Mechanism, K: Mechanism>()
     ensures client { (old new : Negotiation (NegotiatedProtocol N K)) (args : StepArgs) (answer : Answer) →
         (negotiate N.REQUESTS N.meaning K.meaning).steps old args answer new →
@@ -80,6 +83,9 @@ pub fn hand_is_kept<N: Mechanism, K: Mechanism>()
     ensures server { (old new : Negotiation (NegotiatedProtocol N K)) (args : AcceptArgs) (result : Result Step Error) →
         (negotiate N.REQUESTS N.meaning K.meaning).accepts old args result new →
         old.state ≢ states.Initial → StaysPicked (values_of old) (values_of new) }
+    ensures server_lives { (old new : Negotiation (NegotiatedProtocol N K)) (args : AcceptArgs) (result : Result Step Error) →
+        (negotiate N.REQUESTS N.meaning K.meaning).accepts old args result new →
+        old.state ≢ states.Initial → LivesOn (hand N.meaning K.meaning) args old.mech new.mech }
 {}
 
 /// Where MICs are needed they stay so, want of memory included: a server's refused step leaves the need as it was, and so does a

@@ -1,3 +1,7 @@
+use Rattle.sspi_negotiate.specs.Does.{told}
+use Rattle.sspi_negotiate.specs.Hand.{hand}
+use Rattle.sspi_negotiate.specs.Values.{values_of}
+use Rattle.sspi_negotiate.proofs.Lives.{lives_on}
 use Rattle.sspi_negotiate.proofs.negotiation_laws.hand_is_kept.Goals as goal
 
 pub returns-clause-client : goal.returns-clause-client
@@ -8,3 +12,7 @@ returns-clause-resumed g c = λ old new reply answer s. s.protected.picked
 
 pub returns-clause-server : goal.returns-clause-server
 returns-clause-server g c = λ old new args result s. s.picked
+
+pub returns-clause-server_lives : goal.returns-clause-server_lives
+returns-clause-server_lives g c = λ old new args result s late. lives_on (hand g.N.Mechanism.meaning g.K.Mechanism.meaning) args old.mech
+    new.mech (told result) (values_of old) late s.moves.follows.reached
