@@ -25,7 +25,7 @@ use Rattle.sspi_negotiate.specs.Target.{IsNamedByIp}
 use Rattle.sspi_negotiate.specs.Values.{Negotiation, values_of, is_waiting}
 
 -- A step by a plan; before there is a list to protect it makes and verifies no MIC, and Protected says what stays of the need of
--- MICs. The plan says nothing of want of memory, and the others hold of that too.
+-- MICs. Of a step that want of memory breaks off the plan says what is left in hand (`Meets`), and the others hold of it too.
 pub record Moves {N K : Type 0} (n : Meaning Setting N) (k : Meaning Setting K) (IsFirstStep Protected : Type 0) (p : Plan)
     (s : Negotiation (NegotiatedProtocol N K)) (r : Answer) (s2 : Negotiation (NegotiatedProtocol N K)) : Type 0 where
   pub follows : Does n k p s r s2
@@ -46,8 +46,8 @@ pub record ClientMoves {N K : Type 0} (n : Meaning Setting N) (k : Meaning Setti
       (spnego_client ip (values_of s) args) s r s2
   pub held : s.state ≢ Initial → StaysHeld (values_of s) args (values_of s2)
 
--- a server's step, which leaves the need of MICs where it is refused; once it has read the list, it leaves that and the mechanism
--- that it picked
+-- a server's step, which leaves the need of MICs where it is refused; once it has read the list, it leaves that and the name of
+-- the mechanism that it picked, which lives on by its plan (`LivesOn`)
 pub record ServerMoves {N K : Type 0} (n : Meaning Setting N) (k : Meaning Setting K) (s : Negotiation (NegotiatedProtocol N K))
     (args : AcceptArgs) (result : Result Step Error) (s2 : Negotiation (NegotiatedProtocol N K)) : Type 0 where
   pub moves : Moves n k (s.state ≡ Initial) (OnErr result (s2.need ≡ s.need)) (spnego_server (values_of s) args) s (told result) s2

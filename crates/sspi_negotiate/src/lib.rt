@@ -2,7 +2,8 @@
 //!
 //! - `Negotiate`: one end of a negotiation over any two mechanisms. Each step is a plan of questions to the mechanism in hand:
 //!   `specs/Client.antt` and `specs/Server.antt` have a definition for each row of their tables, `specs/Follows.antt` says what
-//!   comes of a plan, and `specs/Negotiate.antt` what a negotiation means. `specs/New.antt` says what it begins with.
+//!   comes of a plan, `specs/Reaches.antt` what is in hand where want of memory breaks it off, and `specs/Negotiate.antt` what a
+//!   negotiation means. `specs/New.antt` says what it begins with.
 //! - `negotiation_laws`: a negotiation is a context; packages never grow, the list stays, and MICs protect it.
 //! - `laws`: a package list says the same whether its names are read at once or one after the other.
 //! - `PackageListConfig`: which packages a list of names allows; `is_ip_text`: whether a peer is named by an IP address, which
