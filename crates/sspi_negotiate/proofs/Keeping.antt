@@ -1,5 +1,5 @@
 -- No step undoes what is kept.
-use Rattle.std.proofs.Common.{Bool, refl, sym, ap, ◌∙◌}
+use Rattle.std.proofs.Common.{Bool, refl, sym, subst, ap, ◌∙◌}
 use Rattle.std.proofs.lemmas.Bool.{false≢true}
 use Rattle.sspi_mech.specs.declared.step.Answer.{Answer}
 use Rattle.sspi_mech.specs.declared.step.Answer.TheVariants.{Done, Ask, Refused}
@@ -7,20 +7,31 @@ use Rattle.sspi_mech.specs.declared.step.Reply.{Reply}
 use Rattle.sspi_mech.specs.Answers.{OnRefused}
 use Rattle.sspi_mech.specs.Calls.{StepArgs, AcceptArgs}
 use Rattle.sspi_negotiate.specs.Client.{spnego_client, spnego_resumed}
-use Rattle.sspi_negotiate.specs.Does.{Stays, UnlessMemory}
+use Rattle.sspi_negotiate.specs.declared.branch.Branch.TheVariants.{Idle}
+use Rattle.sspi_negotiate.specs.declared.protocol.NegotiatedProtocol.{NegotiatedProtocol}
+use Rattle.sspi_negotiate.specs.Does.{WaitsOn, as_before, no_longer, UnlessMemory}
+use Rattle.sspi_negotiate.specs.Hand.{hand_of}
 use Rattle.sspi_negotiate.specs.Keeps.{Keeps, KeepsPackages, HasList, is_opening}
 use Rattle.sspi_negotiate.specs.Server.{spnego_server}
-use Rattle.sspi_negotiate.specs.Values.{Values}
+use Rattle.sspi_negotiate.specs.Values.{Values, Negotiation}
 use Rattle.sspi_negotiate.proofs.ClientEnds.{client_ends, resumed_ends}
 use Rattle.sspi_negotiate.proofs.Ends.{AllEnds}
 use Rattle.sspi_negotiate.proofs.Kept.{IsKept}
 use Rattle.sspi_negotiate.proofs.ServerEnds.{server_ends}
 
-pub packages_kept : (r : Answer) (v v2 : Values) → UnlessMemory r (Keeps v v2) → OnRefused r (Stays v v2) →
-    KeepsPackages v.packages v.hand v2.packages v2.hand
-packages_kept (Done step) v v2 keeps stays = keeps.packages
-packages_kept (Ask request) v v2 keeps stays = keeps.packages
-packages_kept (Refused error) v v2 keeps stays = stays.packages
+pub packages_kept : (P : Type 0) (r : Answer) (v v2 : Values) → UnlessMemory r (Keeps v v2) →
+    (P → KeepsPackages v.packages v.hand v2.packages v2.hand) → OnRefused r P → KeepsPackages v.packages v.hand v2.packages v2.hand
+packages_kept P (Done step) v v2 keeps packages stays = keeps.packages
+packages_kept P (Ask request) v v2 keeps packages stays = keeps.packages
+packages_kept P (Refused error) v v2 keeps packages stays = packages stays
+
+-- a refused resume keeps the packages
+pub waiting_keeps : {N K : Type 0} (s s2 : Negotiation (NegotiatedProtocol N K)) → WaitsOn s (record s { branch = Idle }) s2 →
+    KeepsPackages s.packages (hand_of s.mech) s2.packages (hand_of s2.mech)
+waiting_keeps {N = N} {K = K} s s2 (as_before same) =
+    subst (λ (x : Negotiation (NegotiatedProtocol N K)). KeepsPackages s.packages (hand_of s.mech) x.packages (hand_of x.mech)) (sym same)
+    (record { ntlm = λ h. h; kerberos = λ h. h; in_hand = λ h. h })
+waiting_keeps s s2 (no_longer stays) = stays.packages
 
 abbrev pub KeptFrom : Values → Answer → Values → Type 0
 KeptFrom v r v2 = Keeps v v2

@@ -10,11 +10,12 @@ use Rattle.sspi_mech.specs.Calls.{StepArgs, AcceptArgs}
 use Rattle.sspi_mech.specs.Laws.{IsMechanism}
 use Rattle.sspi_mech.specs.Meaning.{Meaning}
 use Rattle.sspi_mech.specs.Settings.{Setting}
+use Rattle.sspi_negotiate.specs.declared.branch.Branch.TheVariants.{Idle}
 use Rattle.sspi_negotiate.specs.declared.protocol.NegotiatedProtocol.{NegotiatedProtocol}
 use Rattle.sspi_negotiate.specs.declared.state.NegotiateState.TheVariants as states
 use Rattle.sspi_negotiate.specs.Choices.{chosen_at, excuses_guest}
 use Rattle.sspi_negotiate.specs.Client.{spnego_client, spnego_resumed}
-use Rattle.sspi_negotiate.specs.Does.{Does, Stays, StaysNeeded, StaysPicked, StaysResumed, StaysUnmarked, StaysSilent, told}
+use Rattle.sspi_negotiate.specs.Does.{Does, Stays, StaysNeeded, StaysPicked, StaysResumed, StaysUnmarked, StaysSilent, WaitsOn, told}
 use Rattle.sspi_negotiate.specs.Hand.{asks_left, hand_of}
 use Rattle.sspi_negotiate.specs.Holding.{MayHold, MayKeep, user_of, user_url}
 use Rattle.sspi_negotiate.specs.Keeps.{is_answering, is_opening}
@@ -72,11 +73,11 @@ module _ {N K : Type 0} (n : Meaning Setting N) (k : Meaning Setting K) (s : Neg
   }
 
   pub resume_moves : (reply : Reply) (result : Result Progressing Error) (s2 : Negotiation (NegotiatedProtocol N K)) →
-      Does n k (spnego_resumed (values_of s) reply) s (answer_of result) s2 → OnErr result (Stays (values_of s) (values_of s2)) →
+      Does n k (spnego_resumed (values_of s) reply) s (answer_of result) s2 → OnErr result (WaitsOn s (record s { branch = Idle }) s2) →
       StaysSilent n k s s2 → (is_answering s.branch ≡ false → StaysUnmarked n k s s2) → s2.need ≡ s.need →
       (is_opening s.branch ≡ false → StaysPicked (values_of s) (values_of s2)) →
-      Moves n k (is_answering s.branch ≡ false) (StaysResumed (values_of s) (values_of s2)) (spnego_resumed (values_of s) reply) s
-      (answer_of result) s2
+      Moves n k (is_answering s.branch ≡ false) (WaitsOn s (record s { branch = Idle }) s2) (StaysResumed (values_of s) (values_of s2))
+      (spnego_resumed (values_of s) reply) s (answer_of result) s2
   resume_moves reply result s2 follows stays unused unmarked need picked = record {
     follows = follows;
     stays = answered_stays _ result stays;

@@ -48,8 +48,8 @@ module _ {N K : Type 0} (n : Meaning Setting N) (k : Meaning Setting K) where
   abbrev pub StaysUnmarked : Negotiation (NegotiatedProtocol N K) → Negotiation (NegotiatedProtocol N K) → Type 0
   StaysUnmarked old new = HasNoMic ((hand n k).counts old.mech) → HasNoMic ((hand n k).counts new.mech)
 
--- what a refused call leaves as it was: all but the mechanism in hand and the packages, which stay in agreement, the kept
--- credentials and the need, and the list that a server keeps
+-- what a refused call leaves as it was, the step that waits included: all but the mechanism in hand and the packages, which stay
+-- in agreement, the kept credentials and the need, and the list that a server keeps
 pub record Stays (old new : Values) : Type 0 where
   pub role : new.role ≡ old.role
   pub state : new.state ≡ old.state
@@ -58,6 +58,12 @@ pub record Stays (old new : Values) : Type 0 where
   pub known : new.known ≡ old.known
   pub computer : new.computer ≡ old.computer
   pub kdcs : new.kdcs ≡ old.kdcs
+  pub branch : new.branch ≡ old.branch
+
+-- what a refused resume leaves: the step waits on, and all is as it was, or it is over, and the rest stays as after other refusals
+pub data WaitsOn {N K : Type 0} (waiting over new : Negotiation (NegotiatedProtocol N K)) : Type 0 where
+  as_before : new ≡ waiting → WaitsOn waiting over new
+  no_longer : Stays (values_of over) (values_of new) → WaitsOn waiting over new
 
 -- the list of mechanisms, the mechanism in hand and the kept credentials are as they were
 pub record StaysPicked (old new : Values) : Type 0 where

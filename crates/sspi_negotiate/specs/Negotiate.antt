@@ -9,12 +9,13 @@ use Rattle.sspi_mech.specs.Answers.{OnRefused}
 use Rattle.sspi_mech.specs.Calls.{StepArgs, AcceptArgs, Call, ToAcquire, ToDescribe}
 use Rattle.sspi_mech.specs.Meaning.{Meaning}
 use Rattle.sspi_mech.specs.Settings.{Setting}
+use Rattle.sspi_negotiate.specs.declared.branch.Branch.TheVariants.{Idle}
 use Rattle.sspi_negotiate.specs.declared.protocol.NegotiatedProtocol.{NegotiatedProtocol}
 use Rattle.sspi_negotiate.specs.declared.state.NegotiateState.TheVariants.{Initial}
 use Rattle.sspi_negotiate.specs.Acquire.{Acquires, RefusesToAcquire}
 use Rattle.sspi_negotiate.specs.Choices.{chosen_at, excuses_guest}
 use Rattle.sspi_negotiate.specs.Client.{spnego_client, spnego_resumed}
-use Rattle.sspi_negotiate.specs.Does.{Does, Stays, StaysNeeded, StaysPicked, StaysResumed, StaysUnmarked, StaysSilent, told}
+use Rattle.sspi_negotiate.specs.Does.{Does, Stays, StaysNeeded, StaysPicked, StaysResumed, StaysUnmarked, StaysSilent, WaitsOn, told}
 use Rattle.sspi_negotiate.specs.Hand.{hand, asks_left}
 use Rattle.sspi_negotiate.specs.Holding.{StaysHeld}
 use Rattle.sspi_negotiate.specs.Keeps.{is_answering}
@@ -24,12 +25,13 @@ use Rattle.sspi_negotiate.specs.Server.{spnego_server}
 use Rattle.sspi_negotiate.specs.Target.{IsNamedByIp}
 use Rattle.sspi_negotiate.specs.Values.{Negotiation, values_of, is_waiting}
 
--- A step by a plan; before there is a list to protect it makes and verifies no MIC, and Protected says what stays of the need of
--- MICs. Of a step that want of memory breaks off the plan says what is left in hand (`Meets`), and the others hold of it too.
-pub record Moves {N K : Type 0} (n : Meaning Setting N) (k : Meaning Setting K) (IsFirstStep Protected : Type 0) (p : Plan)
+-- A step by a plan; before there is a list to protect it makes and verifies no MIC. Kept says what a refused one leaves, and
+-- Protected what stays of the need of MICs. Of a step that want of memory breaks off the plan says what is left in hand (`Meets`),
+-- and the others hold of it too.
+pub record Moves {N K : Type 0} (n : Meaning Setting N) (k : Meaning Setting K) (IsFirstStep Kept Protected : Type 0) (p : Plan)
     (s : Negotiation (NegotiatedProtocol N K)) (r : Answer) (s2 : Negotiation (NegotiatedProtocol N K)) : Type 0 where
   pub follows : Does n k p s r s2
-  pub stays : OnRefused r (Stays (values_of s) (values_of s2))
+  pub stays : OnRefused r Kept
   pub unused : StaysSilent n k s s2
   pub unmarked : IsFirstStep → StaysUnmarked n k s s2
   pub protected : Protected
@@ -41,7 +43,7 @@ pub record ClientMoves {N K : Type 0} (n : Meaning Setting N) (k : Meaning Setti
     (s2 : Negotiation (NegotiatedProtocol N K)) : Type 0 where
   pub ip : Bool
   pub ip_is : IsTrue ip ↔ IsNamedByIp args.target
-  pub moves : Moves n k (s.state ≡ Initial)
+  pub moves : Moves n k (s.state ≡ Initial) (Stays (values_of s) (values_of s2))
       (s.state ≢ Initial → StaysNeeded (excuses_guest (chosen_at s.state args.input) (values_of s) args) (values_of s) (values_of s2))
       (spnego_client ip (values_of s) args) s r s2
   pub held : s.state ≢ Initial → StaysHeld (values_of s) args (values_of s2)
@@ -50,7 +52,8 @@ pub record ClientMoves {N K : Type 0} (n : Meaning Setting N) (k : Meaning Setti
 -- the mechanism that it picked, which lives on by its plan (`LivesOn`)
 pub record ServerMoves {N K : Type 0} (n : Meaning Setting N) (k : Meaning Setting K) (s : Negotiation (NegotiatedProtocol N K))
     (args : AcceptArgs) (result : Result Step Error) (s2 : Negotiation (NegotiatedProtocol N K)) : Type 0 where
-  pub moves : Moves n k (s.state ≡ Initial) (OnErr result (s2.need ≡ s.need)) (spnego_server (values_of s) args) s (told result) s2
+  pub moves : Moves n k (s.state ≡ Initial) (Stays (values_of s) (values_of s2)) (OnErr result (s2.need ≡ s.need))
+      (spnego_server (values_of s) args) s (told result) s2
   pub picked : s.state ≢ Initial → StaysPicked (values_of s) (values_of s2)
 
 module _ {N K : Type 0} (requests : ℕ) (n : Meaning Setting N) (k : Meaning Setting K) where
@@ -67,7 +70,8 @@ module _ {N K : Type 0} (requests : ℕ) (n : Meaning Setting N) (k : Meaning Se
     acquires = Acquires n k;
     steps = ClientMoves n k;
     resumes = λ s reply r s2.
-        Moves n k (is_answering s.branch ≡ false) (StaysResumed (values_of s) (values_of s2)) (spnego_resumed (values_of s) reply) s r s2;
+        Moves n k (is_answering s.branch ≡ false) (WaitsOn s (record s { branch = Idle }) s2) (StaysResumed (values_of s) (values_of s2))
+        (spnego_resumed (values_of s) reply) s r s2;
     accepts = ServerMoves n k;
     identifies = λ s identities s2. (hand n k).identifies s.mech identities s2.mech × (s2 ≡ record s { mech = s2.mech });
     names = λ s. (hand n k).names s.mech;

@@ -6,6 +6,7 @@ ghost use Rattle.sspi_mech.specs.Context.{NeitherSealsNorOpens};
 ghost use Rattle.sspi_mech.specs.Answered.{answered};
 ghost use Rattle.sspi_tokens.specs.Oids.{kind_of};
 ghost use Rattle.sspi_tokens.specs.Reading.{targ_of};
+ghost use Rattle.sspi_negotiate.specs.declared.branch.Branch.TheVariants as branches;
 ghost use Rattle.sspi_negotiate.specs.declared.protocol.Protocol.TheVariants as protocols;
 ghost use Rattle.sspi_negotiate.specs.declared.state.NegotiateState.TheVariants as states;
 ghost use Rattle.sspi_types.specs.declared.security_status.SecurityStatus.TheVariants as statuses;
@@ -13,7 +14,7 @@ ghost use Rattle.sspi_negotiate.specs.Choices.{protocol_of, chosen_in, excuses_g
 ghost use Rattle.sspi_negotiate.specs.Client.{at_progress, chosen, chooses_kerberos, chooses_ntlm, in_kerberos, answers, without_ntlm};
 ghost use Rattle.sspi_negotiate.specs.Client.{stepped, settles, verified, at_verify_mic, confirmed};
 ghost use Rattle.sspi_negotiate.specs.Client.{last_mic, handle_for, resumes_answering, spnego_resumed};
-ghost use Rattle.sspi_negotiate.specs.Does.{Does, Stays, StaysNeeded, StaysPicked, StaysUnmarked, StaysSilent, told};
+ghost use Rattle.sspi_negotiate.specs.Does.{Does, Stays, StaysNeeded, StaysPicked, StaysUnmarked, StaysSilent, WaitsOn, told};
 ghost use Rattle.sspi_negotiate.specs.Hand.{hand, hand_of};
 ghost use Rattle.sspi_negotiate.specs.Holding.{MayHold};
 ghost use Rattle.sspi_negotiate.specs.Keeps.{is_answering, is_opening};
@@ -436,7 +437,7 @@ impl<N: Mechanism, K: Mechanism> Negotiate<N, K> {
         // The step, and what a refused one leaves.
         ensures step { Does N.meaning K.meaning (spnego_resumed (values_of self.old) reply.now) self.old
             (answer_of (answered result)) self.new }
-        ensures stays { OnErr result (Stays (values_of self.old) (values_of self.new)) }
+        ensures stays { OnErr result (WaitsOn self.old (record self.old { branch = branches.Idle }) self.new) }
         // What every answer keeps.
         ensures unused { StaysSilent N.meaning K.meaning self.old self.new }
         ensures first { is_answering self.old.branch ≡ false → StaysUnmarked N.meaning K.meaning self.old self.new }
@@ -458,7 +459,7 @@ impl<N: Mechanism, K: Mechanism> Negotiate<N, K> {
     ) -> Result<Progressing, Refusal>
         ensures step { Does N.meaning K.meaning (resumes_answering token (values_of self.old) reply.now)
             self.old (answer_of (answered result)) self.new }
-        ensures stays { OnErr result (Stays (values_of self.old) (values_of self.new)) }
+        ensures stays { OnErr result (WaitsOn (record self.old { branch = branches.Answering token }) self.old self.new) }
         ensures unused { StaysSilent N.meaning K.meaning self.old self.new }
         ensures need { self.new.need ≡ self.old.need }
         ensures picked { StaysPicked (values_of self.old) (values_of self.new) }

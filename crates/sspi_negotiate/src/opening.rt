@@ -1,12 +1,12 @@
 // A client's first step, and what comes of it where it is refused (state Initial).
-ghost use Rattle.std.specs.Prelude.{◌≡◌, ◌≢◌, ◌&&◌, true, None, Some, OnErr, option_copied};
+ghost use Rattle.std.specs.Prelude.{◌≡◌, ◌≢◌, ◌&&◌, false, true, None, Some, OnErr, option_copied};
 ghost use Rattle.sspi_mech.specs.Answers.{answer_of, IfRefused};
 ghost use Rattle.sspi_mech.specs.Calls.{step_args};
 ghost use Rattle.sspi_mech.specs.Context.{NeitherSealsNorOpens};
 ghost use Rattle.sspi_mech.specs.Answered.{answered};
 ghost use Rattle.sspi_negotiate.specs.Client.{at_initial, first_step, begun, offers, falls, falls_back};
 ghost use Rattle.sspi_negotiate.specs.Client.{steps_again, handle_for, passwords, resumes_opening};
-ghost use Rattle.sspi_negotiate.specs.Does.{Does, Stays, StaysUnmarked, StaysSilent, UnlessMemory, told};
+ghost use Rattle.sspi_negotiate.specs.Does.{Does, Stays, StaysUnmarked, StaysSilent, UnlessMemory, WaitsOn, told};
 ghost use Rattle.sspi_negotiate.specs.Hand.{hand, hand_of, is_kerberos_hand};
 ghost use Rattle.sspi_negotiate.specs.Fallback.{is_fallback};
 ghost use Rattle.sspi_negotiate.specs.declared.branch.Branch.TheVariants as branches;
@@ -208,7 +208,7 @@ impl<N: Mechanism, K: Mechanism> Negotiate<N, K> {
         ensures step { Does N.meaning K.meaning
             (falls (record (values_of self.old) { branch = branches.Opening first }) (values_of self.old) first refusal.error_type)
             self.old (answer_of (answered result)) self.new }
-        ensures stays { OnErr result (Stays (values_of self.old) (values_of self.new)) }
+        ensures stays { OnErr result (WaitsOn (record self.old { branch = branches.Opening first }) self.old self.new) }
         // What every answer keeps.
         ensures unused { StaysSilent N.meaning K.meaning self.old self.new }
         ensures unmarked { StaysUnmarked N.meaning K.meaning self.old self.new }
@@ -228,7 +228,9 @@ impl<N: Mechanism, K: Mechanism> Negotiate<N, K> {
     fn fall_back(&mut self, first: Opening, waited: bool) -> Result<Progressing, Refusal>
         // The step, and what a refused one leaves.
         ensures step { Does N.meaning K.meaning (falls_back (values_of self.old) first) self.old (answer_of (answered result)) self.new }
-        ensures stays { self.old.packages.ntlm ≡ true → OnErr result (Stays (values_of self.old) (values_of self.new)) }
+        ensures stays { self.old.packages.ntlm ≡ true → waited ≡ false → OnErr result (Stays (values_of self.old) (values_of self.new)) }
+        ensures waits { self.old.packages.ntlm ≡ true → waited ≡ true →
+            OnErr result (WaitsOn (record self.old { branch = branches.Opening first }) self.old self.new) }
         // What every answer keeps.
         ensures unused { StaysSilent N.meaning K.meaning self.old self.new }
         ensures unmarked { StaysUnmarked N.meaning K.meaning self.old self.new }
@@ -284,7 +286,7 @@ impl<N: Mechanism, K: Mechanism> Negotiate<N, K> {
         // The step, and what a refused one leaves.
         ensures step { Does N.meaning K.meaning (resumes_opening first (values_of self.old) reply.now)
             self.old (answer_of (answered result)) self.new }
-        ensures stays { OnErr result (Stays (values_of self.old) (values_of self.new)) }
+        ensures stays { OnErr result (WaitsOn (record self.old { branch = branches.Opening first }) self.old self.new) }
         // What every answer keeps.
         ensures unused { StaysSilent N.meaning K.meaning self.old self.new }
         ensures unmarked { StaysUnmarked N.meaning K.meaning self.old self.new }
