@@ -1,5 +1,6 @@
 pub mod Acquiring
 pub mod Asks
+pub mod Beginning
 pub mod Choosing
 pub mod ClientEnds
 pub mod Ending

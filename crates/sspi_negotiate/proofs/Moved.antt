@@ -13,18 +13,20 @@ use Rattle.sspi_mech.specs.Settings.{Setting}
 use Rattle.sspi_negotiate.specs.declared.branch.Branch.TheVariants.{Idle}
 use Rattle.sspi_negotiate.specs.declared.protocol.NegotiatedProtocol.{NegotiatedProtocol}
 use Rattle.sspi_negotiate.specs.declared.state.NegotiateState.TheVariants as states
+use Rattle.sspi_negotiate.specs.Beginning.{FallsBy, FallsResumed, MayBegin}
 use Rattle.sspi_negotiate.specs.Choices.{chosen_at, excuses_guest}
 use Rattle.sspi_negotiate.specs.Client.{spnego_client, spnego_resumed}
 use Rattle.sspi_negotiate.specs.Does.{Does, Stays, StaysNeeded, StaysPicked, StaysResumed, StaysUnmarked, StaysSilent, WaitsOn, told}
-use Rattle.sspi_negotiate.specs.Hand.{asks_left, hand_of}
+use Rattle.sspi_negotiate.specs.Hand.{asks_left, hand, hand_of}
 use Rattle.sspi_negotiate.specs.Holding.{MayHold, MayKeep, user_of, user_url}
 use Rattle.sspi_negotiate.specs.Keeps.{is_answering, is_opening}
-use Rattle.sspi_negotiate.specs.Negotiate.{Moves, ClientMoves, ServerMoves}
+use Rattle.sspi_negotiate.specs.Negotiate.{Moves, ClientMoves, ResumeStays, ServerMoves}
 use Rattle.sspi_negotiate.specs.Server.{spnego_server}
 use Rattle.sspi_negotiate.specs.Target.{IsNamedByIp}
 use Rattle.sspi_negotiate.specs.Values.{Negotiation, values_of}
 use Rattle.std.proofs.lemmas.Bool.{false≢true}
 use Rattle.sspi_negotiate.proofs.Asks.{resumed_falls}
+use Rattle.sspi_negotiate.proofs.Beginning.{begun_by, on_err}
 use Rattle.sspi_negotiate.proofs.Holding.{held_by}
 
 told_stays : (P : Type 0) (result : Result Step Error) → OnErr result P → OnRefused (told result) P
@@ -35,6 +37,11 @@ answered_stays : (P : Type 0) (result : Result Progressing Error) → OnErr resu
 answered_stays P (Ok (progress.Done step)) stays = tt
 answered_stays P (Ok (progress.Suspended request)) stays = tt
 answered_stays P (Err error) stays = stays
+
+resume_stays : {A F B C : Type 0} (result : Result Progressing Error) → (A → (F → B) → C) → OnErr result A → (F → OnErr result B) →
+    OnErr result C
+resume_stays (Ok progressing) both waits begun = tt
+resume_stays (Err error) both waits begun = both waits begun
 
 addressed : {P : Type 0} (ip : Bool) → (IsTrue ip ↔ P) → (ntlm : Bool) → ip && ntlm ≡ true → P × (ntlm ≡ true)
 addressed true is ntlm h = (is.0 refl, h)
@@ -58,9 +65,12 @@ module _ {N K : Type 0} (n : Meaning Setting N) (k : Meaning Setting K) (s : Neg
       StaysNeeded (excuses_guest (chosen_at s.state args.input) (values_of s) args) (values_of s) (values_of s2)) →
       (s.state ≢ states.Initial → MayHold (ip && s.packages.ntlm ≡ true) (user_url (values_of s) (user_of args.handle))
       (chosen_at s.state args.input) (hand_of s.mech) (hand_of s2.mech)) →
-      (s.state ≢ states.Initial → MayKeep (user_of args.handle) s.kept s2.kept) → ClientMoves n k s args (answer_of result) s2
-  client_moves args result s2 ip is follows stays unused unmarked need hand kept = record {
-    held = λ late. record { hand = held_by (addressed ip is s.packages.ntlm) (λ found h. h) (hand late); kept = kept late };
+      (s.state ≢ states.Initial → MayKeep (user_of args.handle) s.kept s2.kept) →
+      (s.state ≡ states.Initial → OnErr result (MayBegin (hand n k) (ip && s.packages.ntlm ≡ true)
+      (user_url (values_of s) (user_of args.handle)) args s s2)) → ClientMoves n k s args (answer_of result) s2
+  client_moves args result s2 ip is follows stays unused unmarked need held kept begun = record {
+    begun = λ first. answered_stays _ result (on_err result (begun_by (hand n k) (addressed ip is s.packages.ntlm)) (begun first));
+    held = λ late. record { hand = held_by (addressed ip is s.packages.ntlm) (λ found h. h) (held late); kept = kept late };
     ip = ip;
     ip_is = is;
     moves = record {
@@ -76,11 +86,12 @@ module _ {N K : Type 0} (n : Meaning Setting N) (k : Meaning Setting K) (s : Neg
       Does n k (spnego_resumed (values_of s) reply) s (answer_of result) s2 → OnErr result (WaitsOn s (record s { branch = Idle }) s2) →
       StaysSilent n k s s2 → (is_answering s.branch ≡ false → StaysUnmarked n k s s2) → s2.need ≡ s.need →
       (is_opening s.branch ≡ false → StaysPicked (values_of s) (values_of s2)) →
-      Moves n k (is_answering s.branch ≡ false) (WaitsOn s (record s { branch = Idle }) s2) (StaysResumed (values_of s) (values_of s2))
+      (is_opening s.branch ≡ true → OnErr result (FallsBy (FallsResumed (hand n k) s.mech reply) (values_of s) (values_of s2))) →
+      Moves n k (is_answering s.branch ≡ false) (ResumeStays n k s reply s2) (StaysResumed (values_of s) (values_of s2))
       (spnego_resumed (values_of s) reply) s (answer_of result) s2
-  resume_moves reply result s2 follows stays unused unmarked need picked = record {
+  resume_moves reply result s2 follows stays unused unmarked need picked begun = record {
     follows = follows;
-    stays = answered_stays _ result stays;
+    stays = answered_stays _ result (resume_stays result (λ waits begun. record { waits = waits; begun = begun }) stays begun);
     unused = unused;
     unmarked = unmarked;
     protected = record { need = need; picked = picked };

@@ -1,8 +1,8 @@
 pub mod Acquire
+pub mod Beginning
 pub mod Choices
 pub mod Client
 pub mod Does
-pub mod Passes
 pub mod Fallback
 pub mod Follows
 pub mod Hand
@@ -15,6 +15,7 @@ pub mod Lives
 pub mod Negotiate
 pub mod New
 pub mod PackageList
+pub mod Passes
 pub mod Pick
 pub mod Plan
 pub mod Protocol

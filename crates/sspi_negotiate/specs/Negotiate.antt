@@ -1,9 +1,10 @@
 -- What a negotiation means as a security context.
-use Rattle.std.specs.Prelude.{◌≡◌, ◌≢◌, ◌↔◌, ℕ, Bool, false, Result, IsTrue, OnErr}
+use Rattle.std.specs.Prelude.{◌≡◌, ◌≢◌, ◌↔◌, ℕ, Bool, false, true, Result, IsTrue, OnErr}
 use Rattle.sspi_types.specs.declared.error.Error.{Error}
 use Rattle.sspi_types.specs.declared.error_kind.ErrorKind.{ErrorKind}
 use Rattle.sspi_types.specs.Packages.{negotiate_entry}
 use Rattle.sspi_mech.specs.declared.step.Answer.{Answer}
+use Rattle.sspi_mech.specs.declared.step.Reply.{Reply}
 use Rattle.sspi_mech.specs.declared.step.Step.{Step}
 use Rattle.sspi_mech.specs.Answers.{OnRefused}
 use Rattle.sspi_mech.specs.Calls.{StepArgs, AcceptArgs, Call, ToAcquire, ToDescribe}
@@ -13,12 +14,13 @@ use Rattle.sspi_negotiate.specs.declared.branch.Branch.TheVariants.{Idle}
 use Rattle.sspi_negotiate.specs.declared.protocol.NegotiatedProtocol.{NegotiatedProtocol}
 use Rattle.sspi_negotiate.specs.declared.state.NegotiateState.TheVariants.{Initial}
 use Rattle.sspi_negotiate.specs.Acquire.{Acquires, RefusesToAcquire}
+use Rattle.sspi_negotiate.specs.Beginning.{FallsBy, FallsResumed, MayBegin}
 use Rattle.sspi_negotiate.specs.Choices.{chosen_at, excuses_guest}
 use Rattle.sspi_negotiate.specs.Client.{spnego_client, spnego_resumed}
 use Rattle.sspi_negotiate.specs.Does.{Does, Stays, StaysNeeded, StaysPicked, StaysResumed, StaysUnmarked, StaysSilent, WaitsOn, told}
 use Rattle.sspi_negotiate.specs.Hand.{hand, asks_left}
-use Rattle.sspi_negotiate.specs.Holding.{StaysHeld}
-use Rattle.sspi_negotiate.specs.Keeps.{is_answering}
+use Rattle.sspi_negotiate.specs.Holding.{StaysHeld, user_of, user_url}
+use Rattle.sspi_negotiate.specs.Keeps.{is_answering, is_opening}
 use Rattle.sspi_negotiate.specs.New.{NegotiateSetting, MadeOf, UnmadeOf}
 use Rattle.sspi_negotiate.specs.Plan.{Plan}
 use Rattle.sspi_negotiate.specs.Server.{spnego_server}
@@ -36,8 +38,15 @@ pub record Moves {N K : Type 0} (n : Meaning Setting N) (k : Meaning Setting K) 
   pub unmarked : IsFirstStep → StaysUnmarked n k s s2
   pub protected : Protected
 
+-- what a refused resume leaves; of a first step, NTLM takes the place of Kerberos only where that refuses the step so
+pub record ResumeStays {N K : Type 0} (n : Meaning Setting N) (k : Meaning Setting K) (s : Negotiation (NegotiatedProtocol N K))
+    (reply : Reply) (s2 : Negotiation (NegotiatedProtocol N K)) : Type 0 where
+  pub waits : WaitsOn s (record s { branch = Idle }) s2
+  pub begun : is_opening s.branch ≡ true → FallsBy (FallsResumed (hand n k) s.mech reply) (values_of s) (values_of s2)
+
 -- a client's step, whose plan depends on whether the target is named by its IP address; behind the first one the need of MICs goes
--- only where the server chooses NTLM for a guest, and what is in hand and kept changes only as StaysHeld says
+-- only where the server chooses NTLM for a guest, and what is in hand and kept changes only as StaysHeld says; a first one that is
+-- refused leaves in hand and of the packages what MayBegin says
 pub record ClientMoves {N K : Type 0} (n : Meaning Setting N) (k : Meaning Setting K) (s : Negotiation (NegotiatedProtocol N K))
     (args : StepArgs) (r : Answer)
     (s2 : Negotiation (NegotiatedProtocol N K)) : Type 0 where
@@ -47,6 +56,8 @@ pub record ClientMoves {N K : Type 0} (n : Meaning Setting N) (k : Meaning Setti
       (s.state ≢ Initial → StaysNeeded (excuses_guest (chosen_at s.state args.input) (values_of s) args) (values_of s) (values_of s2))
       (spnego_client ip (values_of s) args) s r s2
   pub held : s.state ≢ Initial → StaysHeld (values_of s) args (values_of s2)
+  pub begun : s.state ≡ Initial → OnRefused r (MayBegin (hand n k) (IsNamedByIp args.target × (s.packages.ntlm ≡ true))
+      (user_url (values_of s) (user_of args.handle)) args s s2)
 
 -- a server's step, which leaves the need of MICs where it is refused; once it has read the list, it leaves that and the name of
 -- the mechanism that it picked, which lives on by its plan (`LivesOn`)
@@ -70,7 +81,7 @@ module _ {N K : Type 0} (requests : ℕ) (n : Meaning Setting N) (k : Meaning Se
     acquires = Acquires n k;
     steps = ClientMoves n k;
     resumes = λ s reply r s2.
-        Moves n k (is_answering s.branch ≡ false) (WaitsOn s (record s { branch = Idle }) s2) (StaysResumed (values_of s) (values_of s2))
+        Moves n k (is_answering s.branch ≡ false) (ResumeStays n k s reply s2) (StaysResumed (values_of s) (values_of s2))
         (spnego_resumed (values_of s) reply) s r s2;
     accepts = ServerMoves n k;
     identifies = λ s identities s2. (hand n k).identifies s.mech identities s2.mech × (s2 ≡ record s { mech = s2.mech });

@@ -10,6 +10,7 @@ ghost use Rattle.sspi_negotiate.specs.declared.branch.Branch.TheVariants as bran
 ghost use Rattle.sspi_negotiate.specs.declared.protocol.Protocol.TheVariants as protocols;
 ghost use Rattle.sspi_negotiate.specs.declared.state.NegotiateState.TheVariants as states;
 ghost use Rattle.sspi_types.specs.declared.security_status.SecurityStatus.TheVariants as statuses;
+ghost use Rattle.sspi_negotiate.specs.Beginning.{FallsBy, FallsResumed};
 ghost use Rattle.sspi_negotiate.specs.Choices.{protocol_of, chosen_in, excuses_guest};
 ghost use Rattle.sspi_negotiate.specs.Client.{at_progress, chosen, chooses_kerberos, chooses_ntlm, in_kerberos, answers, without_ntlm};
 ghost use Rattle.sspi_negotiate.specs.Client.{stepped, settles, verified, at_verify_mic, confirmed};
@@ -438,6 +439,9 @@ impl<N: Mechanism, K: Mechanism> Negotiate<N, K> {
         ensures step { Does N.meaning K.meaning (spnego_resumed (values_of self.old) reply.now) self.old
             (answer_of (answered result)) self.new }
         ensures stays { OnErr result (WaitsOn self.old (record self.old { branch = branches.Idle }) self.new) }
+        ensures held { is_opening self.old.branch ≡ true →
+            OnErr result (FallsBy (FallsResumed (hand N.meaning K.meaning) self.old.mech reply.now)
+            (values_of self.old) (values_of self.new)) }
         // What every answer keeps.
         ensures unused { StaysSilent N.meaning K.meaning self.old self.new }
         ensures first { is_answering self.old.branch ≡ false → StaysUnmarked N.meaning K.meaning self.old self.new }

@@ -6,10 +6,11 @@ ghost use Rattle.sspi_mech.specs.Answers.{answer_of};
 ghost use Rattle.sspi_mech.specs.Calls.{step_args};
 ghost use Rattle.sspi_mech.specs.Answered.{answered};
 ghost use Rattle.sspi_negotiate.specs.declared.protocol.Protocol.TheVariants as protocols;
+ghost use Rattle.sspi_negotiate.specs.Beginning.{FallsBy, Falls, MayBegin, OnlyNtlm};
 ghost use Rattle.sspi_negotiate.specs.Choices.{chosen_at, excuses_guest};
 ghost use Rattle.sspi_negotiate.specs.Client.{is_closed, spnego_client, by_target, with_handle, keeps, ruled, client_at};
 ghost use Rattle.sspi_negotiate.specs.Does.{Does, Stays, StaysNeeded, StaysUnmarked, StaysSilent};
-ghost use Rattle.sspi_negotiate.specs.Hand.{hand_of};
+ghost use Rattle.sspi_negotiate.specs.Hand.{hand, hand_of};
 ghost use Rattle.sspi_negotiate.specs.Holding.{MayHold, MayKeep, user_of, user_url};
 ghost use Rattle.sspi_negotiate.specs.Negotiate.{negotiate};
 ghost use Rattle.sspi_negotiate.specs.Rows.{in_ntlm};
@@ -69,6 +70,9 @@ impl<N: Mechanism, K: Mechanism> Negotiate<N, K> {
         ensures step { Does N.meaning K.meaning (spnego_client ip (values_of self.old) (step_args args.now))
             self.old (answer_of (answered result)) self.new }
         ensures stays { OnErr result (Stays (values_of self.old) (values_of self.new)) }
+        ensures begun { self.old.state ≡ states.Initial → OnErr result (MayBegin (hand N.meaning K.meaning)
+            (ip && self.old.packages.ntlm ≡ true) (user_url (values_of self.old) (user_of (step_args args.now).handle))
+            (step_args args.now) self.old self.new) }
         // What every answer keeps.
         ensures unused { StaysSilent N.meaning K.meaning self.old self.new }
         ensures first { self.old.state ≡ states.Initial → StaysUnmarked N.meaning K.meaning self.old self.new }
@@ -96,6 +100,9 @@ impl<N: Mechanism, K: Mechanism> Negotiate<N, K> {
         ensures step { Does N.meaning K.meaning (by_target ip (values_of self.old) (step_args args.now))
             self.old (answer_of (answered result)) self.new }
         ensures stays { OnErr result (Stays (values_of self.old) (values_of self.new)) }
+        ensures begun { self.old.state ≡ states.Initial → OnErr result (MayBegin (hand N.meaning K.meaning)
+            (ip && self.old.packages.ntlm ≡ true) (user_url (values_of self.old) (user_of (step_args args.now).handle))
+            (step_args args.now) self.old self.new) }
         // What every answer keeps.
         ensures unused { StaysSilent N.meaning K.meaning self.old self.new }
         ensures first { self.old.state ≡ states.Initial → StaysUnmarked N.meaning K.meaning self.old self.new }
@@ -125,6 +132,8 @@ impl<N: Mechanism, K: Mechanism> Negotiate<N, K> {
             }) (step_args args.now)))
             self.old (answer_of (answered result)) self.new }
         ensures stays { self.old.packages.ntlm ≡ true → OnErr result (Stays (values_of self.old) (values_of self.new)) }
+        ensures begun { self.old.state ≡ states.Initial →
+            OnErr result (FallsBy (Unit {0}) (values_of self.old) (values_of self.new)) }
         // What every answer keeps.
         ensures unused { StaysSilent N.meaning K.meaning self.old self.new }
         ensures first { self.old.state ≡ states.Initial → StaysUnmarked N.meaning K.meaning self.old self.new }
@@ -147,6 +156,8 @@ impl<N: Mechanism, K: Mechanism> Negotiate<N, K> {
             (with_handle (record (values_of self.old) { packages = record self.old.packages { kerberos = false } }) (step_args args.now))
             self.old (answer_of (answered result)) self.new }
         ensures stays { hand_of self.old.mech ≡ protocols.Ntlm → OnErr result (Stays (values_of self.old) (values_of self.new)) }
+        ensures begun { self.old.state ≡ states.Initial → hand_of self.old.mech ≡ protocols.Ntlm →
+            OnErr result (OnlyNtlm (values_of self.old) (values_of self.new)) }
         // What every answer keeps.
         ensures unused { StaysSilent N.meaning K.meaning self.old self.new }
         ensures first { self.old.state ≡ states.Initial → StaysUnmarked N.meaning K.meaning self.old self.new }
@@ -167,6 +178,8 @@ impl<N: Mechanism, K: Mechanism> Negotiate<N, K> {
         ensures step { Does N.meaning K.meaning (with_handle (values_of self.old) (step_args args.now))
             self.old (answer_of (answered result)) self.new }
         ensures stays { OnErr result (Stays (values_of self.old) (values_of self.new)) }
+        ensures begun { self.old.state ≡ states.Initial → OnErr result (MayBegin (hand N.meaning K.meaning)
+            ⊥ (user_url (values_of self.old) (user_of (step_args args.now).handle)) (step_args args.now) self.old self.new) }
         // What every answer keeps.
         ensures unused { StaysSilent N.meaning K.meaning self.old self.new }
         ensures first { self.old.state ≡ states.Initial → StaysUnmarked N.meaning K.meaning self.old self.new }
@@ -194,6 +207,8 @@ impl<N: Mechanism, K: Mechanism> Negotiate<N, K> {
         ensures step { Does N.meaning K.meaning (keeps (identity_of buffers.now) (values_of self.old) (step_args args.now))
             self.old (answer_of (answered result)) self.new }
         ensures stays { OnErr result (Stays (values_of self.old) (values_of self.new)) }
+        ensures begun { self.old.state ≡ states.Initial → OnErr result (MayBegin (hand N.meaning K.meaning)
+            ⊥ (user_url (values_of self.old) (identity_of buffers.now)) (step_args args.now) self.old self.new) }
         // What every answer keeps.
         ensures unused { StaysSilent N.meaning K.meaning self.old self.new }
         ensures first { self.old.state ≡ states.Initial → StaysUnmarked N.meaning K.meaning self.old self.new }
@@ -218,6 +233,8 @@ impl<N: Mechanism, K: Mechanism> Negotiate<N, K> {
             (record (values_of self.old) { kept = Some (buffered.AuthIdentity (buffers_of identity.now)) }) (step_args args.now))
             self.old (answer_of (answered result)) self.new }
         ensures stays { OnErr result (Stays (values_of self.old) (values_of self.new)) }
+        ensures begun { self.old.state ≡ states.Initial → OnErr result (MayBegin (hand N.meaning K.meaning)
+            ⊥ (rule_url (values_of self.old) identity.now.username) (step_args args.now) self.old self.new) }
         // What every answer keeps.
         ensures unused { StaysSilent N.meaning K.meaning self.old self.new }
         ensures first { self.old.state ≡ states.Initial → StaysUnmarked N.meaning K.meaning self.old self.new }
@@ -241,6 +258,8 @@ impl<N: Mechanism, K: Mechanism> Negotiate<N, K> {
         ensures step { Does N.meaning K.meaning (ruled (rule_url (values_of self.old) name.now) (values_of self.old) (step_args args.now))
             self.old (answer_of (answered result)) self.new }
         ensures stays { OnErr result (Stays (values_of self.old) (values_of self.new)) }
+        ensures begun { self.old.state ≡ states.Initial → OnErr result (MayBegin (hand N.meaning K.meaning)
+            ⊥ (rule_url (values_of self.old) name.now) (step_args args.now) self.old self.new) }
         // What every answer keeps.
         ensures unused { StaysSilent N.meaning K.meaning self.old self.new }
         ensures first { self.old.state ≡ states.Initial → StaysUnmarked N.meaning K.meaning self.old self.new }
@@ -260,6 +279,9 @@ impl<N: Mechanism, K: Mechanism> Negotiate<N, K> {
         ensures step { Does N.meaning K.meaning (client_at self.old.state (values_of self.old) (step_args args.now))
             self.old (answer_of (answered result)) self.new }
         ensures stays { OnErr result (Stays (values_of self.old) (values_of self.new)) }
+        ensures begun { self.old.state ≡ states.Initial →
+            OnErr result (FallsBy (Falls (hand N.meaning K.meaning) self.old.mech (step_args args.now))
+            (values_of self.old) (values_of self.new)) }
         // What every answer keeps.
         ensures unused { StaysSilent N.meaning K.meaning self.old self.new }
         ensures first { self.old.state ≡ states.Initial → StaysUnmarked N.meaning K.meaning self.old self.new }

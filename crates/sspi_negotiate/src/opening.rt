@@ -4,6 +4,7 @@ ghost use Rattle.sspi_mech.specs.Answers.{answer_of, IfRefused};
 ghost use Rattle.sspi_mech.specs.Calls.{step_args};
 ghost use Rattle.sspi_mech.specs.Context.{NeitherSealsNorOpens};
 ghost use Rattle.sspi_mech.specs.Answered.{answered};
+ghost use Rattle.sspi_negotiate.specs.Beginning.{SameHand, FallsBy, Falls, FallsResumed};
 ghost use Rattle.sspi_negotiate.specs.Client.{at_initial, first_step, begun, offers, falls, falls_back};
 ghost use Rattle.sspi_negotiate.specs.Client.{steps_again, handle_for, passwords, resumes_opening};
 ghost use Rattle.sspi_negotiate.specs.Does.{Does, Stays, StaysUnmarked, StaysSilent, UnlessMemory, WaitsOn, told};
@@ -104,6 +105,8 @@ impl<N: Mechanism, K: Mechanism> Negotiate<N, K> {
         ensures step { Does N.meaning K.meaning (at_initial (values_of self.old) (step_args args.now))
             self.old (answer_of (answered result)) self.new }
         ensures stays { OnErr result (Stays (values_of self.old) (values_of self.new)) }
+        ensures held { OnErr result (FallsBy (Falls (hand N.meaning K.meaning) self.old.mech (step_args args.now))
+            (values_of self.old) (values_of self.new)) }
         // What every answer keeps.
         ensures unused { StaysSilent N.meaning K.meaning self.old self.new }
         ensures unmarked { StaysUnmarked N.meaning K.meaning self.old self.new }
@@ -123,6 +126,8 @@ impl<N: Mechanism, K: Mechanism> Negotiate<N, K> {
         ensures step { Does N.meaning K.meaning (first_step first (values_of self.old) (step_args args.now))
             self.old (answer_of (answered result)) self.new }
         ensures stays { OnErr result (Stays (values_of self.old) (values_of self.new)) }
+        ensures held { OnErr result (FallsBy (Falls (hand N.meaning K.meaning) self.old.mech (step_args args.now))
+            (values_of self.old) (values_of self.new)) }
         // What every answer keeps.
         ensures unused { StaysSilent N.meaning K.meaning self.old self.new }
         ensures unmarked { StaysUnmarked N.meaning K.meaning self.old self.new }
@@ -145,6 +150,7 @@ impl<N: Mechanism, K: Mechanism> Negotiate<N, K> {
         ensures unused { StaysSilent N.meaning K.meaning self.old self.new }
         ensures unmarked { StaysUnmarked N.meaning K.meaning self.old self.new }
         ensures need { self.new.need ≡ self.old.need }
+        ensures held { SameHand (values_of self.old) (values_of self.new) }
     {
         if has_begun(step.status) {
             self.offer(step.output)
@@ -162,6 +168,7 @@ impl<N: Mechanism, K: Mechanism> Negotiate<N, K> {
         ensures unused { StaysSilent N.meaning K.meaning self.old self.new }
         ensures unmarked { StaysUnmarked N.meaning K.meaning self.old self.new }
         ensures need { self.new.need ≡ self.old.need }
+        ensures held { SameHand (values_of self.old) (values_of self.new) }
     {
         let list = offered(self.alloc, self.protocol.protocol(), self.packages)?;
         let token = NegTokenInit {
@@ -190,6 +197,8 @@ impl<N: Mechanism, K: Mechanism> Negotiate<N, K> {
         ensures step { Does N.meaning K.meaning (falls (values_of self.old) (values_of self.old) first refusal.error_type)
             self.old (answer_of (answered result)) self.new }
         ensures stays { OnErr result (Stays (values_of self.old) (values_of self.new)) }
+        ensures held { OnErr result (FallsBy ((is_fallback refusal.error_type ≡ true) × (is_kerberos_hand (hand_of self.old.mech) ≡ true))
+            (values_of self.old) (values_of self.new)) }
         // What every answer keeps.
         ensures unused { StaysSilent N.meaning K.meaning self.old self.new }
         ensures unmarked { StaysUnmarked N.meaning K.meaning self.old self.new }
@@ -209,6 +218,8 @@ impl<N: Mechanism, K: Mechanism> Negotiate<N, K> {
             (falls (record (values_of self.old) { branch = branches.Opening first }) (values_of self.old) first refusal.error_type)
             self.old (answer_of (answered result)) self.new }
         ensures stays { OnErr result (WaitsOn (record self.old { branch = branches.Opening first }) self.old self.new) }
+        ensures held { OnErr result (FallsBy ((is_fallback refusal.error_type ≡ true) × (is_kerberos_hand (hand_of self.old.mech) ≡ true))
+            (values_of self.old) (values_of self.new)) }
         // What every answer keeps.
         ensures unused { StaysSilent N.meaning K.meaning self.old self.new }
         ensures unmarked { StaysUnmarked N.meaning K.meaning self.old self.new }
@@ -231,6 +242,7 @@ impl<N: Mechanism, K: Mechanism> Negotiate<N, K> {
         ensures stays { self.old.packages.ntlm ≡ true → waited ≡ false → OnErr result (Stays (values_of self.old) (values_of self.new)) }
         ensures waits { self.old.packages.ntlm ≡ true → waited ≡ true →
             OnErr result (WaitsOn (record self.old { branch = branches.Opening first }) self.old self.new) }
+        ensures held { OnErr result (FallsBy (Unit {0}) (values_of self.old) (values_of self.new)) }
         // What every answer keeps.
         ensures unused { StaysSilent N.meaning K.meaning self.old self.new }
         ensures unmarked { StaysUnmarked N.meaning K.meaning self.old self.new }
@@ -260,6 +272,7 @@ impl<N: Mechanism, K: Mechanism> Negotiate<N, K> {
         ensures unused { StaysSilent N.meaning K.meaning self.old self.new }
         ensures unmarked { StaysUnmarked N.meaning K.meaning self.old self.new }
         ensures need { self.new.need ≡ self.old.need }
+        ensures held { SameHand (values_of self.old) (values_of self.new) }
     {
         let representation = self.data_representation;
         match step_again(
@@ -287,6 +300,8 @@ impl<N: Mechanism, K: Mechanism> Negotiate<N, K> {
         ensures step { Does N.meaning K.meaning (resumes_opening first (values_of self.old) reply.now)
             self.old (answer_of (answered result)) self.new }
         ensures stays { OnErr result (WaitsOn (record self.old { branch = branches.Opening first }) self.old self.new) }
+        ensures held { OnErr result (FallsBy (FallsResumed (hand N.meaning K.meaning) self.old.mech reply.now)
+            (values_of self.old) (values_of self.new)) }
         // What every answer keeps.
         ensures unused { StaysSilent N.meaning K.meaning self.old self.new }
         ensures unmarked { StaysUnmarked N.meaning K.meaning self.old self.new }

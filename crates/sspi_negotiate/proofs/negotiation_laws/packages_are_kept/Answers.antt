@@ -20,7 +20,7 @@ returns-clause-resumed g c = λ old new reply answer s. packages_kept _ answer (
     (unless_map answer (λ f.
     ends (KeptFrom (values_of old)) (hand g.N.Mechanism.meaning g.K.Mechanism.meaning)
     (spnego_resumed (values_of old) reply) old.mech new.mech answer (values_of new)
-    (resumed_keeps (values_of old) reply) f) s.follows.as_planned) (waiting_keeps old new) s.stays
+    (resumed_keeps (values_of old) reply) f) s.follows.as_planned) (λ kept. waiting_keeps old new kept.waits) s.stays
 
 pub returns-clause-server : goal.returns-clause-server
 returns-clause-server g c = λ old new args result s. packages_kept _ (told result) (values_of old) (values_of new)

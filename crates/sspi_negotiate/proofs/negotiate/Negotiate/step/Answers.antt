@@ -5,3 +5,6 @@ returns-else-is_closed-clause-hand g c = rw (← c.self.view_is) c.step_to.ensur
 
 pub returns-else-is_closed-clause-kept : goal.returns-else-is_closed-clause-kept
 returns-else-is_closed-clause-kept g c = rw (← c.self.view_is) c.step_to.ensures.kept
+
+pub returns-else-is_closed-clause-begun : goal.returns-else-is_closed-clause-begun
+returns-else-is_closed-clause-begun g c = rw (← c.self.view_is) c.step_to.ensures.begun
