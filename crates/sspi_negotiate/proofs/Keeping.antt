@@ -1,17 +1,22 @@
 -- No step undoes what is kept.
-use Rattle.std.proofs.Common.{Bool, refl, sym, subst, ap, ◌∙◌}
+use Rattle.std.proofs.Common.{◌≡◌, ℕ, Bool, refl, sym, subst, ap, ◌∙◌}
 use Rattle.std.proofs.lemmas.Bool.{false≢true}
+use Rattle.sspi_types.specs.declared.error.Error.{Error}
 use Rattle.sspi_mech.specs.declared.step.Answer.{Answer}
 use Rattle.sspi_mech.specs.declared.step.Answer.TheVariants.{Done, Ask, Refused}
 use Rattle.sspi_mech.specs.declared.step.Reply.{Reply}
 use Rattle.sspi_mech.specs.Answers.{OnRefused}
 use Rattle.sspi_mech.specs.Calls.{StepArgs, AcceptArgs}
+use Rattle.sspi_mech.specs.Meaning.{Meaning}
+use Rattle.sspi_mech.specs.Settings.{Setting}
 use Rattle.sspi_negotiate.specs.Client.{spnego_client, spnego_resumed}
 use Rattle.sspi_negotiate.specs.declared.branch.Branch.TheVariants.{Idle}
 use Rattle.sspi_negotiate.specs.declared.protocol.NegotiatedProtocol.{NegotiatedProtocol}
+use Rattle.sspi_negotiate.specs.declared.state.Role.TheVariants.{Client}
 use Rattle.sspi_negotiate.specs.Does.{WaitsOn, as_before, no_longer, UnlessMemory}
 use Rattle.sspi_negotiate.specs.Hand.{hand_of}
 use Rattle.sspi_negotiate.specs.Keeps.{Keeps, KeepsPackages, HasList, is_opening}
+use Rattle.sspi_negotiate.specs.Negotiate.{negotiate}
 use Rattle.sspi_negotiate.specs.Server.{spnego_server}
 use Rattle.sspi_negotiate.specs.Values.{Values, Negotiation}
 use Rattle.sspi_negotiate.proofs.ClientEnds.{client_ends, resumed_ends}
@@ -32,6 +37,16 @@ waiting_keeps {N = N} {K = K} s s2 (as_before same) =
     subst (λ (x : Negotiation (NegotiatedProtocol N K)). KeepsPackages s.packages (hand_of s.mech) x.packages (hand_of x.mech)) (sym same)
     (record { ntlm = λ h. h; kerberos = λ h. h; in_hand = λ h. h })
 waiting_keeps s s2 (no_longer stays) = stays.packages
+
+waiting_list : {N K : Type 0} (s s2 : Negotiation (NegotiatedProtocol N K)) → WaitsOn s (record s { branch = Idle }) s2 →
+    s.role ≡ Client → s2.list ≡ s.list
+waiting_list {N = N} {K = K} s s2 (as_before same) client = ap (λ (x : Negotiation (NegotiatedProtocol N K)). x.list) same
+waiting_list s s2 (no_longer stays) client = stays.list client
+
+-- a client keeps its list where a resume is refused
+pub resumed_list : {N K : Type 0} (r : ℕ) (n : Meaning Setting N) (k : Meaning Setting K) (s s2 : Negotiation (NegotiatedProtocol N K))
+    (reply : Reply) (error : Error) → (negotiate r n k).resumes s reply (Refused error) s2 → s.role ≡ Client → s2.list ≡ s.list
+resumed_list r n k s s2 reply error moves client = waiting_list s s2 moves.stays.waits client
 
 abbrev pub KeptFrom : Values → Answer → Values → Type 0
 KeptFrom v r v2 = Keeps v v2

@@ -33,6 +33,7 @@ use Rattle.sspi_negotiate.specs.Plan.{Plan}
 use Rattle.sspi_negotiate.specs.Rule.{TakenBy}
 use Rattle.sspi_negotiate.specs.Values.{Negotiation, values_of}
 use Rattle.sspi_negotiate.proofs.Ends.{AllEnds, ends}
+use Rattle.sspi_negotiate.proofs.Keeping.{resumed_list}
 use Rattle.sspi_credssp.specs.declared.context.SspiContext.{SspiContext}
 use Rattle.sspi_credssp.specs.declared.context.SspiContext.TheVariants as contexts
 use Rattle.sspi_credssp.specs.declared.mode.ClientMode.{ClientMode}
@@ -201,7 +202,7 @@ module _ {N K : Type 0} (r q : ℕ) (n : Meaning Setting N) (k : Meaning Setting
         OnRefused x (ShowsOffer n k Has s2)
     resumes_shown reply (Done step) moves h = tt
     resumes_shown reply (Ask request) moves h = tt
-    resumes_shown reply (Refused error) moves h = refusal_shows (moves.stays.list h.role)
+    resumes_shown reply (Refused error) moves h = refusal_shows (resumed_list r n k s s2 reply error moves h.role)
         (λ marked. by_branch (Has s.list) (is_answering s.branch) h.answering
         (λ other. h.marked (marks_before ((hand n k).counts s.mech) ((hand n k).counts s2.mech) (moves.unmarked other) marked)))
 
