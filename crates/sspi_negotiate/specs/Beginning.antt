@@ -22,7 +22,7 @@ pub record OnlyNtlm (old new : Values) : Type 0 where
   pub hand : new.hand ≡ Ntlm
   pub packages : new.packages ≡ record old.packages { kerberos = false }
 
--- these are as they were, or NTLM alone is left, for a cause
+-- the two are as they were, or only NTLM is left, for a cause
 pub data FallsBy (Cause : Type 0) (old new : Values) : Type 0 where
   unmoved : SameHand old new → FallsBy Cause old new
   by_cause : Cause → OnlyNtlm old new → FallsBy Cause old new
@@ -38,8 +38,8 @@ module _ {N K : Type 0} (c : Meaning Origin (NegotiatedProtocol N K)) where
   FallsResumed m reply = (hand_of m ≡ Kerberos) × (error : Error) × (m2 : NegotiatedProtocol N K) × c.resumes m reply (Refused error) m2
       × (is_fallback error.error_type ≡ true)
 
-  -- These are as they were, or Kerberos was taken because of the URL of a KDC, or NTLM alone is left: because of the target's
-  -- address, or because the Kerberos in hand refused the step so.
+  -- What a client's refused first step leaves of the two: as they were, or Kerberos in hand because of the URL of a KDC, or only
+  -- NTLM, because of the target's address or because the Kerberos in hand refused the step so.
   pub data MayBegin (ByAddress : Type 0) (url : Option (List ℕ)) (args : StepArgs) (old new : Negotiation (NegotiatedProtocol N K)) :
       Type 0 where
     unchanged : SameHand (values_of old) (values_of new) → MayBegin ByAddress url args old new
