@@ -1,12 +1,17 @@
-.PHONY: run play test check fmt size apart guide wrong-bodies hostile fuzz
+.PHONY: run play program test check fmt size apart guide wrong-bodies hostile fuzz
 
-# Carries one delegation and shows its messages, each with the end that sent it, and the outcome. Builds, and proves nothing.
+# Carries one delegation and shows its messages, each with the end that sent it, and the outcome. At once where the gate or `make program`
+# left the program, else in half a minute, which proves nothing.
 run:
-	@cd crates/sspi_run && rt try -- delegate < ../../examples/delegate.scenario
+	@tools/run delegate examples/delegate.scenario
 
 # Hands out the deliveries of a schedule, and shows what each end sent and how it stands.
 play:
-	@cd crates/sspi_run && rt try -- play < ../../examples/play.scenario
+	@tools/run play examples/play.scenario
+
+# Proves the program with every library below it, and leaves it for `make run` and tools/run: some 30 processor minutes the first time.
+program:
+	@cd crates/sspi_run && rt run -- gen 1 > /dev/null
 
 # Every proof, every wrong body of must-fail/, every test and program.
 test:
