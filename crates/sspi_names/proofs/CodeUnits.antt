@@ -229,11 +229,6 @@ pub unpaired : (u : ℕ) (us : List ℕ) → 0xD800 ≤ u → u < 0xE000 → ¬ 
 unpaired u us from until apart = ap (list_any lacks) (utf16_chars_lone u us apart
     ∙ ap (λ o. o ∷ utf16_chars us) (lone_unit_char_surrogate u from until))
 
-pub after_low : (u : ℕ) (others : List ℕ) → 1 ≤ length others → IsPair u (get_or others 0 0)
-    → has_unpaired_surrogate (u ∷ others) ≡ has_unpaired_surrogate (take (length others - 1) (drop 1 others))
-after_low u [] some p = absurd (omega arith)
-after_low u (v ∷ us) some p = after_pair u v us p ∙ ap has_unpaired_surrogate (sym (take_all (suc (length us) - 1) us (omega arith)))
-
 -- two bytes off the front
 pub units_le-front : (bytes : List ℕ) → 2 ≤ length bytes
     → units_le bytes ≡ (get_or bytes 0 0 + 256 * get_or bytes 1 0) ∷ units_le (take (length bytes - 2) (drop 2 bytes))
@@ -248,6 +243,32 @@ unfolding units_le
 units_le-end [] few = refl
 units_le-end (b ∷ []) few = refl
 units_le-end (low ∷ high ∷ bytes) few = absurd (omega arith)
+
+-- the code unit that two bytes off the front are
+pub front_pair : (u v : ℕ) (others : List ℕ) → 2 ≤ length others → v ≡ get_or others 0 0 + get_or others 1 0 * 256 → IsPair u v
+    → has_unpaired_surrogate (u ∷ units_le others) ≡ has_unpaired_surrogate (units_le (take (length others - 2) (drop 2 others)))
+front_pair u v others some is p =
+    let first : get_or others 0 0 + 256 * get_or others 1 0 ≡ v = omega arith in
+    ap (λ us. has_unpaired_surrogate (u ∷ us)) (units_le-front others some ∙ ap (λ x. x ∷ units_le (take (length others - 2) (drop 2 others))) first)
+    ∙ after_pair u v (units_le (take (length others - 2) (drop 2 others))) p
+
+pub front_apart : (u v : ℕ) (others : List ℕ) → 2 ≤ length others → v ≡ get_or others 0 0 + get_or others 1 0 * 256 → 0xD800 ≤ u
+    → u < 0xE000 → ¬ (IsPair u v) → has_unpaired_surrogate (u ∷ units_le others) ≡ true
+front_apart u v others some is from until apart =
+    let rest = units_le (take (length others - 2) (drop 2 others)) in
+    let first : get_or others 0 0 + 256 * get_or others 1 0 ≡ v = omega arith in
+    ap (λ us. has_unpaired_surrogate (u ∷ us)) (units_le-front others some ∙ ap (λ x. x ∷ rest) first) ∙ unpaired u (v ∷ rest) from until apart
+
+pub alone : (u : ℕ) (others : List ℕ) → length others < 2 → 0xD800 ≤ u → u < 0xE000 → has_unpaired_surrogate (u ∷ units_le others) ≡ true
+alone u others few from until =
+    ap (λ us. has_unpaired_surrogate (u ∷ us)) (units_le-end others few) ∙ unpaired u [] from until (λ p. omega (arith, p.2))
+
+-- a character is taken off the front of the bytes
+pub taken : (rest : List ℕ) (u : ℕ) (b : Bool) → 2 ≤ length rest → u ≡ get_or rest 0 0 + get_or rest 1 0 * 256
+    → has_unpaired_surrogate (u ∷ units_le (take (length rest - 2) (drop 2 rest))) ≡ b → has_unpaired_surrogate (units_le rest) ≡ b
+taken rest u b some is e =
+    let first : get_or rest 0 0 + 256 * get_or rest 1 0 ≡ u = omega arith in
+    ap has_unpaired_surrogate (units_le-front rest some ∙ ap (λ x. x ∷ units_le (take (length rest - 2) (drop 2 rest))) first) ∙ e
 
 pub nothing_unpaired : has_unpaired_surrogate [] ≡ false
 nothing_unpaired = ap (list_any lacks) utf16_chars-nil
@@ -286,26 +307,19 @@ decoded_even : (bytes : List ℕ) → length bytes % 2 ≡ 0 → decode_le bytes
 unfolding decode_le
 decoded_even bytes even = rw even
 
-pub even_decoded : (bytes units : List ℕ) → length bytes % 2 ≡ 0 → units ≡ units_le bytes → has_unpaired_surrogate units ≡ false →
-    decode_le bytes ≡ Ok units
-even_decoded bytes units even e paired = decoded_even bytes even ∙ rw (← e, paired)
+pub even_decoded : (bytes : List ℕ) → length bytes % 2 ≡ 0 → has_unpaired_surrogate (units_le bytes) ≡ false
+    → decode_le bytes ≡ Ok (units_le bytes)
+even_decoded bytes even paired = decoded_even bytes even ∙ rw paired
 
-pub even_refused : (bytes units : List ℕ) → length bytes % 2 ≡ 0 → units ≡ units_le bytes → has_unpaired_surrogate units ≡ true →
-    decode_le bytes ≡ Err UnpairedSurrogate
-even_refused bytes units even e paired = decoded_even bytes even ∙ rw (← e, paired)
+pub even_refused : (bytes : List ℕ) → length bytes % 2 ≡ 0 → has_unpaired_surrogate (units_le bytes) ≡ true
+    → decode_le bytes ≡ Err UnpairedSurrogate
+even_refused bytes even paired = decoded_even bytes even ∙ rw paired
 
 abbrev refused : Utf16Error → Result (List ℕ) Utf16Error
 refused e = Err e
 
 abbrev refused_or : Bool → List ℕ → Result (List ℕ) Utf16Error
 refused_or b units = cond b (Err UnpairedSurrogate) (Ok units)
-
-not_odd : (b : Bool) (units : List ℕ) → ¬ (refused_or b units ≡ Err OddLength)
-not_odd true units e = cc
-not_odd false units e = cc
-
-pub even_is_not_odd : (bytes : List ℕ) → length bytes % 2 ≡ 0 → ¬ (decode_le bytes ≡ Err OddLength)
-even_is_not_odd bytes even e = not_odd (has_unpaired_surrogate (units_le bytes)) (units_le bytes) (sym (decoded_even bytes even) ∙ e)
 
 -- code units of bytes have 16 bits
 pub units_le-small : (bytes : List ℕ) → ((i : ℕ) → get_or bytes i 0 < 256) → All IsSmall (units_le bytes)

@@ -1,4 +1,5 @@
 pub mod CodeUnits
+pub mod Counted
 pub mod Folded
 pub mod Found
 pub mod Identities

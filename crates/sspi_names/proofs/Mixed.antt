@@ -7,7 +7,7 @@ use Rattle.sspi_names.specs.Grammar.{IsMixed}
 use Rattle.sspi_names.proofs.Parse.{mixed, none-drop}
 
 -- what stands behind the first `\` has one only where there is a first
-behind_first : (text : List ℕ) → has_backslash (after_first is_backslash text) ≡ true → has_backslash text ≡ true
+pub behind_first : (text : List ℕ) → has_backslash (after_first is_backslash text) ≡ true → has_backslash text ≡ true
 behind_first text twice = elim (cases_Bool (has_backslash text)) [
   | inl some ↦ some
   | inr none ↦

@@ -1,5 +1,5 @@
 -- An identity and credentials, and the buffers of each.
-use Rattle.std.specs.Prelude.{◌≡◌, ◌⊎◌, List, [], ℕ, Option, Some, None, Result, Ok, Err, option_map}
+use Rattle.std.specs.Prelude.{◌≡◌, List, [], ℕ, Option, Some, None, Result, Ok, Err, option_map}
 use Rattle.std.specs.Str.{IsUtf8}
 use Rattle.sspi_types.specs.declared.error.Error.{Error}
 use Rattle.sspi_types.specs.Errors.{memory_error}
@@ -36,10 +36,11 @@ identity_of b =
     option_map (λ name. record { username = name; password = record { value = text_of b.password.value } })
     (new_name (text_of b.user) (text_of b.domain))
 
--- exactly that identity; the name's refusal exactly where there is none; want of memory
+-- exactly that identity; the name's refusal exactly where there is none; memory is asked for only where there is one
 abbrev pub IsIdentified : Result AuthIdentity Error → Option AuthIdentity → Type 0
 IsIdentified (Ok identity) found = found ≡ Some identity
-IsIdentified (Err e) found = ((e ≡ bad_name) × (found ≡ None)) ⊎ (e ≡ memory_error)
+IsIdentified (Err e) None = e ≡ bad_name
+IsIdentified (Err e) (Some identity) = e ≡ memory_error
 
 -- what is true of each identity that is made
 pub record IsIdentity (i : AuthIdentity) : Type 0 where

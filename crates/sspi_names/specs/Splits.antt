@@ -1,5 +1,5 @@
 -- How a name is parted, and put together again.
-use Rattle.std.specs.Prelude.{◌≡◌, ◌⊎◌, List, ℕ, Option, Some, None, Result, Ok, Err}
+use Rattle.std.specs.Prelude.{◌≡◌, List, ℕ, Option, Some, None, Result, Ok, Err}
 use Rattle.sspi_types.specs.declared.error.Error.{Error}
 use Rattle.sspi_types.specs.Errors.{memory_error}
 use Rattle.sspi_names.specs.Name.{Name, parse_name}
@@ -9,7 +9,8 @@ use Rattle.sspi_names.specs.Username.{name_at, IsHeld}
 
 abbrev pub IsNameOfParts : Result Name Error → Option Name → Type 0
 IsNameOfParts (Ok name) found = found ≡ Some name
-IsNameOfParts (Err e) found = ((e ≡ bad_name) × (found ≡ None)) ⊎ (e ≡ memory_error)
+IsNameOfParts (Err e) None = e ≡ bad_name
+IsNameOfParts (Err e) (Some name) = e ≡ memory_error
 
 -- that text shows the name which `value` is
 pub record IsSplit (value inner : List ℕ) (shape : Shape) : Type 0 where

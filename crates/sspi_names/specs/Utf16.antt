@@ -1,6 +1,6 @@
 -- UTF-16 (The Unicode Standard 3.9, D91; RFC 2781 2): the code units of a text, the text of code units, and
 -- their bytes with the low byte first.
-use Rattle.std.specs.Prelude.{◌≡◌, ◌≢◌, ◌+◌, ◌*◌, ◌/◌, ◌%◌, ◌==◌, ℕ, List, [], ◌∷◌, length, true, Result, Ok, Err, None, if◌then◌else◌}
+use Rattle.std.specs.Prelude.{◌≡◌, ◌+◌, ◌*◌, ◌/◌, ◌%◌, ◌==◌, ℕ, List, [], ◌∷◌, length, true, Result, Ok, Err, None, if◌then◌else◌}
 use Rattle.std.specs.List.{flat_map}
 use Rattle.std.specs.Str.{chars, all_scalars, encode_utf8_all}
 use Rattle.std.specs.Char.Escape.{encode_utf16}
@@ -46,12 +46,12 @@ decode_le bytes =
     then (if has_unpaired_surrogate (units_le bytes) then Err UnpairedSurrogate else Ok (units_le bytes))
     else Err OddLength
 
--- exactly that text or that refusal, but for want of memory, which an odd length never meets
+-- exactly that text or that refusal; memory is asked for only where there is a text
 abbrev pub IsDecoded : Result (List ℕ) Utf16Error → Result (List ℕ) Utf16Error → Type 0
 IsDecoded (Ok units) decoded = decoded ≡ Ok units
 IsDecoded (Err OddLength) decoded = decoded ≡ Err OddLength
 IsDecoded (Err UnpairedSurrogate) decoded = decoded ≡ Err UnpairedSurrogate
-IsDecoded (Err InsufficientMemory) decoded = decoded ≢ Err OddLength
+IsDecoded (Err InsufficientMemory) decoded = (units : List ℕ) × (decoded ≡ Ok units)
 
 -- ---- what a refused text becomes
 

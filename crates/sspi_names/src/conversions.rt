@@ -1,7 +1,8 @@
-ghost use Rattle.std.specs.Prelude.{◌≡◌, Some, IfOk};
+ghost use Rattle.std.specs.Prelude.{◌≡◌, Some, IfOk, is_none};
 ghost use Rattle.sspi_names.specs.Identity.{AreBuffers, buffers_of, identity_of, user_text, domain_text, IsIdentified};
 ghost use Rattle.sspi_names.specs.Splits.{IsNameOfParts};
-ghost use Rattle.sspi_names.specs.Name.{new_name, IsName};
+ghost use Rattle.sspi_names.specs.Name.{new_name, parse_name, has_separator, IsName};
+ghost use Rattle.sspi_names.specs.Utf16.{text_of};
 
 use crate::error::UsernameError;
 use crate::format::UserNameFormat;
@@ -10,6 +11,11 @@ use crate::username::Username;
 use crate::utf16::Utf16Text;
 use sspi_types::{Error, ErrorKind, Reason, Secret, Text};
 use std::alloc::{AllocError, Global};
+
+/// The code units of `@` and `\`.
+const AT_SIGN: u16 = 0x40;
+
+const BACKSLASH: u16 = 0x5c;
 
 impl AuthIdentity {
     /// The identity as UTF-16. A user principal name is the user, as `inner` shows it, with an empty domain;
@@ -30,11 +36,14 @@ impl AuthIdentity {
     }
 
     /// The identity of buffers: `Username::new` of the user and the domain. InvalidParameter exactly where they mix
-    /// the forms of a name.
+    /// the forms of a name; memory is taken only where they do not.
     #[tactic(auto, unfolding(crate::specs::Identity::identity_of))]
     pub fn from_buffers(alloc: Global, buffers: &AuthIdentityBuffers) -> Result<AuthIdentity, Error>
         ensures { IsIdentified result (identity_of buffers.now) }
     {
+        if mix_forms(&buffers.user, &buffers.domain) {
+            return Err(Error::new(ErrorKind::InvalidParameter, Reason::UserName));
+        }
         let user = buffers.user.to_string(alloc)?;
         let domain = buffers.domain.to_string(alloc)?;
         let username = name_of_parts(alloc, user.as_str(), domain.as_str())?;
@@ -67,6 +76,32 @@ fn domain_part(name: &Username) -> &str
         UserNameFormat::UserPrincipalName => "",
         UserNameFormat::DownLevelLogonName => name.domain_text(),
     }
+}
+
+/// Whether a user and a domain mix the forms of a name. Takes no memory.
+fn mix_forms(user: &Utf16Text, domain: &Utf16Text) -> bool
+    ensures { result ≡ is_none (new_name (text_of user.now) (text_of domain.now)) }
+{
+    if domain.is_empty() {
+        mixes_forms(user)
+    } else {
+        has_separator(user) || has_separator(domain)
+    }
+}
+
+/// The same of a user alone.
+fn mixes_forms(user: &Utf16Text) -> bool
+    ensures { result ≡ is_none (parse_name (text_of user.now)) }
+{
+    let backslashes = user.count_of(BACKSLASH);
+    1 < backslashes || (0 < backslashes && 0 < user.count_of(AT_SIGN))
+}
+
+/// Whether a `@` or a `\` stands in the text.
+fn has_separator(text: &Utf16Text) -> bool
+    ensures { result ≡ has_separator (text_of text.now) }
+{
+    0 < text.count_of(AT_SIGN) || 0 < text.count_of(BACKSLASH)
 }
 
 /// A name whose user and domain mix the forms is InvalidParameter.

@@ -1,4 +1,4 @@
-ghost use Rattle.std.specs.Prelude.{◌≡◌, ◌≤◌, ◌∷◌, length, true, not, IfOk, IfSome, MatchOption, string_bytes};
+ghost use Rattle.std.specs.Prelude.{◌≡◌, ◌==◌, ◌≤◌, ◌∷◌, count_by, length, true, not, IfOk, IfSome, MatchOption, string_bytes};
 ghost use Rattle.std.specs.Char.Utf16.{has_unpaired_surrogate};
 ghost use Rattle.sspi_names.specs.Utf16.{units_le};
 
@@ -60,18 +60,19 @@ impl Utf16Text {
 
     /// The text that the bytes are, each code unit as two bytes with the low one first.
     /// `OddLength` comes for an odd number of bytes, else `UnpairedSurrogate` where the code units are not well-formed.
+    /// Memory is asked for only where the bytes are a text.
     pub fn from_bytes_le(alloc: Global, bytes: &[u8]) -> Result<Utf16Text, Utf16Error>
         ensures { IsDecoded result (decode_le bytes.now) }
     {
         if bytes.len() % 2 != 0 {
             return Err(Utf16Error::OddLength);
         }
-        let units = units_from_le(alloc, bytes)?;
-        if is_well_formed(&units) {
-            Ok(Utf16Text { units })
-        } else {
-            Err(Utf16Error::UnpairedSurrogate)
+        if !is_well_formed(bytes) {
+            return Err(Utf16Error::UnpairedSurrogate);
         }
+        Ok(Utf16Text {
+            units: units_from_le(alloc, bytes)?,
+        })
     }
 
     /// The code units as bytes, the low byte of each first.
@@ -93,6 +94,28 @@ impl Utf16Text {
     {
         // The units are well-formed, so none is replaced.
         String::from_utf16_lossy(alloc, &self.units)
+    }
+
+    /// How often the text has this code unit.
+    pub(crate) fn count_of(&self, unit: u16) -> usize
+        ensures count { result ≡ count_by (λ u. u == unit) self.now }
+        ensures well_formed { IsUtf16 self.now }
+    {
+        let mut count = 0;
+        for other in &self.units {
+            if *other == unit {
+                count += 1;
+            }
+        }
+        count
+    }
+
+    /// Whether there is no code unit.
+    pub(crate) fn is_empty(&self) -> bool
+        ensures empty { result ≡ (length self.now == 0) }
+        ensures well_formed { IsUtf16 self.now }
+    {
+        self.units.is_empty()
     }
 
     /// A copy in memory of its own, equal to this text.
@@ -118,13 +141,13 @@ fn units_from_le(alloc: Global, bytes: &[u8]) -> Result<Vec<u16>, AllocError>
     Ok(units)
 }
 
-/// Whether each surrogate has its partner.
-fn is_well_formed(units: &[u16]) -> bool
-    ensures { has_unpaired_surrogate units.now ≡ not result }
+/// Whether each surrogate has its partner in the code units of an even number of bytes.
+fn is_well_formed(bytes: &[u8]) -> bool
+    ensures { has_unpaired_surrogate (units_le bytes.now) ≡ not result }
 {
-    let mut rest = units;
-    while let [unit, others @ ..] = rest {
-        match after_char(*unit, others) {
+    let mut rest = bytes;
+    while let [low, high, others @ ..] = rest {
+        match after_char(u16::from_le_bytes([*low, *high]), others) {
             Some(after) => rest = after,
             None => return false,
         }
@@ -133,10 +156,10 @@ fn is_well_formed(units: &[u16]) -> bool
 }
 
 /// What follows the character that begins with this unit; none where the unit is a surrogate without its partner.
-fn after_char(unit: u16, others: &[u16]) -> Option<&[u16]>
+fn after_char(unit: u16, others: &[u8]) -> Option<&[u8]>
     ensures shorter { IfSome result (λ after. length after.now ≤ length others.now) }
-    ensures paired { MatchOption result (has_unpaired_surrogate (unit ∷ others.now) ≡ true)
-        (λ after. has_unpaired_surrogate (unit ∷ others.now) ≡ has_unpaired_surrogate after.now) }
+    ensures paired { MatchOption result (has_unpaired_surrogate (unit ∷ units_le others.now) ≡ true)
+        (λ after. has_unpaired_surrogate (unit ∷ units_le others.now) ≡ has_unpaired_surrogate (units_le after.now)) }
 {
     if unit < 0xd800 || 0xe000 <= unit {
         return Some(others);
@@ -144,10 +167,11 @@ fn after_char(unit: u16, others: &[u16]) -> Option<&[u16]>
     if 0xdc00 <= unit {
         return None;
     }
-    let [low, after @ ..] = others else {
+    let [low, high, after @ ..] = others else {
         return None;
     };
-    if *low < 0xdc00 || 0xe000 <= *low {
+    let partner = u16::from_le_bytes([*low, *high]);
+    if partner < 0xdc00 || 0xe000 <= partner {
         return None;
     }
     Some(after)
