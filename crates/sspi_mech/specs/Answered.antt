@@ -1,5 +1,5 @@
 -- What a call that refuses by a kind and a reason says.
-use Rattle.std.specs.Prelude.{◌≡◌, ◌≢◌, Option, Some, Result, Ok, Err}
+use Rattle.std.specs.Prelude.{◌≡◌, ◌≢◌, Option, None, Some, Result, Ok, Err}
 use Rattle.sspi_types.specs.declared.error.Error.{Error}
 use Rattle.sspi_types.specs.declared.error_kind.ErrorKind.{ErrorKind}
 use Rattle.sspi_types.specs.declared.error_kind.ErrorKind.TheVariants.{InsufficientMemory}
@@ -11,9 +11,23 @@ abbrev pub answered : {X : Type 0} → Result X Refusal → Result X Error
 answered (Ok x) = Ok x
 answered (Err refusal) = Err (error_of refusal)
 
--- want of memory may come at any time; every other kind is the one that is named
+-- the kind of a refusal: the one that is named, and out of memory only where none is
+abbrev pub kind_or_memory : Option ErrorKind → ErrorKind
+kind_or_memory None = InsufficientMemory
+kind_or_memory (Some kind) = kind
+
 abbrev pub IsCause : Option ErrorKind → ErrorKind → Type 0
-IsCause cause kind = kind ≢ InsufficientMemory → cause ≡ Some kind
+IsCause cause kind = kind ≡ kind_or_memory cause
+
+-- a call is refused with this kind: a kind with which the context refuses it, or out of memory where the context permits it
+pub record IsRefusedAs (Permitted : Type 0) (Refused : ErrorKind → Type 0) (kind : ErrorKind) : Type 0 where
+  pub cause : kind ≢ InsufficientMemory → Refused kind
+  pub memory : kind ≡ InsufficientMemory → Permitted
+
+-- the answer is exactly the one that there is, value or kind, of a call that takes no memory
+abbrev pub GivesExactly : {X : Type 0} → Result X Refusal → Result X ErrorKind → Type 0
+GivesExactly (Ok x) expected = expected ≡ Ok x
+GivesExactly (Err refusal) expected = expected ≡ Err refusal.error_type
 
 -- the answer is the one that there is, value or kind; want of memory may come in its place
 abbrev pub Gives : {X : Type 0} → Result X Refusal → Result X ErrorKind → Type 0

@@ -3,6 +3,7 @@ use Rattle.std.specs.Prelude.{◌≡◌, ℕ, ◌+◌, List, Option}
 use Rattle.std.specs.Option.{option_copied}
 use Rattle.sspi_types.specs.declared.client_request_flags.ClientRequestFlags.{ClientRequestFlags}
 use Rattle.sspi_types.specs.declared.credential_use.CredentialUse.{CredentialUse}
+use Rattle.sspi_types.specs.declared.data_representation.DataRepresentation.{DataRepresentation}
 use Rattle.sspi_types.specs.declared.server_request_flags.ServerRequestFlags.{ServerRequestFlags}
 use Rattle.sspi_names.specs.declared.credentials.Credentials.{Credentials}
 use Rattle.sspi_names.specs.declared.credentials.CredentialsBuffers.{CredentialsBuffers}
@@ -13,6 +14,7 @@ use Rattle.sspi_mech.specs.declared.args.InitializeSecurityContext.{InitializeSe
 pub record StepArgs : Type 0 where
   pub handle : Option CredentialsBuffers
   pub requirements : ClientRequestFlags
+  pub representation : DataRepresentation
   pub target : Option (List ℕ)
   pub input : List ℕ
 
@@ -20,6 +22,7 @@ abbrev pub step_args : InitializeSecurityContext → StepArgs
 step_args args = record {
   handle = option_copied args.credentials_handle;
   requirements = args.context_requirements;
+  representation = args.target_data_representation;
   target = option_copied args.target_name;
   input = args.input.now;
 }
@@ -28,12 +31,14 @@ step_args args = record {
 pub record AcceptArgs : Type 0 where
   pub handle : Option CredentialsBuffers
   pub requirements : ServerRequestFlags
+  pub representation : DataRepresentation
   pub input : List ℕ
 
 abbrev pub accept_args : AcceptSecurityContext → AcceptArgs
 accept_args args = record {
   handle = option_copied args.credentials_handle;
   requirements = args.context_requirements;
+  representation = args.target_data_representation;
   input = args.input.now;
 }
 

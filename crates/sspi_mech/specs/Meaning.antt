@@ -44,8 +44,8 @@ pub record Meaning (S C : Type 0) : Type 1 where
   pub opens : C → ℕ → List ℕ → List ℕ → Type 0
   pub signs : C → ℕ → List ℕ → List ℕ → Type 0
   pub verifies : C → ℕ → List ℕ → List ℕ → Type 0
-  -- what holds where completing or a call on a message answers Ok, beside what is said of its answer;
-  -- the kinds with which a call may refuse, other than want of memory
+  -- what holds where completing or a call on a message answers Ok, beside what is said of its answer, and where opening a
+  -- blob or taking identities is out of memory; the kinds with which a call may refuse, other than want of memory
   pub permits : C → Call → Type 0
   pub refuses : C → Call → ErrorKind → Type 0
   -- the entry of the package, and the sizes that its users must know

@@ -3,7 +3,7 @@ ghost use Rattle.sspi_mech.specs.declared.step.Progressing.TheVariants as progre
 ghost use Rattle.sspi_mech.specs.Answers.{answer_of};
 ghost use Rattle.sspi_mech.specs.KerberosMessages.{read_ap_reply};
 ghost use Rattle.sspi_mech.specs.KerberosSteps.{proof_by, wants_pairing};
-ghost use Rattle.sspi_mech.specs.Answered.{Gives, answered};
+ghost use Rattle.sspi_mech.specs.Answered.{GivesExactly, answered};
 
 mod arrival;
 pub mod laws;
@@ -285,7 +285,7 @@ fn wants_pairing(flags: ClientRequestFlags) -> bool
 
 /// Checks that a server showed the session key in its message.
 fn check_shown(key: &[u8; 32], input: &[u8]) -> Result<(), Refusal>
-    ensures answer { Gives result (proof_by key.now (read_ap_reply input.now)) }
+    ensures answer { GivesExactly result (proof_by key.now (read_ap_reply input.now)) }
 {
     let Some(proof) = read_ap_reply(input) else {
         return Err(Refusal::malformed());

@@ -6,6 +6,7 @@ ghost use Rattle.sspi_mech.specs.Calls.{ToShowKey};
 ghost use Rattle.sspi_mech.specs.Context.{IsContext};
 ghost use Rattle.sspi_mech.specs.Laws.{IsMechanism};
 ghost use Rattle.sspi_mech.specs.Meaning.{Meaning};
+ghost use Rattle.sspi_mech.specs.Answered.{IsRefusedAs};
 ghost use Rattle.sspi_mech.specs.Answers.{IfRefused, OnRefused, OnAsk};
 ghost use Rattle.sspi_mech.specs.Settings.{Setting, setting_of};
 
@@ -20,7 +21,8 @@ use std::alloc::Global;
 
 /// A security mechanism: one end of one authentication, and the protection of messages once it has a key.
 ///
-/// Every call that can refuse, but `verify`, may answer `InsufficientMemory`. A refused call leaves the object as it was, and
+/// Every call that can refuse, but `verify`, may answer `InsufficientMemory`: `unseal` and `set_identities` only where nothing
+/// else refuses them. A refused call leaves the object as it was, and
 /// no refusal has an NTSTATUS code. `meaning` says what each call does, in the words of `specs/Meaning.antt`;
 /// `specs/Laws.antt` has what holds of every mechanism.
 pub trait Mechanism: Sized + Drop {
@@ -101,7 +103,7 @@ pub trait Mechanism: Sized + Drop {
         ensures cause { IfErr result (λ error. error.error_type ≢ ErrorKind.InsufficientMemory →
             meaning.refuses self.now ToName error.error_type) };
 
-    /// Tells a server which identities its peer may have.
+    /// Tells a server which identities its peer may have. Out of memory never stands for a refusal of them.
     fn set_identities(&mut self, identities: &[Credentials]) -> Result<(), Error>
         // What `Ok` holds.
         ensures identified { OnOk result (meaning.identifies self.old identities.now self.new) }
@@ -110,8 +112,8 @@ pub trait Mechanism: Sized + Drop {
         // What a refusal says, and what it leaves.
         ensures err { OnErr result (self.new ≡ self.old) }
         ensures codeless { IfErr result (λ error. error.nstatus ≡ None) }
-        ensures cause { IfErr result (λ error. error.error_type ≢ ErrorKind.InsufficientMemory →
-            meaning.refuses self.old (ToIdentify identities.now) error.error_type) };
+        ensures cause { IfErr result (λ error. IsRefusedAs (meaning.permits self.old (ToIdentify identities.now))
+            (meaning.refuses self.old (ToIdentify identities.now)) error.error_type) };
 
     /// Seals a text for the peer (EncryptMessage).
     fn seal(&mut self, text: &[u8]) -> Result<Vec<u8>, Error>
@@ -126,7 +128,7 @@ pub trait Mechanism: Sized + Drop {
         ensures cause { IfErr result (λ error. error.error_type ≢ ErrorKind.InsufficientMemory →
             meaning.refuses self.old (ToSeal text.now) error.error_type) };
 
-    /// Opens what the peer sealed (DecryptMessage).
+    /// Opens what the peer sealed (DecryptMessage). Out of memory never stands for the refusal of an altered blob.
     fn unseal(&mut self, blob: &[u8]) -> Result<Vec<u8>, Error>
         // What `Ok` holds.
         ensures text { IfOk result (λ text. meaning.opens self.new (meaning.counts self.old).unsealings blob.now text.items) }
@@ -136,8 +138,8 @@ pub trait Mechanism: Sized + Drop {
         // What a refusal says, and what it leaves.
         ensures err { OnErr result (self.new ≡ self.old) }
         ensures codeless { IfErr result (λ error. error.nstatus ≡ None) }
-        ensures cause { IfErr result (λ error. error.error_type ≢ ErrorKind.InsufficientMemory →
-            meaning.refuses self.old (ToUnseal blob.now) error.error_type) };
+        ensures cause { IfErr result (λ error. IsRefusedAs (meaning.permits self.old (ToUnseal blob.now))
+            (meaning.refuses self.old (ToUnseal blob.now)) error.error_type) };
 
     /// The MIC of a text for the peer (MakeSignature).
     fn sign(&mut self, text: &[u8]) -> Result<Vec<u8>, Error>

@@ -1,7 +1,7 @@
 ghost use Rattle.std.specs.Prelude.{◌≡◌, ◌+◌, ◌-◌, ◌^◌, ◌==◌, false, true, None, Some, IfOk, OnOk, OnErr, IfErr};
 ghost use Rattle.sspi_mech.specs.Protection.{direction_byte, tag_of, seal_tag, mic_of, SealsBy, OpensBy, SignsBy, VerifiesBy};
 ghost use Rattle.sspi_mech.specs.Protection.{making_refusal, unseal_refusal, verify_refusal, no_protection};
-ghost use Rattle.sspi_mech.specs.Answered.{IsCause};
+ghost use Rattle.sspi_mech.specs.Answered.{IsCause, IsRefusedAs};
 
 use crate::refusal::Refusal;
 use sha2::{Digest, Sha256};
@@ -96,7 +96,7 @@ impl Protection {
         Ok(blob)
     }
 
-    /// The text of a blob whose tag is that of the text.
+    /// The text of a blob whose tag is that of the text. Memory is taken only for such a blob.
     pub fn unseal(
         &mut self,
         alloc: Global,
@@ -111,6 +111,8 @@ impl Protection {
         ensures err { OnErr result (self.new ≡ self.old) }
         ensures cause { IfErr result (λ error. IsCause (unseal_refusal self.old.key direction self.old.unsealings blob.now)
             error.error_type) }
+        ensures told { IfErr result (λ error. IsRefusedAs (unseal_refusal self.old.key direction self.old.unsealings blob.now ≡ None)
+            (λ kind. unseal_refusal self.old.key direction self.old.unsealings blob.now ≡ Some kind) error.error_type) }
     {
         let key = self.key()?;
         let count = next(self.unsealings)?;

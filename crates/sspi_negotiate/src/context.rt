@@ -70,8 +70,9 @@ impl<N: Mechanism, K: Mechanism> Negotiate<N, K> {
         // What a refusal says, and what it leaves.
         ensures err { OnErr result (self.new ≡ self.old) }
         ensures codeless { IfErr result (λ error. error.nstatus ≡ None) }
-        ensures cause { IfErr result (λ error. error.error_type ≢ ErrorKind.InsufficientMemory →
-            (negotiate N.REQUESTS N.meaning K.meaning).refuses self.old (ToIdentify identities.items) error.error_type) }
+        ensures cause { let c = negotiate N.REQUESTS N.meaning K.meaning in IfErr result (λ error.
+            IsRefusedAs (c.permits self.old (ToIdentify identities.items)) (c.refuses self.old (ToIdentify identities.items))
+            error.error_type) }
     {
         Ok(self.protocol.set_identities(identities)?)
     }
@@ -131,8 +132,8 @@ impl<N: Mechanism, K: Mechanism> Negotiate<N, K> {
         // What a refusal says, and what it leaves.
         ensures err { OnErr result (self.new ≡ self.old) }
         ensures codeless { IfErr result (λ error. error.nstatus ≡ None) }
-        ensures cause { IfErr result (λ error. error.error_type ≢ ErrorKind.InsufficientMemory →
-            (negotiate N.REQUESTS N.meaning K.meaning).refuses self.new (ToUnseal blob.now) error.error_type) }
+        ensures cause { let c = negotiate N.REQUESTS N.meaning K.meaning in IfErr result (λ error.
+            IsRefusedAs (c.permits self.new (ToUnseal blob.now)) (c.refuses self.new (ToUnseal blob.now)) error.error_type) }
     {
         Ok(self.protocol.unseal(blob)?)
     }

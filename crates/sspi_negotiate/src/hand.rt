@@ -7,7 +7,7 @@ ghost use Rattle.sspi_mech.specs.Calls.{step_args, accept_args, no_counts, one_s
 ghost use Rattle.sspi_mech.specs.Calls.{ToAcquire, ToName, ToIdentify, ToComplete, ToSeal, ToUnseal, ToSign, ToVerify};
 ghost use Rattle.sspi_mech.specs.Context.{NeitherSealsNorOpens};
 ghost use Rattle.sspi_mech.specs.Refusals.{refusal_of};
-ghost use Rattle.sspi_mech.specs.Answered.{answered};
+ghost use Rattle.sspi_mech.specs.Answered.{IsRefusedAs, answered};
 ghost use Rattle.sspi_negotiate.specs.declared.protocol.Protocol.TheVariants as protocols;
 ghost use Rattle.sspi_negotiate.specs.Hand.{InPlaceOfNtlm, in_place_of_kerberos, hand, hand_of, asks_left};
 ghost use Rattle.sspi_negotiate.specs.Verified.{HasNoMic};
@@ -192,8 +192,9 @@ impl<N: Mechanism, K: Mechanism> NegotiatedProtocol<N, K> {
         ensures named { hand_of self.new ≡ hand_of self.old }
         // What a refusal says, and what it leaves.
         ensures err { OnErr result (self.new ≡ self.old) }
-        ensures cause { IfErr result (λ error. error.error_type ≢ ErrorKind.InsufficientMemory →
-            (hand N.meaning K.meaning).refuses self.old (ToIdentify identities.items) error.error_type) }
+        ensures cause { let c = hand N.meaning K.meaning in IfErr result (λ error.
+            IsRefusedAs (c.permits self.old (ToIdentify identities.items)) (c.refuses self.old (ToIdentify identities.items))
+            error.error_type) }
     {
         match self {
             NegotiatedProtocol::Ntlm(mechanism) => {
@@ -232,8 +233,8 @@ impl<N: Mechanism, K: Mechanism> NegotiatedProtocol<N, K> {
         ensures permitted { OnOk result ((hand N.meaning K.meaning).permits self.old (ToUnseal blob.now)) }
         // What a refusal says, and what it leaves.
         ensures err { OnErr result (self.new ≡ self.old) }
-        ensures cause { IfErr result (λ error. error.error_type ≢ ErrorKind.InsufficientMemory →
-            (hand N.meaning K.meaning).refuses self.old (ToUnseal blob.now) error.error_type) }
+        ensures cause { let c = hand N.meaning K.meaning in IfErr result (λ error.
+            IsRefusedAs (c.permits self.old (ToUnseal blob.now)) (c.refuses self.old (ToUnseal blob.now)) error.error_type) }
     {
         match self {
             NegotiatedProtocol::Ntlm(mechanism) => Ok(mechanism.unseal(blob)?),

@@ -1,7 +1,7 @@
 ghost use Rattle.std.specs.Prelude.{◌≡◌, codes};
 ghost use Rattle.sspi_mech.specs.KerberosReplies.{kind_of_code, kind_in, granted, first_key_in, session_key_in};
 ghost use Rattle.sspi_mech.specs.Named.{after_letters};
-ghost use Rattle.sspi_mech.specs.Answered.{Gives};
+ghost use Rattle.sspi_mech.specs.Answered.{GivesExactly};
 
 use crate::kerberos::messages::{AS_REPLY_LETTERS, ERROR_LETTERS, TGS_REPLY_LETTERS};
 use crate::named::{after_letters, read_block};
@@ -11,21 +11,21 @@ use sspi_types::{ErrorKind, Reason};
 
 /// The key that a KDC gave a name.
 pub fn first_key_in(reply: &Reply) -> Result<[u8; 32], Refusal>
-    ensures { Gives result (first_key_in reply.now) }
+    ensures { GivesExactly result (first_key_in reply.now) }
 {
     granted(AS_REPLY_LETTERS, reply)
 }
 
 /// The session key that a KDC gave.
 pub fn session_key_in(reply: &Reply) -> Result<[u8; 32], Refusal>
-    ensures { Gives result (session_key_in reply.now) }
+    ensures { GivesExactly result (session_key_in reply.now) }
 {
     granted(TGS_REPLY_LETTERS, reply)
 }
 
 /// The key of a reply that begins with these letters.
 fn granted(letters: &[u8; 2], reply: &Reply) -> Result<[u8; 32], Refusal>
-    ensures { Gives result (granted letters.now reply.now) }
+    ensures { GivesExactly result (granted letters.now reply.now) }
 {
     match reply {
         Reply::Answered(reply) => match read_block(letters, reply.as_slice()) {

@@ -2,7 +2,7 @@ ghost use Rattle.std.specs.Prelude.{◌≡◌, find, option_copied};
 ghost use Rattle.std.specs.List.{list_any};
 ghost use Rattle.sspi_mech.specs.NtlmClaims.{claim_of};
 ghost use Rattle.sspi_mech.specs.NtlmIdentities.{has_password, proves, claimed_key, key_at};
-ghost use Rattle.sspi_mech.specs.Answered.{Gives};
+ghost use Rattle.sspi_mech.specs.Answered.{Gives, GivesExactly};
 
 use crate::named::text_in;
 use crate::ntlm::messages::{key_of, proof_of, read_authenticate};
@@ -34,7 +34,7 @@ pub fn claim_of(alloc: Global, message: &[u8]) -> Result<Claim, Refusal>
 impl Stage {
     /// The key that the identities give; OutOfSequence but on a server that has a claim.
     pub fn key(&self, challenge: &[u8; 8], identities: &[Credentials]) -> Result<[u8; 32], Refusal>
-        ensures { Gives result (key_at self.now challenge.now identities.now) }
+        ensures { GivesExactly result (key_at self.now challenge.now identities.now) }
     {
         match self {
             Stage::Claimed(claim) => claim.key(challenge, identities),
@@ -49,7 +49,7 @@ impl Stage {
 impl Claim {
     /// The key of the first identity whose password gives the proof.
     pub fn key(&self, challenge: &[u8; 8], identities: &[Credentials]) -> Result<[u8; 32], Refusal>
-        ensures { Gives result (claimed_key challenge.now self.now identities.now) }
+        ensures { GivesExactly result (claimed_key challenge.now self.now identities.now) }
     {
         if !have_password(identities) {
             return Err(Refusal::new(ErrorKind::NoCredentials, no_password(identities)));
