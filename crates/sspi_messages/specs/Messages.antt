@@ -6,6 +6,7 @@ use Rattle.sspi_types.specs.declared.error.Error.{Error}
 use Rattle.sspi_types.specs.declared.error_kind.ErrorKind.{ErrorKind}
 use Rattle.sspi_types.specs.declared.error_kind.ErrorKind.TheVariants.{InvalidToken, InsufficientMemory}
 use Rattle.sspi_mech.specs.Calls.{Call, ToSeal, ToUnseal, ToSign, ToVerify, one_sealing, one_unsealing, one_signing, one_verification}
+use Rattle.sspi_mech.specs.Answered.{IsRefusedAs}
 use Rattle.sspi_messages.specs.Buffers.{bytes_in, with_bytes, pair_of}
 use Rattle.sspi_messages.specs.Protecting.{Protecting}
 
@@ -50,6 +51,11 @@ module _ {C : Type 0} (c : Protecting C) where
   abbrev pub IsCause : C → Option Call → ErrorKind → Type 0
   IsCause m None kind = kind ≡ InvalidToken
   IsCause m (Some call) kind = kind ≢ InsufficientMemory → c.refuses m call kind
+
+  -- the same of a blob that lies in one buffer, for which no memory is taken before the context judged it
+  abbrev pub IsJudged : C → Option Call → ErrorKind → Type 0
+  IsJudged m None kind = kind ≡ InvalidToken
+  IsJudged m (Some call) kind = IsRefusedAs (c.permits m call) (c.refuses m call) kind
 
   -- a refused call leaves the context
   pub record Refuses (asked : Option Call) (m : C) (error : Error) (m2 : C) : Type 0 where

@@ -1,10 +1,12 @@
 //! Messages in buffers: EncryptMessage, DecryptMessage, MakeSignature and VerifySignature of SSPI.
 //!
 //! Each call takes the first buffer without flags of each type that it names. It neither reads nor changes any other buffer.
-ghost use Rattle.std.specs.Prelude.{◌≡◌, ◌≤◌, ◌++◌, take, drop, length, IfOk, IfErr, OnOk, OnErr, Some, None};
+ghost use Rattle.std.specs.Prelude.{◌≡◌, ◌≤◌, ◌++◌, take, drop, length, IfOk, IfErr, OnOk, OnErr, Some, None, IsSome};
+ghost use Rattle.sspi_types.specs.declared.buffer_type.BufferType.TheVariants.{Stream};
+ghost use Rattle.sspi_messages.specs.Buffers.{bytes_in};
 ghost use Rattle.sspi_mech.specs.Calls.{ToSeal};
 ghost use Rattle.sspi_messages.specs.Messages.{if_tagged, to_encrypt, to_decrypt, to_sign, to_verify};
-ghost use Rattle.sspi_messages.specs.Messages.{Encrypts, Seals, Decrypts, Opens, Signs, Verifies, Refuses, IsRefusal};
+ghost use Rattle.sspi_messages.specs.Messages.{Encrypts, Seals, Decrypts, Opens, Signs, Verifies, Refuses, IsRefusal, IsJudged};
 
 use crate::buffers::{bytes_in, pair_mut};
 use crate::protects::Protects;
@@ -76,7 +78,8 @@ fn leave(blob: Vec<u8>, token: &mut Bytes, rest: &mut Bytes)
 /// followed by those of Data. Answers no flags.
 ///
 /// `InvalidToken` where Data is missing, where there is neither Stream nor Token, and for a blob of under 16 bytes, before the
-/// context is asked; else as the context refuses to open. Refused, the context and all buffers are as they were.
+/// context is asked; else as the context refuses to open. Out of memory never stands for the refusal of a blob in Stream;
+/// Token and Data are joined first, which takes memory. Refused, the context and all buffers are as they were.
 pub fn decrypt_message<P: Protects>(
     context: &mut P,
     message: &mut [SecurityBuffer],
@@ -84,6 +87,8 @@ pub fn decrypt_message<P: Protects>(
     ensures flags { IfOk result (λ flags. flags.0 ≡ 0) }
     ensures opened { IfOk result (λ flags. Decrypts P.protecting context.old message.old context.new message.new) }
     ensures refused { IfErr result (λ error. Refuses P.protecting (to_decrypt message.old) context.old error context.new) }
+    ensures judged { IfErr result (λ error. IsSome (bytes_in Stream message.old) →
+        IsJudged P.protecting context.old (to_decrypt message.old) error.error_type) }
     ensures buffers { OnErr result (message.new ≡ message.old) }
 {
     if let Some((stream, data)) = pair_mut(message, BufferType::Stream, BufferType::Data) {
@@ -102,6 +107,7 @@ pub fn decrypt_message<P: Protects>(
 fn open_stream<P: Protects>(context: &mut P, blob: &[u8]) -> Result<Vec<u8>, Error>
     ensures opened { IfOk result (λ text. Opens P.protecting context.old blob.now text.items context.new) }
     ensures refused { IfErr result (λ error. Refuses P.protecting (if_tagged blob.now) context.old error context.new) }
+    ensures judged { IfErr result (λ error. IsJudged P.protecting context.old (if_tagged blob.now) error.error_type) }
 {
     if blob.len() < TAG_LENGTH {
         return Err(short_blob());

@@ -1,13 +1,14 @@
 ghost use Rattle.std.specs.Prelude.{◌≡◌, ◌≢◌, ◌≤◌, None, length, IfOk, IfErr, OnOk, OnErr};
 ghost use Rattle.sspi_mech.specs.Calls.{one_sealing, one_unsealing, one_signing, one_verification, ToSeal, ToUnseal, ToSign, ToVerify};
+ghost use Rattle.sspi_mech.specs.Answered.{IsRefusedAs};
 ghost use Rattle.sspi_messages.specs.Protecting.{Protecting};
 
 use sspi_types::{Error, ErrorKind};
 
 /// A context that protects messages once it has a key.
 ///
-/// A refusal leaves it as it was and has no NTSTATUS code. Want of memory may come at any time, every other kind only where
-/// `refuses` says so. On `Ok` the call's own count has moved by one, and nothing else.
+/// A refusal leaves it as it was and has no NTSTATUS code. Want of memory may come at any time, but for `unseal` only where
+/// nothing else refuses it; every other kind comes only where `refuses` says so. On `Ok` the call's own count has moved by one, and nothing else.
 pub trait Protects {
     ghost protecting: { Protecting Self };
 
@@ -35,8 +36,8 @@ pub trait Protects {
         // What a refusal says, and what it leaves.
         ensures err { OnErr result (self.new ≡ self.old) }
         ensures codeless { IfErr result (λ error. error.nstatus ≡ None) }
-        ensures cause { IfErr result (λ error. error.error_type ≢ ErrorKind.InsufficientMemory →
-            protecting.refuses self.old (ToUnseal blob.now) error.error_type) };
+        ensures cause { IfErr result (λ error. IsRefusedAs (protecting.permits self.old (ToUnseal blob.now))
+            (protecting.refuses self.old (ToUnseal blob.now)) error.error_type) };
 
     /// The MIC of a text for the peer, as the next of its MICs.
     fn sign(&mut self, text: &[u8]) -> Result<Vec<u8>, Error>

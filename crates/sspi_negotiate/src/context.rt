@@ -1,6 +1,7 @@
 // What a negotiation is as a security context: the mechanism in hand, once it has authenticated.
 ghost use Rattle.std.specs.Prelude.{◌≡◌, ◌≢◌, ◌-◌, [], ◌∷◌, None, true, false, IsTrue, IsErr, IfOk, IfErr, OnOk, OnErr};
 ghost use Rattle.sspi_mech.specs.Calls.{one_sealing, one_unsealing, ToName, ToIdentify, ToComplete, ToSeal, ToUnseal};
+ghost use Rattle.sspi_mech.specs.Answered.{IsRefusedAs};
 ghost use Rattle.sspi_negotiate.specs.Hand.{hand_of};
 ghost use Rattle.sspi_negotiate.specs.Identity.{is_refused_identity};
 ghost use Rattle.sspi_negotiate.specs.Negotiate.{negotiate};
