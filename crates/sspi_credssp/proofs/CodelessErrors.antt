@@ -1,5 +1,5 @@
 -- What a refusal says to a caller.
-use Rattle.std.proofs.Common.{◌≡◌, Option, None, Result, Ok, Err, OnErr, refl, sym, ap}
+use Rattle.std.proofs.Common.{◌≡◌, Option, None, Result, Ok, Err, OnErr, IfErr, refl, sym, ap}
 use Rattle.sspi_types.specs.declared.error.Error.{Error}
 use Rattle.sspi_types.specs.declared.error_kind.ErrorKind.{ErrorKind}
 use Rattle.sspi_types.specs.declared.nstatus.NStatusCode.{NStatusCode}
@@ -18,6 +18,11 @@ pub caused : {T : Type 0} (causes : ErrorKind → Type 0) (result : Result T Ref
     IsRefusedBy (answered result) causes
 caused causes (Ok x) h = record { kind = tt; codeless = tt }
 caused causes (Err refusal) h = record { kind = h; codeless = refl }
+
+pub err_answered : {T : Type 0} (causes : ErrorKind → Type 0) (result : Result T Refusal) → IfErr result (λ e. causes e.error_type) →
+    IfErr (answered result) (λ e. causes e.error_type)
+err_answered causes (Ok x) h = tt
+err_answered causes (Err refusal) h = h
 
 pub on_err_answered : {T : Type 0} (P : Type 0) (result : Result T Refusal) → OnErr result P → OnErr (answered result) P
 on_err_answered P (Ok x) h = tt

@@ -1,5 +1,5 @@
 -- What credentials and their texts are to the two ends; no refusal of them has an NTSTATUS code.
-use Rattle.std.proofs.Common.{◌≡◌, ◌≢◌, ◌⊎◌, inl, inr, ◌∙◌, ℕ, List, Option, None, Result, Ok, Err, IfOk, IfErr, refl, sym, ap}
+use Rattle.std.proofs.Common.{◌≡◌, ◌≢◌, ◌⊎◌, inl, inr, ◌∙◌, ℕ, List, Option, None, Some, Result, Ok, Err, IfOk, IfErr, refl, sym, ap}
 use Rattle.sspi_types.specs.declared.error.Error.{Error}
 use Rattle.sspi_types.specs.declared.error_kind.ErrorKind.TheVariants.{InsufficientMemory}
 use Rattle.sspi_types.specs.Errors.{memory_error}
@@ -41,17 +41,21 @@ unfolding delegated_identity
 identity_read text buffers (Ok identity) e f = ap identity_in e ∙ ap named_or_refused f
 identity_read text buffers (Err error) e f = tt
 
+by_name : (error : Error) (found : Option AuthIdentity) → IsIdentified (Err error) found → error.error_type ≢ InsufficientMemory →
+    named_or_refused found ≡ Err error
+by_name error None f memory = ap Err (sym f)
+by_name error (Some identity) f memory = absurd (memory (ap (λ (x : Error). x.error_type) f))
+
 pub identity_refused : (text : List ℕ) (buffers : AuthIdentityBuffers) (r : Result AuthIdentity Error) →
     creds_of text ≡ Ok (buffered.AuthIdentity buffers) → IsIdentified r (identity_of buffers) →
     IfErr r (λ error. error.error_type ≢ InsufficientMemory → delegated_identity text ≡ Err error)
 unfolding delegated_identity
 identity_refused text buffers (Ok identity) e f = tt
-identity_refused text buffers (Err error) e (inl w) = λ memory. ap identity_in e ∙ ap named_or_refused w.1 ∙ ap Err (sym w.0)
-identity_refused text buffers (Err error) e (inr w) = λ memory. absurd (memory (ap (λ (x : Error). x.error_type) w))
+identity_refused text buffers (Err error) e f = λ memory. ap identity_in e ∙ by_name error (identity_of buffers) f memory
 
 pub identity_codeless : (error : Error) (found : Option AuthIdentity) → IsIdentified (Err error) found → error.nstatus ≡ None
-identity_codeless error found (inl w) = ap (λ (x : Error). x.nstatus) w.0
-identity_codeless error found (inr w) = ap (λ (x : Error). x.nstatus) w
+identity_codeless error None f = ap (λ (x : Error). x.nstatus) f
+identity_codeless error (Some identity) f = ap (λ (x : Error). x.nstatus) f
 
 pub keytab_read : (text : List ℕ) (keytab : KeytabIdentity) (error : Error) →
     creds_of text ≡ Ok (buffered.Keytab keytab) → error ≡ malformed → delegated_identity text ≡ Err error

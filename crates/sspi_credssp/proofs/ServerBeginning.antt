@@ -142,6 +142,7 @@ module _ {C : Type 0} (c : Meaning ContextSetting C) where
             bare = refused.bare;
             unstepped = λ none. unstepped_still old new no_acts [] refused.unstepped;
             unanswered = λ none. ap (λ (v : ServerView C P). v.output) is;
+            ended = proved;
           };
         })
 

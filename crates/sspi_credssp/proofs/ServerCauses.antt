@@ -10,16 +10,17 @@ use Rattle.sspi_tsreq.specs.declared.request.TsRequest.{TsRequest}
 use Rattle.sspi_mech.specs.Meaning.{Meaning}
 use Rattle.sspi_credssp.specs.declared.server_state.ServerError.{ServerError}
 use Rattle.sspi_credssp.specs.declared.state.CredSspState.{CredSspState}
+use Rattle.sspi_credssp.specs.declared.state.CredSspState.TheVariants.{NegoToken, PubKeyInfo, AuthInfo, Final}
 use Rattle.sspi_credssp.specs.Context.{MadeOr, ContextSetting}
 use Rattle.sspi_credssp.specs.Proxy.{ProxyMeaning, ProxyTells, AreFound}
 use Rattle.sspi_credssp.specs.ServerStage.{IsLater}
 use Rattle.sspi_credssp.specs.Ends.{ServerView}
-use Rattle.sspi_credssp.specs.ServerCause.{ServerCause, MakeCause, StateCause, NegoCause, AfterCause, OverCause, known, IdentifyCause}
+use Rattle.sspi_credssp.specs.ServerCause.{ServerCause, MakeCause, StateCause, NegoCause, AfterCause, OverCause, known, IdentifyCause, ServerExact, StateExact}
 use Rattle.sspi_credssp.specs.ServerCause.{nameless, looked, unset, LookUpRefused, failed, nobody}
 use Rattle.sspi_credssp.specs.ServerTurn.{Completed, HasCome}
 use Rattle.sspi_credssp.specs.Turn.{IsOver}
 use Rattle.sspi_credssp.specs.Noted.{differs, is_old, VersionStops, OrMemory}
-use Rattle.sspi_credssp.proofs.Causes.{stops_map, made_map, made_later}
+use Rattle.sspi_credssp.proofs.Causes.{stops_map, made_map, made_by, made_later}
 
 module _ {C : Type 0} (c : Meaning ContextSetting C) where
   -- a turn that was refused as it began
@@ -31,6 +32,34 @@ module _ {C : Type 0} (c : Meaning ContextSetting C) where
       made_map old.context new.context _ _ _
       (stops_map (is_old old.settings.least old.noted d.version) DowngradeDetected kind _ _
       (stops_map (differs old.noted d.version) MessageAltered kind _ _ (λ none. absurd none))) h
+
+  -- what is told of both whatever memory there is
+  pub server_exact_begun : {P : Type 0} (old new : ServerView C P) (d : TsRequest) (kind : ErrorKind) (Cause : Type 0) →
+      MadeOr old.context new.context Cause (VersionStops old.settings.least old.noted d.version kind ⊥) → ServerExact c old d new kind
+  server_exact_begun old new d kind Cause h =
+      made_by old.context new.context _ _ _ _ (λ cause. tt)
+      (stops_map (is_old old.settings.least old.noted d.version) DowngradeDetected kind _ _
+      (stops_map (differs old.noted d.version) MessageAltered kind _ _ (λ none. absurd none))) h
+
+  state_exact_same : {P : Type 0} (state : CredSspState) (d : TsRequest) (v : ℕ) (new : ServerView C P) (kind : ErrorKind) →
+      StateExact c state (record d { version = v }) new kind → StateExact c state d new kind
+  state_exact_same NegoToken d v new kind h = h
+  state_exact_same PubKeyInfo d v new kind h = h
+  state_exact_same AuthInfo d v new kind h = h
+  state_exact_same Final d v new kind h = h
+
+  pub server_exact_past : {P T : Type 0} (old new : ServerView C P) (d request : TsRequest) (state : CredSspState) (v : ℕ)
+      (r : Result T ServerError) →
+      is_old old.settings.least old.noted d.version ≡ false → differs old.noted d.version ≡ false → IsSome new.context →
+      state ≡ old.state → request ≡ record d { version = v } →
+      IfErr r (λ refusal. StateExact c state request new refusal.error.error_type) →
+      IfErr r (λ refusal. ServerExact c old d new refusal.error.error_type)
+  server_exact_past old new d request state v (Ok x) young fits begun same_state same h = h
+  server_exact_past old new d request state v (Err refusal) young fits begun same_state same h =
+      made_later old.context new.context _ _ begun
+      (rw (young, fits) (subst (λ s. StateExact c s d new refusal.error.error_type) same_state
+      (state_exact_same state d v new refusal.error.error_type
+      (subst (λ x. StateExact c state x new refusal.error.error_type) same h))))
 
   module _ {P : Type 0} (p : ProxyMeaning P) where
     -- a turn that was refused past the version check

@@ -90,6 +90,7 @@ module _ {C : Type 0} (c : Meaning ContextSetting C) where
             unstepped = λ none. unmade start.context new.context (IsNew c start (record new { state = Final }))
                 (subst (λ (s : CredSspState). OnceNegotiated s (SameBut c start.context new.context)) auth bare);
             unanswered = λ none. ap (λ (v : ServerView C P). v.output) blob.rest ∙ output;
+            ended = tt;
           };
         },
         subst (λ x. HoldsIdentity c new.context x identity) same holds,

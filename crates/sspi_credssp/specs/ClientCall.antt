@@ -10,7 +10,7 @@ use Rattle.sspi_tsreq.specs.declared.request.TsRequest.{TsRequest}
 use Rattle.sspi_credssp.specs.declared.client_state.Progress.{Progress}
 use Rattle.sspi_credssp.specs.Acts.{no_acts, is_waiting_in, left_in}
 use Rattle.sspi_credssp.specs.Ends.{ClientView}
-use Rattle.sspi_credssp.specs.ClientCause.{ClientCause, ResumeCause, status_of}
+use Rattle.sspi_credssp.specs.ClientCause.{ClientCause, ClientExact, ResumeCause, status_of}
 use Rattle.sspi_credssp.specs.ClientTurn.{Asked, HasStepped, StepsTo, OnSuspended, ClientGoes, IsUnderway}
 use Rattle.sspi_credssp.specs.Context.{ContextSetting}
 use Rattle.sspi_credssp.specs.Noted.{ClientHeeds, is_altered_in}
@@ -41,6 +41,7 @@ module _ {C : Type 0} (c : Meaning ContextSetting C) where
   -- why it is refused; an NTSTATUS code is the server's own
   pub record ClientIsRefused (old : ClientView C) (d : TsRequest) (result : Result Progress Error) (new : ClientView C) : Type 0 where
     pub kind : IfErr result (λ error. ClientCause c old d new error.error_type)
+    pub exact : IfErr result (λ error. ClientExact c old d new error.error_type)
     pub status : IfErr result (λ error. error.nstatus ≡ status_of c old d)
 
   -- What it leaves alone: a suspended turn waits on, a server that reports an error or changes its version moves nothing, and
@@ -76,6 +77,9 @@ module _ {C : Type 0} (c : Meaning ContextSetting C) where
         Awaits start d tries log q old → OnErr result (new.acts.status ≡ None → is_waiting_in c new.context ≡ true →
         Awaits start d (tries + 1) (record { question = q; reply = reply } ∷ log) q new)
     pub idle : is_waiting_in c old.context ≡ false → OnlyForgets old result new
+    -- the request is dropped where the context waits no more
+    pub dropped : is_waiting_in c old.context ≡ true → IsSome old.kept →
+        OnErr result (is_waiting_in c new.context ≡ false → new.kept ≡ None)
     -- nor where the context waits by itself, for no turn that is suspended
     pub stray : is_waiting_in c old.context ≡ true → old.kept ≡ None → OnlyForgets old result new
 

@@ -16,7 +16,7 @@ use Rattle.sspi_credssp.specs.declared.state.CredSspState.TheVariants.{NegoToken
 use Rattle.sspi_credssp.specs.Context.{BeginCause, MadeOr, ContextSetting, ForClient}
 use Rattle.sspi_credssp.specs.Ends.{ClientView}
 use Rattle.sspi_credssp.specs.Acts.{is_waiting_in}
-use Rattle.sspi_credssp.specs.Exchange.{delegated_text, BlobStops, ProofCause, prescribed}
+use Rattle.sspi_credssp.specs.Exchange.{delegated_text, AlteredExactly, BlobStops, ProofCause, prescribed}
 use Rattle.sspi_credssp.specs.Noted.{StopsIf, VersionStopsIn, OrMemory}
 use Rattle.sspi_credssp.specs.Requests.{is_code}
 
@@ -39,6 +39,15 @@ module _ {C : Type 0} (c : Meaning ContextSetting C) where
   -- pubKeyAuth is absent, too short, or what it opens to is refused
   abbrev pub DeliverCause : Option (List ℕ) → ClientView C → ErrorKind → Type 0
   DeliverCause field new kind = BlobStops field kind (λ blob. BlobOpens new.noted new.context blob new kind)
+
+  -- What of these is told whatever memory there is: a field that is absent or too short, and an altered proof.
+  abbrev pub BlobExact : Option ℕ → Option C → List ℕ → ClientView C → ErrorKind → Type 0
+  BlobExact (Some noted) (Some m) blob new kind =
+      AlteredExactly c new.acts.checked m blob (prescribed Server noted new.settings.nonce new.settings.public_key) kind
+  BlobExact noted context blob new kind = Unit {0}
+
+  abbrev pub DeliverExact : Option (List ℕ) → ClientView C → ErrorKind → Type 0
+  DeliverExact field new kind = BlobStops field kind (λ blob. BlobExact new.noted new.context blob new kind)
 
   -- the authentication ended before a version was noted, or the proof is not sealed
   abbrev pub ProveCause : Option ℕ → Option C → ClientView C → ErrorKind → Type 0
@@ -66,6 +75,20 @@ module _ {C : Type 0} (c : Meaning ContextSetting C) where
       (OrMemory kind
       (MadeOr old.context new.context (BeginCause c (ForClient old.settings.mode) Outbound (Some old.settings.credentials) kind)
       (StateCause old.state d new kind)))))
+
+  -- the kinds that are told whatever memory there is, past the version check
+  abbrev pub StateExact : CredSspState → TsRequest → ClientView C → ErrorKind → Type 0
+  StateExact NegoToken d new kind = Unit {0}
+  StateExact PubKeyInfo d new kind = kind ≡ OutOfSequence
+  StateExact AuthInfo d new kind = DeliverExact d.pub_key_auth new kind
+  StateExact Final d new kind = kind ≡ OutOfSequence
+
+  abbrev pub ClientExact : ClientView C → TsRequest → ClientView C → ErrorKind → Type 0
+  ClientExact old d new kind =
+      StopsIf (is_waiting_in c old.context) OutOfSequence kind
+      (StopsIf (is_code d.error_code) InvalidToken kind
+      (VersionStopsIn old.context old.settings.least old.noted d.version kind
+      (MadeOr old.context new.context (Unit {0}) (StateExact old.state d new kind))))
 
   abbrev pub KeptCause : Option TsRequest → ClientView C → ErrorKind → Type 0
   KeptCause None new kind = kind ≡ OutOfSequence

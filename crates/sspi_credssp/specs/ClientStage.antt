@@ -55,6 +55,7 @@ module _ {C : Type 0} (c : Meaning ContextSetting C) where
   -- what follows the answer of a step keeps that answer, and has the context count at most
   pub record KeepsStep (old : ClientView C) (came : SecurityStatus) (token : List ℕ) (new : ClientView C) : Type 0 where
     pub on : HasGoneOn old new
+    pub kept : new.kept ≡ old.kept
     pub moved : SameBut c old.context new.context
     pub handle : new.handle ≡ old.handle
     pub status : new.acts.status ≡ Some came

@@ -3,6 +3,7 @@ use Rattle.std.specs.Prelude.{◌≡◌, ℕ, ◌+◌, List, [], ◌∷◌, Opti
 use Rattle.std.specs.Prelude.{IsSome, if◌then◌else◌}
 use Rattle.sspi_types.specs.declared.client_request_flags.ClientRequestFlags.{ClientRequestFlags}
 use Rattle.sspi_types.specs.declared.credential_use.CredentialUse.TheVariants.{Outbound}
+use Rattle.sspi_types.specs.declared.data_representation.DataRepresentation.TheVariants as representations
 use Rattle.sspi_types.specs.declared.error.Error.{Error}
 use Rattle.sspi_types.specs.declared.security_status.SecurityStatus.{SecurityStatus}
 use Rattle.sspi_names.specs.declared.credentials.CredentialsBuffers.{CredentialsBuffers}
@@ -29,7 +30,7 @@ use Rattle.sspi_credssp.specs.Context.{Begun, IfContext, ContextSetting, ForClie
 use Rattle.sspi_credssp.specs.Ends.{ClientView}
 use Rattle.sspi_credssp.specs.Noted.{is_altered_in, is_old_in, noted_in}
 use Rattle.sspi_credssp.specs.Requests.{token_of, is_code}
-use Rattle.sspi_credssp.specs.Turn.{HoldsClient, client_shown, ShowsClient, UnlessRefused, FitsNoted, ClientFrame, OnceNegotiated}
+use Rattle.sspi_credssp.specs.Turn.{HoldsClient, client_shown, ShowsClient, UnlessRefused, IfRefused, FitsNoted, ClientFrame, OnceNegotiated}
 use Rattle.sspi_credssp.specs.Turn.{IsUnspent}
 
 -- ---- The step of its context in a client's turn, from the context before the turn to the one that it leaves.
@@ -42,6 +43,7 @@ abbrev pub client_args : Option CredentialsBuffers → List ℕ → Option (List
 client_args handle target token = record {
   handle = handle;
   requirements = client_requirements;
+  representation = representations.Native;
   target = Some target;
   input = token_of token;
 }
@@ -156,6 +158,8 @@ module _ {C : Type 0} (c : Meaning ContextSetting C) where
     -- a call that took no step only has the context count, and one whose step gave no answer has no token
     pub unstepped : new.acts.negotiated ≡ false → SameBut c old.context new.context
     pub unanswered : new.acts.status ≡ None → new.output ≡ []
+    -- once the credentials are sealed a call is not refused
+    pub ended : IfRefused out (new.acts.sealed ≡ false)
 
   pub record ClientTurn (old : ClientView C) (d : TsRequest) (out : Outcome) (new : ClientView C) : Type 0 where
     pub turn : IsClientTurn (client_frame old new) (client_turn d out new)

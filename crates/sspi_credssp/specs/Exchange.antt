@@ -111,6 +111,14 @@ module _ {S C : Type 0} (c : Meaning S C) where
     altered : OpensOther m blob proof → kind ≡ MessageAltered → CheckedCause m blob proof Unsealed kind
     unsealed : c.opens m ((c.counts m).unsealings - 1) blob proof → Unsealed → CheckedCause m blob proof Unsealed kind
 
+  -- a blob that opened to another text than the proof is altered, whatever memory there is
+  pub data OtherIsAltered (m : C) (blob proof : List ℕ) (kind : ErrorKind) : Type 0 where
+    other_is_altered : (OpensOther m blob proof → kind ≡ MessageAltered) → OtherIsAltered m blob proof kind
+
+  abbrev pub AlteredExactly : Bool → C → List ℕ → List ℕ → ErrorKind → Type 0
+  AlteredExactly false m blob proof kind = Unit {0}
+  AlteredExactly true m blob proof kind = OtherIsAltered m blob proof kind
+
   -- why an exchange of proofs was refused, by whether the blob was opened
   abbrev pub ProofCause : Bool → C → List ℕ → List ℕ → Type 0 → ErrorKind → Type 0
   ProofCause false m blob proof Unsealed kind = c.refuses m (ToUnseal blob) kind

@@ -1,5 +1,5 @@
 -- What one call of `CredSspServer::process` is, whatever it answers (MS-CSSP 3.1.5.2).
-use Rattle.std.specs.Prelude.{◌≡◌, [], None, Result, IsErr, true}
+use Rattle.std.specs.Prelude.{◌≡◌, [], None, Result, IsErr, IfErr, true}
 use Rattle.sspi_mech.specs.Meaning.{Meaning}
 use Rattle.sspi_tsreq.specs.declared.request.TsRequest.{TsRequest}
 use Rattle.sspi_credssp.specs.declared.server_state.ServerError.{ServerError}
@@ -10,7 +10,7 @@ use Rattle.sspi_credssp.specs.Context.{ContextSetting}
 use Rattle.sspi_credssp.specs.Noted.{ServerHeeds, differs}
 use Rattle.sspi_credssp.specs.Refusal.{IsTurnRefusedBy}
 use Rattle.sspi_credssp.specs.Ends.{ServerView}
-use Rattle.sspi_credssp.specs.ServerCause.{ServerCause}
+use Rattle.sspi_credssp.specs.ServerCause.{ServerCause, ServerExact}
 use Rattle.sspi_credssp.specs.ServerTurn.{HasAcceptedTurn, MakesAlone, ServerGoes}
 
 module _ {C P : Type 0} (c : Meaning ContextSetting C) (p : ProxyMeaning P) where
@@ -29,6 +29,7 @@ module _ {C P : Type 0} (c : Meaning ContextSetting C) (p : ProxyMeaning P) wher
     pub turn : ServerGoes c old d result new
     pub step : HasAcceptedTurn c p old d result new
     pub cause : IsTurnRefusedBy result (ServerCause c p old d new)
+    pub exact : IfErr result (λ refusal. ServerExact c old d new refusal.error.error_type)
     pub heeded : ServerHeeds c old d result new
     pub kept : ServerKeeps old d result new
     pub proxy : Asks p (calls_in old new.acts.status) result old.proxy new.proxy

@@ -19,7 +19,8 @@ use Rattle.sspi_credssp.specs.declared.public_key.EndpointType.TheVariants.{Clie
 use Rattle.sspi_credssp.specs.declared.state.CredSspState.{CredSspState}
 use Rattle.sspi_credssp.specs.declared.state.CredSspState.TheVariants.{NegoToken, PubKeyInfo, AuthInfo, Final}
 use Rattle.sspi_credssp.specs.Context.{BeginCause, IfContext, MadeOr, ContextSetting, ForServer}
-use Rattle.sspi_credssp.specs.Exchange.{delegated_identity, BlobStops, ProofCause, prescribed}
+use Rattle.sspi_credssp.specs.Exchange.{delegated_identity, AlteredExactly, BlobStops, ProofCause, prescribed}
+use Rattle.sspi_mech.specs.Answered.{IsRefusedAs}
 use Rattle.sspi_credssp.specs.Noted.{VersionStops, StopsIf, OrMemory}
 use Rattle.sspi_types.specs.Counting.{counted_on}
 use Rattle.sspi_credssp.specs.Proxy.{ProxyMeaning, ProxyTells, AreFound}
@@ -76,10 +77,41 @@ module _ {C : Type 0} (c : Meaning ContextSetting C) where
         StopsIf (lacks_nonce (nat_lt noted 5) sent_nonce) InvalidToken kind
         (BlobStops (Some blob) kind (λ blob. BlobCause noted new.context sent_nonce blob new kind))
 
+    -- What of these is told whatever memory there is: a field that is absent or too short, an absent nonce, and an altered proof.
+    abbrev pub BlobExact : ℕ → Option C → Option (List ℕ) → List ℕ → ServerView C P → ErrorKind → Type 0
+    BlobExact noted None sent_nonce blob new kind = Unit {0}
+    BlobExact noted (Some m) sent_nonce blob new kind =
+        AlteredExactly c new.acts.checked m blob (prescribed Client noted (nonce_of sent_nonce) new.settings.public_key) kind
+
+    abbrev pub ExchangeExact : Option (List ℕ) → Option ℕ → Option (List ℕ) → ServerView C P → ErrorKind → Type 0
+    ExchangeExact None noted sent_nonce new kind = kind ≡ InvalidToken
+    ExchangeExact (Some blob) None sent_nonce new kind = Unit {0}
+    ExchangeExact (Some blob) (Some noted) sent_nonce new kind =
+        StopsIf (lacks_nonce (nat_lt noted 5) sent_nonce) InvalidToken kind
+        (BlobStops (Some blob) kind (λ blob. BlobExact noted new.context sent_nonce blob new kind))
+
     -- the authentication has ended without a proof and without a token; or the proof that came is refused
     abbrev pub AfterCause : Option (List ℕ) → Option (List ℕ) → ServerView C P → ErrorKind → Type 0
     AfterCause None sent_nonce new kind = (new.output ≡ []) × (kind ≡ InvalidToken)
     AfterCause (Some blob) sent_nonce new kind = ExchangeCause (Some blob) new.noted sent_nonce new kind
+
+  -- credentials that are not opened: out of memory only where the context would open them
+  abbrev pub OpenedExact : Bool → Option C → List ℕ → ErrorKind → Type 0
+  OpenedExact false (Some m) blob kind = IsRefusedAs (c.permits m (ToUnseal blob)) (c.refuses m (ToUnseal blob)) kind
+  OpenedExact opened context blob kind = Unit {0}
+
+  module _ {P : Type 0} where
+    -- the kinds that are told whatever memory there is, past the version check
+    abbrev pub StateExact : CredSspState → TsRequest → ServerView C P → ErrorKind → Type 0
+    StateExact NegoToken d new kind = Unit {0}
+    StateExact PubKeyInfo d new kind = ExchangeExact d.pub_key_auth new.noted d.client_nonce new kind
+    StateExact AuthInfo d new kind = BlobStops d.auth_info kind (λ blob. OpenedExact new.acts.opened new.context blob kind)
+    StateExact Final d new kind = kind ≡ UnsupportedFunction
+
+    abbrev pub ServerExact : ServerView C P → TsRequest → ServerView C P → ErrorKind → Type 0
+    ServerExact old d new kind =
+        MadeOr old.context new.context (Unit {0})
+        (VersionStops old.settings.least old.noted d.version kind (StateExact old.state d new kind))
 
   module _ {P : Type 0} (p : ProxyMeaning P) where
     -- why there is no new context: the proxy did not list its identities, or they were listed and it is not made or acquires no

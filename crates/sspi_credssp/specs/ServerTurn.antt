@@ -1,6 +1,7 @@
 -- A server's turn (MS-CSSP 3.1.5.2), with the step of its context.
 use Rattle.std.specs.Prelude.{◌≡◌, ◌≢◌, ℕ, List, [], map, Option, None, Some, Result, Ok, Err, Bool, true, false, ◌-◌, IsSome}
 use Rattle.sspi_types.specs.declared.credential_use.CredentialUse.TheVariants.{Inbound}
+use Rattle.sspi_types.specs.declared.data_representation.DataRepresentation.TheVariants as representations
 use Rattle.sspi_types.specs.declared.error.Error.{Error}
 use Rattle.sspi_types.specs.declared.security_status.SecurityStatus.{SecurityStatus}
 use Rattle.sspi_types.specs.declared.security_status.SecurityStatus.TheVariants as statuses
@@ -30,7 +31,7 @@ use Rattle.sspi_credssp.specs.Exchange.{OpensIdentity}
 use Rattle.sspi_credssp.specs.Noted.{noted_with}
 use Rattle.sspi_credssp.specs.Proxy.{ProxyMeaning, ProxyTells, AreFound}
 use Rattle.sspi_credssp.specs.Requests.{token_of}
-use Rattle.sspi_credssp.specs.Turn.{HoldsServer, server_shown, ShowsServer, UnlessRefused, ServerFrame, OnceNegotiated}
+use Rattle.sspi_credssp.specs.Turn.{HoldsServer, server_shown, ShowsServer, UnlessRefused, IfRefused, ServerFrame, OnceNegotiated}
 
 -- ---- The step of its context in a server's turn, from the context before the turn to the one that it leaves.
 
@@ -39,7 +40,12 @@ abbrev pub server_requirements : ServerRequestFlags
 server_requirements = record { 0 = 0 }
 
 abbrev pub server_args : Option CredentialsBuffers → Option (List ℕ) → AcceptArgs
-server_args handle token = record { handle = handle; requirements = server_requirements; input = token_of token }
+server_args handle token = record {
+  handle = handle;
+  requirements = server_requirements;
+  representation = representations.Native;
+  input = token_of token;
+}
 
 -- the answer of a step that had come to a status, or not
 abbrev pub refused_step : Option SecurityStatus → List ℕ → Error → Result Step Error
@@ -208,6 +214,8 @@ module _ {C : Type 0} (c : Meaning ContextSetting C) where
       -- a call that took no step makes a context at most, or has it count; and one whose step gave no answer has no token
       pub unstepped : new.acts.negotiated ≡ false → IsUnstepped old new
       pub unanswered : new.acts.status ≡ None → new.output ≡ []
+      -- once its proof is sealed a call is not refused
+      pub ended : IfRefused out (new.acts.proved ≡ false)
 
     pub record ServerTurn (old : ServerView C P) (d : TsRequest) (out : Outcome) (new : ServerView C P) : Type 0 where
       pub turn : IsServerTurn (server_frame old new) (server_turn d out new)

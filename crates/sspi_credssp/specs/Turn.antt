@@ -157,6 +157,11 @@ pub record ShowsClient (f : ShownFrame) (t : Turn) : Type 0 where
 
 -- ---- shown of a server
 
+-- a fact of a refused turn
+abbrev pub IfRefused : Outcome → Type 0 → Type 0
+IfRefused (outcome.Refused kind reply) P = P
+IfRefused other P = Unit {0}
+
 -- the authentication has ended
 abbrev pub IsOver : Option SecurityStatus → Type 0
 IsOver (Some statuses.Ok) = Unit {0}

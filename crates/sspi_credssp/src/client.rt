@@ -185,7 +185,7 @@ impl<N, K> CredSspClient<N, K> {
 impl<N: Mechanism, K: Mechanism> CredSspClient<N, K> {
     ghost use Rattle.sspi_credssp.specs.Context.{Begun, BeginCause, IfContext, MadeOr};
     ghost use Rattle.sspi_credssp.specs.ClientCall.{ClientCall, ResumeCall};
-    ghost use Rattle.sspi_credssp.specs.ClientCause.{StateCause};
+    ghost use Rattle.sspi_credssp.specs.ClientCause.{StateCause, StateExact};
     ghost use Rattle.sspi_credssp.specs.ClientTurn.{HasStepped, ClientGoes, IsReady};
 
     /// Whether a turn is suspended.
@@ -217,8 +217,8 @@ impl<N: Mechanism, K: Mechanism> CredSspClient<N, K> {
     /// In the authentication with the kinds of the context's step, `InternalError` where it ends before a version was noted,
     /// and the kinds of sealing the proof. Where the server's proof is due, `InvalidToken` where it is absent or has under 16
     /// bytes, the kinds of opening it, `MessageAltered` where it is not the right one, and the kinds of the credentials' text
-    /// and of sealing it. `OutOfSequence` once the last message was made. Want of memory may come in place of what stands
-    /// behind the version.
+    /// and of sealing it. `OutOfSequence` once the last message was made. Out of memory may come in place of what stands
+    /// behind the version, but for the absent or short proof, the one that is not the right one, and that last one.
     ///
     /// A call that is refused while a turn is suspended, for the code or for the version only forgets what the last call did.
     /// Any other leaves the state, the mode and what was acquired before, and a context that it made stays. The request is
@@ -276,6 +276,8 @@ impl<N: Mechanism, K: Mechanism> CredSspClient<N, K> {
             HasStepped c start d 0 [] (answered result) self.new }
         // What a refusal says.
         ensures cause { IsRefusedFor result (StateCause (either N.REQUESTS N.meaning K.meaning) self.old.state request self.new) }
+        ensures exact { IfErr result (λ error.
+            StateExact (either N.REQUESTS N.meaning K.meaning) self.old.state request self.new error.error_type) }
         // What is so afterwards.
         ensures begun { IsSome self.new.context }
     {
@@ -304,9 +306,9 @@ impl<N: Mechanism, K: Mechanism> CredSspClient<N, K> {
             × (is_old_in self.old.context self.old.settings.least self.old.noted version ≡ false)) }
         ensures cause { let c = either N.REQUESTS N.meaning K.meaning in
             IfErr result (λ error. VersionStopsIn self.old.context self.old.settings.least self.old.noted version error.error_type
-            (OrMemory error.error_type
-            (MadeOr self.old.context self.new.context (BeginCause c (ForClient self.old.settings.mode) purposes.Outbound
-            (Some self.old.settings.credentials) error.error_type) ⊥))) }
+            (MadeOr self.old.context self.new.context (OrMemory error.error_type
+            (BeginCause c (ForClient self.old.settings.mode) purposes.Outbound (Some self.old.settings.credentials) error.error_type))
+            ⊥)) }
     {
         match &self.context {
             None => {

@@ -1,7 +1,7 @@
 // The client's last turn (AuthInfo): the server's proof is checked, and only then are the credentials sealed.
-ghost use Rattle.std.specs.Prelude.{◌≡◌, ◌≢◌, [], false, None, IsSome, IfOk, IfErr};
+ghost use Rattle.std.specs.Prelude.{◌≡◌, ◌≢◌, [], false, None, IsSome, IfOk, IfErr, OnErr};
 ghost use Rattle.sspi_credssp.specs.Acts.{no_acts};
-ghost use Rattle.sspi_credssp.specs.ClientCause.{DeliverCause};
+ghost use Rattle.sspi_credssp.specs.ClientCause.{DeliverCause, DeliverExact};
 ghost use Rattle.sspi_credssp.specs.Context.{either};
 ghost use Rattle.sspi_credssp.specs.Exchange.{prescribed};
 ghost use Rattle.sspi_mech.specs.Answered.{answered};
@@ -22,12 +22,11 @@ impl<N: Mechanism, K: Mechanism> CredSspClient<N, K> {
     ghost use Rattle.sspi_credssp.specs.declared.context.SspiContext.{SspiContext};
     ghost use Rattle.sspi_credssp.specs.Ends.{ClientView};
     ghost use Rattle.sspi_credssp.specs.ClientTurn.{IsReady};
-    ghost use Rattle.sspi_credssp.specs.ClientStage.{ClientAnswers, ClientDelivers};
+    ghost use Rattle.sspi_credssp.specs.ClientStage.{ClientAnswers, ClientDelivers, HasDone};
 
     pub(crate) fn conclude(&mut self, request: TsRequest) -> Result<ClientState, Refusal>
         // What must hold before.
-        requires acts { self.old.acts ≡ no_acts }
-        requires begun { IsSome self.old.context }
+        requires done { HasDone no_acts self.old }
         requires noted { IsSome self.old.noted }
         // The turn.
         ensures turn { let c = either N.REQUESTS N.meaning K.meaning in (start : ClientView (SspiContext N K)) (d : TsRequest) →
@@ -38,6 +37,8 @@ impl<N: Mechanism, K: Mechanism> CredSspClient<N, K> {
         // What a refusal says.
         ensures cause { IfErr result (λ error. error.error_type ≢ ErrorKind.InsufficientMemory →
             DeliverCause (either N.REQUESTS N.meaning K.meaning) request.pub_key_auth self.new error.error_type) }
+        ensures exact { IfErr result (λ error.
+            DeliverExact (either N.REQUESTS N.meaning K.meaning) request.pub_key_auth self.new error.error_type) }
         // What is so afterwards.
         ensures acts { (self.new.acts.status ≡ None) × (self.new.acts.negotiated ≡ false) }
     {
@@ -71,6 +72,9 @@ impl<N: Mechanism, K: Mechanism> CredSspClient<N, K> {
         // What a refusal says.
         ensures cause { IfErr result (λ error. error.error_type ≢ ErrorKind.InsufficientMemory →
             DeliverCause (either N.REQUESTS N.meaning K.meaning) pub_key_auth.now self.new error.error_type) }
+        ensures exact { IfErr result (λ error.
+            DeliverExact (either N.REQUESTS N.meaning K.meaning) pub_key_auth.now self.new error.error_type) }
+        ensures ended { OnErr result (self.new.acts.sealed ≡ false) }
     {
         let blob = sealed_blob(pub_key_auth, Reason::NoPubKey)?;
         let Some(version) = self.peer_version else {

@@ -108,8 +108,7 @@ impl<N: Mechanism, K: Mechanism> CredSspClient<N, K> {
         request: TsRequest,
     ) -> Result<Progress, Refusal>
         // What must hold before.
-        requires acts { self.old.acts ≡ no_acts }
-        requires begun { IsSome self.old.context }
+        requires done { HasDone no_acts self.old }
         // The turn, and the step in it.
         ensures on { HasGoneOn (either N.REQUESTS N.meaning K.meaning) self.old self.new }
         ensures turn { let c = either N.REQUESTS N.meaning K.meaning in (start : ClientView (SspiContext N K)) (d : TsRequest) →
@@ -128,6 +127,8 @@ impl<N: Mechanism, K: Mechanism> CredSspClient<N, K> {
             self.old.output ≡ [] → StepsTo c start d tries log (answers.Ask q) self.old →
             OnErr result (self.new.acts.status ≡ None → is_waiting_in c self.new.context ≡ true →
             Awaits c start d (tries + 1) (record { question = q; reply = reply.now } ∷ log) q self.new) }
+        ensures dropped { OnErr result (is_waiting_in (either N.REQUESTS N.meaning K.meaning) self.new.context ≡ false →
+            self.new.kept ≡ self.old.kept) }
         ensures falls { let c = either N.REQUESTS N.meaning K.meaning in
             OnSuspended (answered result) (left_in c self.new.context < left_in c self.old.context) }
         // What a refusal says.
@@ -164,6 +165,8 @@ impl<N: Mechanism, K: Mechanism> CredSspClient<N, K> {
         // What a step that did not end leaves.
         ensures still { OnErr result (self.new.acts.status ≡ None →
             KeepsRequest (either N.REQUESTS N.meaning K.meaning) self.old (answered progress) request self.new) }
+        ensures dropped { OnErr result (is_waiting_in (either N.REQUESTS N.meaning K.meaning) self.new.context ≡ false →
+            self.new.kept ≡ self.old.kept) }
         ensures falls { let c = either N.REQUESTS N.meaning K.meaning in (n : ℕ) →
             OnAsk (answer_of (answered progress)) (left_in c self.old.context < n) →
             OnSuspended (answered result) (left_in c self.new.context < n) }

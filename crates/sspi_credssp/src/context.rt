@@ -234,13 +234,15 @@ impl<N: Mechanism, K: Mechanism> SspiContext<N, K> {
     ///
     /// Plain NTLM answers `OutOfSequence` on a client and before its peer has proved a password, `NoCredentials` where no
     /// identity has a password, and `LogonDenied` where none has the one that was proved. Plain Kerberos answers
-    /// `OutOfSequence` but on a server that has its session key, and `NoCredentials` for an empty list. Refused, the context
-    /// is as it was.
+    /// `OutOfSequence` but on a server that has its session key, and `NoCredentials` for an empty list. Out of memory never
+    /// stands for any of these. Refused, the context is as it was.
     pub fn custom_set_auth_identities(&mut self, identities: Vec<Credentials>) -> Result<(), Error>
         ensures identified { OnOk result ((either N.REQUESTS N.meaning K.meaning).identifies self.old identities.items self.new) }
         ensures count { (either N.REQUESTS N.meaning K.meaning).counts self.new ≡ (either N.REQUESTS N.meaning K.meaning).counts self.old }
         ensures err { OnErr result (self.new ≡ self.old) }
         ensures cause { IsRefusedBy result ((either N.REQUESTS N.meaning K.meaning).refuses self.old (ToIdentify identities.items)) }
+        ensures memory { IfErr result (λ error. error.error_type ≡ ErrorKind.InsufficientMemory →
+            (either N.REQUESTS N.meaning K.meaning).permits self.old (ToIdentify identities.items)) }
     {
         match self {
             SspiContext::Negotiate(negotiation) => negotiation.custom_set_auth_identities(
@@ -293,6 +295,7 @@ impl<N: Mechanism, K: Mechanism> SspiContext<N, K> {
     ///
     /// With the plain mechanisms `OutOfSequence` before there is a key, `ContextExpired` once all numbers of messages are used,
     /// `InvalidToken` for a blob of under 16 bytes, and `MessageAltered` for one that the peer did not seal as this message.
+    /// Out of memory never stands for any of these.
     pub fn unseal(&mut self, blob: &[u8]) -> Result<Vec<u8>, Error>
         // What `Ok` holds.
         ensures text { let c = either N.REQUESTS N.meaning K.meaning in
@@ -307,6 +310,8 @@ impl<N: Mechanism, K: Mechanism> SspiContext<N, K> {
         // What a refusal says, and what it leaves.
         ensures err { OnErr result (self.new ≡ self.old) }
         ensures cause { IsRefusedBy result ((either N.REQUESTS N.meaning K.meaning).refuses self.new (ToUnseal blob.now)) }
+        ensures memory { IfErr result (λ error. error.error_type ≡ ErrorKind.InsufficientMemory →
+            (either N.REQUESTS N.meaning K.meaning).permits self.new (ToUnseal blob.now)) }
     {
         match self {
             SspiContext::Negotiate(negotiation) => negotiation.unseal(blob),

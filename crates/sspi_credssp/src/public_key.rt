@@ -21,6 +21,12 @@ pub const CLIENT_SERVER_HASH_MAGIC: [u8; 38] = *b"CredSSP Client-To-Server Bindi
 /// What the server's proof hashes first (ServerClientHashMagic, MS-CSSP 3.1.5).
 pub const SERVER_CLIENT_HASH_MAGIC: [u8; 38] = *b"CredSSP Server-To-Client Binding Hash\0";
 
+/// The two magics are those of MS-CSSP 3.1.5, their final zero byte included.
+pub fn hash_magics_are_prescribed()
+    ensures client { CLIENT_SERVER_HASH_MAGIC ≡ magic EndpointType.Client }
+    ensures server { SERVER_CLIENT_HASH_MAGIC ≡ magic EndpointType.Server }
+{}
+
 /// Adds one to a little-endian number, modulo 256 to the count of its bytes. An empty list stays empty.
 pub fn integer_increment_le(buffer: &mut [u8])
     ensures { buffer.new ≡ incremented buffer.old }

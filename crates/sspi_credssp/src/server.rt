@@ -155,7 +155,7 @@ impl<N: Mechanism, K: Mechanism, C: CredentialsProxy> CredSspServer<N, K, C> {
     ghost use Rattle.sspi_credssp.specs.Ends.{ServerView};
     ghost use Rattle.sspi_credssp.specs.Proxy.{look_ups_at};
     ghost use Rattle.sspi_credssp.specs.ServerCall.{ServerCall};
-    ghost use Rattle.sspi_credssp.specs.ServerCause.{MakeCause, StateCause};
+    ghost use Rattle.sspi_credssp.specs.ServerCause.{MakeCause, StateCause, StateExact};
     ghost use Rattle.sspi_credssp.specs.ServerStage.{HasDone, IsAtStep, LooksAt, MakesContext, BeginRefused, IsReady};
     ghost use Rattle.sspi_credssp.specs.ServerTurn.{HasAcceptedTurn, server_setting, ServerGoes};
 
@@ -173,8 +173,9 @@ impl<N: Mechanism, K: Mechanism, C: CredentialsProxy> CredSspServer<N, K, C> {
     /// token nor a proof. With a proof `InvalidToken` where it is absent, where from version 5 on the nonce is, or where it has
     /// under 16 bytes; with the kinds of opening it; `MessageAltered` where it is not the right one; with the kinds of sealing
     /// the own one. With the credentials `InvalidToken` where they are absent or have under 16 bytes, then the kinds of opening
-    /// and of reading them. `UnsupportedFunction` once they were read. Want of memory may come in place of any of these but the
-    /// two of the version, of a server that has its context.
+    /// and of reading them. `UnsupportedFunction` once they were read. Out of memory may come in place of any of these but the
+    /// two of the version, of a server that has its context, and, past the authentication, an absent or short proof, an absent
+    /// nonce, a proof that is not the right one, absent, short or altered credentials, and that last one.
     ///
     /// A refusal hands the request back with its code. The state, the mode and what was acquired before stay, and a context
     /// that this call made stays with its credentials.
@@ -272,10 +273,11 @@ impl<N: Mechanism, K: Mechanism, C: CredentialsProxy> CredSspServer<N, K, C> {
             request ≡ record d { version = self.old.settings.version } → IsAtStep c C.meaning start self.old →
             IfErr result (λ refusal. refusal.error.error_type ≢ ErrorKind.InsufficientMemory →
             StateCause c C.meaning self.old.state start d self.new refusal.error.error_type) }
+        ensures exact { IfErr result (λ refusal.
+            StateExact (either N.REQUESTS N.meaning K.meaning) self.old.state request self.new refusal.error.error_type) }
         ensures codeless { IfErr result (λ refusal. refusal.error.nstatus ≡ None) }
         // What is so afterwards, and what the proxy was asked.
-        ensures begun { IsSome self.new.context }
-        ensures negotiated { self.old.state ≡ CredSspState.NegoToken → self.new.acts.negotiated ≡ true }
+        ensures begun { IsSome self.new.context × (self.old.state ≡ CredSspState.NegoToken → self.new.acts.negotiated ≡ true) }
         ensures proxy { Asks C.meaning (look_ups_at self.new.acts.status) result self.old.proxy self.new.proxy }
     {
         match self.state {

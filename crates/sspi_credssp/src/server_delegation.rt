@@ -3,10 +3,10 @@ ghost use Rattle.std.specs.Prelude.{◌≡◌, ◌≢◌, ◌-◌, [], None, Som
 ghost use Rattle.sspi_mech.specs.Calls.{ToSeal};
 ghost use Rattle.sspi_credssp.specs.Acts.{no_acts};
 ghost use Rattle.sspi_credssp.specs.Context.{either};
-ghost use Rattle.sspi_credssp.specs.Exchange.{BlobStops, OpensIdentity, ProofCause};
+ghost use Rattle.sspi_credssp.specs.Exchange.{AlteredExactly, BlobStops, OpensIdentity, ProofCause};
 ghost use Rattle.sspi_credssp.specs.Opened.{Exchanges, Opens};
 ghost use Rattle.sspi_credssp.specs.Requests.{nonce_of};
-ghost use Rattle.sspi_credssp.specs.ServerCause.{OpenedCause, lacks_nonce};
+ghost use Rattle.sspi_credssp.specs.ServerCause.{OpenedCause, OpenedExact, lacks_nonce};
 ghost use Rattle.sspi_credssp.specs.Turn.{HasNonce};
 ghost use Rattle.sspi_mech.specs.Answered.{answered};
 
@@ -68,6 +68,9 @@ fn answer_proof<N: Mechanism, K: Mechanism>(
     ensures cause { IfErr result (λ error. error.error_type ≢ ErrorKind.InsufficientMemory →
         ProofCause (either N.REQUESTS N.meaning K.meaning) acts.new.checked context.new blob.now expected.now
         ((either N.REQUESTS N.meaning K.meaning).refuses context.new (ToSeal proof.now) error.error_type) error.error_type) }
+    ensures exact { IfErr result (λ error.
+        AlteredExactly (either N.REQUESTS N.meaning K.meaning) acts.new.checked context.new blob.now expected.now error.error_type) }
+    ensures ended { OnErr result (acts.new.proved ≡ false) }
 {
     if opens_to(context, acts, blob, expected)? {
         seal_text(context, &mut acts.proved, proof)
@@ -92,6 +95,8 @@ fn open_credentials<N: Mechanism, K: Mechanism>(
     // What a refusal says.
     ensures cause { IfErr result (λ error. error.error_type ≢ ErrorKind.InsufficientMemory →
         OpenedCause (either N.REQUESTS N.meaning K.meaning) acts.new.opened (Some context.new) blob.now error.error_type) }
+    ensures exact { IfErr result (λ error.
+        OpenedExact (either N.REQUESTS N.meaning K.meaning) acts.new.opened (Some context.new) blob.now error.error_type) }
 {
     let text = context.unseal(blob)?;
     acts.opened = true;
@@ -100,15 +105,13 @@ fn open_credentials<N: Mechanism, K: Mechanism>(
 
 impl<N: Mechanism, K: Mechanism, C: CredentialsProxy> CredSspServer<N, K, C> {
     ghost use Rattle.sspi_credssp.specs.Ends.{ServerView};
-    ghost use Rattle.sspi_credssp.specs.ServerCause.{ExchangeCause};
+    ghost use Rattle.sspi_credssp.specs.ServerCause.{ExchangeCause, ExchangeExact};
     ghost use Rattle.sspi_credssp.specs.ServerTurn.{ServerGoes};
-    ghost use Rattle.sspi_credssp.specs.ServerStage.{ServerExchanges, ServerOpens, IsReady};
+    ghost use Rattle.sspi_credssp.specs.ServerStage.{HasDone, ServerExchanges, ServerOpens, IsReady};
 
     pub(crate) fn prove(&mut self, request: TsRequest) -> Result<ServerState, ServerError>
         // What must hold before.
-        requires acts { self.old.acts ≡ no_acts }
-        requires begun { IsSome self.old.context }
-        requires noted { IsSome self.old.noted }
+        requires { HasDone no_acts self.old }
         // The turn.
         ensures turn { let c = either N.REQUESTS N.meaning K.meaning in (start : ServerView (SspiContext N K) C) (d : TsRequest) →
             request ≡ record d { version = self.old.settings.version } → IsReady c start d self.old →
@@ -118,6 +121,8 @@ impl<N: Mechanism, K: Mechanism, C: CredentialsProxy> CredSspServer<N, K, C> {
         ensures cause { IfErr result (λ refusal. refusal.error.error_type ≢ ErrorKind.InsufficientMemory →
             ExchangeCause (either N.REQUESTS N.meaning K.meaning) request.pub_key_auth self.new.noted
             request.client_nonce self.new refusal.error.error_type) }
+        ensures exact { IfErr result (λ refusal. ExchangeExact (either N.REQUESTS N.meaning K.meaning) request.pub_key_auth
+            self.new.noted request.client_nonce self.new refusal.error.error_type) }
         ensures codeless { IfErr result (λ refusal. refusal.error.nstatus ≡ None) }
         // What is so afterwards.
         ensures acts { (self.new.acts.status ≡ None) × (self.new.acts.negotiated ≡ false) }
@@ -134,8 +139,7 @@ impl<N: Mechanism, K: Mechanism, C: CredentialsProxy> CredSspServer<N, K, C> {
 
     pub(crate) fn finish(&mut self, request: TsRequest) -> Result<ServerState, ServerError>
         // What must hold before.
-        requires acts { self.old.acts ≡ no_acts }
-        requires begun { IsSome self.old.context }
+        requires { HasDone no_acts self.old }
         // The turn.
         ensures turn { let c = either N.REQUESTS N.meaning K.meaning in (start : ServerView (SspiContext N K) C) (d : TsRequest) →
             request ≡ record d { version = self.old.settings.version } → IsReady c start d self.old →
@@ -146,6 +150,9 @@ impl<N: Mechanism, K: Mechanism, C: CredentialsProxy> CredSspServer<N, K, C> {
             IfErr result (λ refusal. refusal.error.error_type ≢ ErrorKind.InsufficientMemory →
             BlobStops request.auth_info refusal.error.error_type
             (λ blob. OpenedCause c self.new.acts.opened self.new.context blob refusal.error.error_type)) }
+        ensures exact { let c = either N.REQUESTS N.meaning K.meaning in
+            IfErr result (λ refusal. BlobStops request.auth_info refusal.error.error_type
+            (λ blob. OpenedExact c self.new.acts.opened self.new.context blob refusal.error.error_type)) }
         ensures codeless { IfErr result (λ refusal. refusal.error.nstatus ≡ None) }
         // What is so afterwards.
         ensures acts { (self.new.acts.status ≡ None) × (self.new.acts.negotiated ≡ false) }
@@ -171,6 +178,9 @@ impl<N: Mechanism, K: Mechanism, C: CredentialsProxy> CredSspServer<N, K, C> {
         ensures cause { let c = either N.REQUESTS N.meaning K.meaning in
             IfErr result (λ error. error.error_type ≢ ErrorKind.InsufficientMemory →
             BlobStops auth_info.now error.error_type (λ blob. OpenedCause c self.new.acts.opened self.new.context blob error.error_type)) }
+        ensures exact { let c = either N.REQUESTS N.meaning K.meaning in
+            IfErr result (λ error. BlobStops auth_info.now error.error_type
+            (λ blob. OpenedExact c self.new.acts.opened self.new.context blob error.error_type)) }
         // What is so afterwards.
         ensures begun { IsSome self.new.context }
     {
@@ -184,8 +194,7 @@ impl<N: Mechanism, K: Mechanism, C: CredentialsProxy> CredSspServer<N, K, C> {
     // Checks the client's proof and seals the server's.
     pub(crate) fn exchange(&mut self, request: &TsRequest) -> Result<Bytes, Refusal>
         // What must hold before.
-        requires checked { self.old.acts.checked ≡ false }
-        requires proved { self.old.acts.proved ≡ false }
+        requires unproved { (self.old.acts.checked ≡ false) × (self.old.acts.proved ≡ false) }
         requires begun { IsSome self.old.context }
         requires noted { IsSome self.old.noted }
         // What holds of every answer.
@@ -194,6 +203,9 @@ impl<N: Mechanism, K: Mechanism, C: CredentialsProxy> CredSspServer<N, K, C> {
         ensures cause { IfErr result (λ error. error.error_type ≢ ErrorKind.InsufficientMemory →
             ExchangeCause (either N.REQUESTS N.meaning K.meaning) request.now.pub_key_auth self.new.noted
             request.now.client_nonce self.new error.error_type) }
+        ensures exact { IfErr result (λ error. ExchangeExact (either N.REQUESTS N.meaning K.meaning) request.now.pub_key_auth
+            self.new.noted request.now.client_nonce self.new error.error_type) }
+        ensures ended { OnErr result (self.new.acts.proved ≡ false) }
         // What is so afterwards.
         ensures begun { IsSome self.new.context }
     {

@@ -62,7 +62,12 @@ is_guest (Some (Keytab identity)) = false
 -- ---- Initial
 
 abbrev pub first_step_of : StepArgs → FirstStep
-first_step_of args = record { context_requirements = args.requirements; target_name = args.target; input = args.input }
+first_step_of args = record {
+  context_requirements = args.requirements;
+  data_representation = args.representation;
+  target_name = args.target;
+  input = args.input;
+}
 
 -- the mechanism made its first step: the client offers what it may use, with that step's token
 unfoldable pub offers : Values → List ℕ → Plan
@@ -87,7 +92,13 @@ begun v step = if has_begun step.status then offers v step.output else Stops v I
 -- NTLM makes the first step in the place of Kerberos
 unfoldable pub steps_again : Values → FirstStep → Plan
 steps_again v first =
-    Steps (record { handle = passwords v.kept; requirements = first.context_requirements; target = first.target_name; input = first.input })
+    Steps (record {
+      handle = passwords v.kept;
+      requirements = first.context_requirements;
+      representation = first.data_representation;
+      target = first.target_name;
+      input = first.input;
+    })
     (record v { branch = Opening first }) (begun v) (λ kind. Stops v kind)
 
 unfoldable pub falls_back : Values → FirstStep → Plan

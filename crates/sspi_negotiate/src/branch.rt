@@ -5,7 +5,7 @@ ghost use Rattle.sspi_negotiate.specs.Values.{is_waiting};
 
 use sspi_mech::InitializeSecurityContext;
 use sspi_tokens::NegTokenTarg;
-use sspi_types::{Bytes, ClientRequestFlags, Text};
+use sspi_types::{Bytes, ClientRequestFlags, DataRepresentation, Text};
 use std::alloc::{AllocError, Global};
 
 /// Which client's step waits for a KDC, with what the rest of it needs.
@@ -19,11 +19,11 @@ pub enum Branch {
     Answering(NegTokenTarg),
 }
 
-/// What the first step was given, but for the credentials, which are kept, and the data representation, which each step sets
-/// anew.
+/// What the first step was given, but for the credentials, which are kept.
 #[derive(Drop)]
 pub struct Opening {
     pub context_requirements: ClientRequestFlags,
+    pub data_representation: DataRepresentation,
     pub target_name: Option<Text>,
     pub input: Bytes,
 }
@@ -42,6 +42,7 @@ impl Opening {
         };
         Ok(Opening {
             context_requirements: args.context_requirements,
+            data_representation: args.target_data_representation,
             target_name,
             input: Bytes::from_slice(alloc, args.input)?,
         })

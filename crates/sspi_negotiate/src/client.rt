@@ -86,7 +86,6 @@ impl<N: Mechanism, K: Mechanism> Negotiate<N, K> {
         if self.is_closed() {
             Err(Refusal::out_of_sequence())
         } else {
-            self.data_representation = args.target_data_representation;
             self.step_to(ip, args)
         }
     }

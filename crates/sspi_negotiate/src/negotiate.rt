@@ -20,7 +20,7 @@ use crate::state::{NegotiateState, Role};
 use sspi_mech::{Mechanism, Refusal, Step};
 use sspi_names::{AuthIdentity, CredentialsBuffers, KdcTable};
 use sspi_tokens::{MechTypeList, NegResult, NegTokenTarg};
-use sspi_types::{Bytes, DataRepresentation, SecurityStatus, Text};
+use sspi_types::{Bytes, SecurityStatus, Text};
 use std::alloc::Global;
 use std::marker::Model;
 
@@ -43,7 +43,6 @@ pub struct Negotiate<N, K> {
     pub(crate) client_computer_name: Text,
     pub(crate) kdcs: KdcTable,
     pub(crate) branch: Branch,
-    pub(crate) data_representation: DataRepresentation,
 }
 
 impl<N, K> Model for Negotiate<N, K> {

@@ -15,7 +15,7 @@ use crate::state::{NegotiateState, Role};
 use sspi_mech::{Mechanism, Refusal};
 use sspi_names::AuthIdentity;
 use sspi_tokens::MechTypeList;
-use sspi_types::{DataRepresentation, Error, ErrorKind, Reason};
+use sspi_types::{Error, ErrorKind, Reason};
 use std::alloc::Global;
 
 fn packages_in(config: &NegotiateConfig) -> PackageListConfig
@@ -140,7 +140,6 @@ fn begin<N: Mechanism, K: Mechanism>(
         client_computer_name,
         kdcs,
         branch: Branch::Idle,
-        data_representation: DataRepresentation::Native,
     })
 }
 

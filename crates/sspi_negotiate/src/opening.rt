@@ -25,7 +25,7 @@ use crate::state::NegotiateState;
 use sspi_mech::{Answer, InitializeSecurityContext, Mechanism, Progressing, Refusal, Reply, Step};
 use sspi_names::CredentialsBuffers;
 use sspi_tokens::NegTokenInit;
-use sspi_types::{Bytes, DataRepresentation, ErrorKind, Reason, SecurityStatus};
+use sspi_types::{Bytes, ErrorKind, Reason, SecurityStatus};
 
 /// A step that asks nothing more.
 pub(crate) fn done(ended: Result<Step, Refusal>) -> Result<Progressing, Refusal>
@@ -66,12 +66,12 @@ fn step_again<N: Mechanism, K: Mechanism>(
     protocol: &mut NegotiatedProtocol<N, K>,
     kept: &Option<CredentialsBuffers>,
     first: &Opening,
-    data_representation: DataRepresentation,
 ) -> Answer
     // The step.
     ensures step { (hand N.meaning K.meaning).steps protocol.old (record {
       handle = passwords kept.now;
       requirements = first.now.context_requirements;
+      representation = first.now.data_representation;
       target = first.now.target_name;
       input = first.now.input;
     }) result protocol.new }
@@ -89,7 +89,7 @@ fn step_again<N: Mechanism, K: Mechanism>(
     protocol.initialize(&InitializeSecurityContext {
         credentials_handle: passwords(kept.as_ref()),
         context_requirements: first.context_requirements,
-        target_data_representation: data_representation,
+        target_data_representation: first.data_representation,
         target_name,
         input: first.input.as_slice(),
     })
@@ -274,13 +274,7 @@ impl<N: Mechanism, K: Mechanism> Negotiate<N, K> {
         ensures need { self.new.need ≡ self.old.need }
         ensures held { SameHand (values_of self.old) (values_of self.new) }
     {
-        let representation = self.data_representation;
-        match step_again(
-            &mut self.protocol,
-            &self.auth_identity,
-            &first,
-            representation,
-        ) {
+        match step_again(&mut self.protocol, &self.auth_identity, &first) {
             Answer::Done(step) => done(self.begin(step)),
             Answer::Ask(request) => {
                 self.branch = Branch::Opening(first);

@@ -2,7 +2,7 @@ use crate::tests::checks::{compares, given, holds, is, refusal};
 use crate::tests::names::field;
 use sspi_names::{AuthIdentity, AuthIdentityBuffers, Username, Utf16Text};
 use sspi_types::{Error, ErrorKind, Reason, Secret, Text};
-use std::alloc::Global;
+use std::alloc::{AllocError, Global};
 use std::process::Abort;
 
 /// The identity of this name and password.
@@ -90,4 +90,35 @@ fn compares_buffers(rt: &impl Abort, alloc: Global, line: &str, same: bool) {
     let one = buffers(rt, alloc, [user, domain, password]);
     let other = buffers(rt, alloc, ["ann", "DOM", "pw"]);
     compares(rt, one, other, same, line);
+}
+
+/// Buffers whose user and domain mix the forms of a name. That takes no memory, so that it is told also where the allocations
+/// behind those of the buffers fail.
+#[test]
+fn mixed_buffers_take_no_memory(rt: HostRuntime) {
+    are_mixed(
+        &rt,
+        rt.alloc(),
+        made(rt.alloc(), "ann@example.com\\ann", ""),
+    );
+    are_mixed(&rt, rt.alloc(), made(rt.alloc(), "a\\b\\c", ""));
+    are_mixed(&rt, rt.alloc(), made(rt.alloc(), "ann@example.com", "DOM"));
+    are_mixed(&rt, rt.alloc(), made(rt.alloc(), "ann", "DOM\\"));
+}
+
+fn made(alloc: Global, user: &str, domain: &str) -> Result<AuthIdentityBuffers, AllocError> {
+    Ok(AuthIdentityBuffers {
+        user: Utf16Text::from_str(alloc, user)?,
+        domain: Utf16Text::from_str(alloc, domain)?,
+        password: Secret {
+            value: Utf16Text::from_str(alloc, "p")?,
+        },
+    })
+}
+
+fn are_mixed(rt: &impl Abort, alloc: Global, made: Result<AuthIdentityBuffers, AllocError>) {
+    if let Ok(buffers) = made {
+        let error = refusal(rt, AuthIdentity::from_buffers(alloc, &buffers), "mixed");
+        holds(rt, error.error_type == ErrorKind::InvalidParameter, "kind");
+    }
 }

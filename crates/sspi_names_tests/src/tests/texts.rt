@@ -71,3 +71,30 @@ fn is_refused(rt: &impl Abort, alloc: Global, bytes: &[u8], error: Utf16Error, l
     let refused = refusal(rt, Utf16Text::from_bytes_le(alloc, bytes), line);
     holds(rt, refused == error, line);
 }
+
+/// Bytes that are no text. None of them has memory asked for, so that each is told where every allocation fails.
+#[test]
+fn bad_texts_take_no_memory(rt: HostRuntime) {
+    is_refused(&rt, rt.alloc(), b"a", Utf16Error::OddLength, "odd");
+    is_refused(
+        &rt,
+        rt.alloc(),
+        b"\x00\xd8",
+        Utf16Error::UnpairedSurrogate,
+        "high alone",
+    );
+    is_refused(
+        &rt,
+        rt.alloc(),
+        b"a\x00\x00\xdc",
+        Utf16Error::UnpairedSurrogate,
+        "low alone",
+    );
+    is_refused(
+        &rt,
+        rt.alloc(),
+        b"\x00\xdca",
+        Utf16Error::OddLength,
+        "odd behind a low one",
+    );
+}

@@ -7,4 +7,4 @@ returns-in_err-make_context-in-None-clause-cause g c =
     let none : c.args.self.now.context ≡ None = search rules in
     let gone : c.make_context.new.self.context ≡ None = search rules in
     let p = err_from_is_err_and c.from_residual.result c.from_residual.ensures.1 in
-    rw (p.1, p.2) (rw (none, gone) (λ memory. c.in_err-make_context-in-None.ensures.cause memory))
+    rw (p.1, p.2) (rw (none, gone) c.in_err-make_context-in-None.ensures.cause)

@@ -4,14 +4,14 @@ use Rattle.sspi_types.specs.declared.credential_use.CredentialUse.TheVariants.{O
 use Rattle.sspi_credssp.specs.Context.{Begun, BeginCause, IfContext, MadeOr, either, ForClient}
 use Rattle.sspi_mech.specs.Refusals.{error_of}
 use Rattle.sspi_mech.specs.Answered.{answered}
-use Rattle.sspi_credssp.specs.ClientCause.{ClientCause, StateCause}
+use Rattle.sspi_credssp.specs.ClientCause.{ClientCause, ClientExact, StateCause, StateExact}
 use Rattle.sspi_credssp.specs.ClientTurn.{HasStepped}
 use Rattle.sspi_credssp.specs.Acts.{is_waiting_in}
 use Rattle.sspi_credssp.specs.Noted.{is_altered_in, is_old_in, VersionStopsIn, OrMemory}
 use Rattle.sspi_credssp.specs.Refusal.{IsRefusedBy}
-use Rattle.sspi_credssp.proofs.CodelessErrors.{caused}
+use Rattle.sspi_credssp.proofs.CodelessErrors.{caused, err_answered}
 use Rattle.sspi_credssp.proofs.ClientHeeding.{client_only, no_step}
-use Rattle.sspi_credssp.proofs.Causes.{client_cause_past, client_cause_begun, too_old}
+use Rattle.sspi_credssp.proofs.Causes.{client_cause_past, client_cause_begun, client_exact_past, client_exact_begun, too_old}
 use Rattle.sspi_credssp.proofs.CheckedCode.{no_code, coded}
 use Rattle.sspi_credssp.proofs.client.CredSspClient.process.Goals as goal
 
@@ -37,6 +37,9 @@ returns g c =
     let cause : IfErr (answered c.take-2.result) (λ error. ClientCause it now d new error.error_type) =
     client_cause_past it now _ d _ _ _ _ idle uncoded young same c.take-2.ensures.begun
     (search rules) c.at_version.ensures caused.kind in
+    let exact : IfErr (answered c.take-2.result) (λ error. ClientExact it now d new error.error_type) =
+    client_exact_past it now _ d _ _ _ _ idle uncoded young same c.take-2.ensures.begun
+    (search rules) c.at_version.ensures (err_answered (λ kind. StateExact it c.begin.new.self.state c.at_version.result new kind) c.take-2.result c.take-2.ensures.exact) in
     rw c.answered.ensures
     (record {
       turn = c.take-2.ensures.turn now d (search rules) ready (search rules);
@@ -47,7 +50,7 @@ returns g c =
           only = λ never. client_only it never now d 0 [] _ _ cause step;
         };
       };
-      cause = record { kind = cause; status = search rules };
+      cause = record { kind = cause; exact = exact; status = search rules };
       kept = record {
         waited = search rules;
         intruded = search rules;
@@ -79,8 +82,14 @@ returns-in_err-begin g c =
     let cause : ClientCause it now d new kind =
     client_cause_begun it now _ d kind idle uncoded
     (subst (λ v. VersionStopsIn v.context v.settings.least v.noted d.version kind
-    (OrMemory kind
-    (MadeOr v.context new.context (BeginCause it (ForClient v.settings.mode) Outbound (Some v.settings.credentials) kind) ⊥)))
+    (MadeOr v.context new.context
+    (OrMemory kind (BeginCause it (ForClient v.settings.mode) Outbound (Some v.settings.credentials) kind)) ⊥))
+    c.forget_last_call.ensures c.in_err-begin.ensures.cause) in
+    let exact : ClientExact it now d new kind =
+    client_exact_begun it now _ d kind _ idle uncoded
+    (subst (λ v. VersionStopsIn v.context v.settings.least v.noted d.version kind
+    (MadeOr v.context new.context
+    (OrMemory kind (BeginCause it (ForClient v.settings.mode) Outbound (Some v.settings.credentials) kind)) ⊥))
     c.forget_last_call.ensures c.in_err-begin.ensures.cause) in
     let p = err_from_is_err_and c.from_residual-in_err-begin.result c.from_residual-in_err-begin.ensures.1 in
     rw (p.1, p.2)
@@ -94,7 +103,7 @@ returns-in_err-begin g c =
           only = λ never. client_only it never now d 0 [] (Err (error_of c.in_err-begin.field-0.0)) new cause step;
         };
       };
-      cause = record { kind = cause; status = search rules };
+      cause = record { kind = cause; exact = exact; status = search rules };
       kept = record {
         waited = search rules;
         intruded = search rules;

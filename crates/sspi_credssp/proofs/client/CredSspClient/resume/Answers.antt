@@ -41,6 +41,7 @@ returns-in-Some g c =
             on_err_answered _ c.resume_with.result (c.resume_with.ensures.still start d tries log q (search rules) ready
             (search rules) (search rules)
             (subst (λ v. StepsTo it start d tries log (Ask q) v) (sym forgot) awaits.walked));
+        dropped = λ waited some. on_err_answered _ c.resume_with.result (search rules);
         idle = search rules;
         stray = search rules;
       };

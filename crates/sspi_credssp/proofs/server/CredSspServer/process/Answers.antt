@@ -12,7 +12,7 @@ use Rattle.sspi_credssp.specs.ServerTurn.{HasAcceptedTurn, server_setting}
 use Rattle.sspi_credssp.proofs.Asked.{later, asked_on, turn_asked}
 use Rattle.sspi_credssp.proofs.ServerBeginning.{begin_halted, context_there, no_step}
 use Rattle.sspi_credssp.proofs.ServerHeeding.{server_only}
-use Rattle.sspi_credssp.proofs.ServerCauses.{server_cause_past, server_cause_begun}
+use Rattle.sspi_credssp.proofs.ServerCauses.{server_cause_past, server_cause_begun, server_exact_past, server_exact_begun}
 use Rattle.sspi_credssp.proofs.server.CredSspServer.process.Goals as goal
 
 pub returns-in-Ok : goal.returns-in-Ok
@@ -32,16 +32,18 @@ returns-in-Ok g c =
     let at : IsAtStep it p now c.begin.new.self = record { later = later p _ _ _ listed; begun = begun } in
     let step : HasAcceptedTurn it p now d c.take-in-Ok.result new = c.take-in-Ok.ensures.step now d (search rules) at in
     let cause : IfErr c.take-in-Ok.result (λ refusal. ServerCause it p now d new refusal.error.error_type) =
-    server_cause_past it p now new d _ _ (search rules) (search rules) c.take-in-Ok.ensures.begun (search rules)
+    server_cause_past it p now new d _ _ (search rules) (search rules) c.take-in-Ok.ensures.begun.0 (search rules)
     (c.take-in-Ok.ensures.cause now d (search rules) at) in
     let young : is_old now.settings.least now.noted d.version ≡ false = search rules in
     record {
       turn = c.take-in-Ok.ensures.turn now d (search rules) ready (search rules);
       step = step;
       cause = record { kind = cause; codeless = c.take-in-Ok.ensures.codeless };
+      exact = server_exact_past it now new d c.at_version.result c.begin.new.self.state _ c.take-in-Ok.result (search rules)
+          (search rules) c.take-in-Ok.ensures.begun.0 (search rules) c.at_version.ensures c.take-in-Ok.ensures.exact;
       heeded = record {
         refuses = λ met. let old = met.old in absurd (cc (young, old));
-        only = λ never. server_only it never p now d _ _ (λ some. c.take-in-Ok.ensures.begun) cause step;
+        only = λ never. server_only it never p now d _ _ (λ some. c.take-in-Ok.ensures.begun.0) cause step;
       };
       kept = record {
         altered = search rules;
@@ -49,7 +51,7 @@ returns-in-Ok g c =
             let none_before : c.forget_last_call.new.self.context ≡ None = rw c.forget_last_call.ensures none in
             let nego : c.begin.new.self.state ≡ NegoToken =
             ap (λ v. v.state) c.in-Ok.ensures.frame ∙ c.in-Ok.ensures.made.fresh none_before in
-            absurd (true≢false (sym (c.take-in-Ok.ensures.negotiated nego) ∙ idle));
+            absurd (true≢false (sym (c.take-in-Ok.ensures.begun.1 nego) ∙ idle));
         unmade = search rules;
       };
       proxy = record {
@@ -84,6 +86,10 @@ returns-in-Err g c =
           (search rules) (search rules) c.refusal.ensures;
       step = step;
       cause = record { kind = cause; codeless = search rules };
+      exact = rw same (server_exact_begun it now new d kind _
+          (subst (λ v. MadeOr v.context new.context (OrMemory kind (MakeCause it p v.settings.mode v.proxy new.proxy kind))
+          (VersionStops v.settings.least v.noted d.version kind ⊥))
+          c.forget_last_call.ensures c.in-Err.ensures.cause));
       heeded = record {
         refuses = λ met.
             let old : is_old c.forget_last_call.new.self.settings.least c.forget_last_call.new.self.noted d.version ≡ true =
