@@ -17,7 +17,7 @@ use Rattle.sspi_credssp.specs.declared.client_state.Progress.TheVariants.{Suspen
 use Rattle.sspi_credssp.specs.ClientCall.{ClientCall, ClientIsRefused, ClientKeeps, ResumeCall, ResumeIsRefused}
 use Rattle.sspi_credssp.specs.Context.{IfContext, MadeOr, ContextSetting}
 use Rattle.sspi_credssp.specs.Ends.{ClientView}
-use Rattle.sspi_credssp.specs.ClientCause.{ClientCause, ResumeCause, KeptCause, NegoCause, StateCause}
+use Rattle.sspi_credssp.specs.ClientCause.{ClientCause, ClientExact, ResumeCause, KeptCause, NegoCause, StateCause, StateExact}
 use Rattle.sspi_credssp.specs.ClientTurn.{Asked, HasStepped, OnStep, ClientGoes, IsUnderway}
 use Rattle.sspi_credssp.specs.Acts.{is_waiting_in}
 use Rattle.sspi_credssp.specs.Noted.{is_altered_in, is_old_in, StopsIf, OrMemory}
@@ -73,6 +73,21 @@ module _ {C : Type 0} (c : Meaning ContextSetting C) where
       (state_cause start.state d new error.error_type (sym way.ready.state ∙ way.state)
       (resumed_nego start d mid new error.error_type way cause memory))))))
 
+  state_exact : (state : CredSspState) (d : TsRequest) (new : ClientView C) (kind : ErrorKind) → state ≡ NegoToken →
+      StateExact c state d new kind
+  state_exact state d new kind is = rw is tt
+
+  resumed_exact : (start : ClientView C) (d : TsRequest) (mid new : ClientView C) (log : List Asked) (error : Error) →
+      IsUnderway c start d mid → HasStepped c start d 0 log (Err error) new → new.acts.negotiated ≡ true →
+      ClientExact c start d new error.error_type
+  resumed_exact start d mid new log error way step negotiated =
+      stops_past (is_waiting_in c start.context) OutOfSequence error.error_type _ way.ready.idle
+      (stops_past _ InvalidToken error.error_type _ way.ready.code
+      (stops_past (is_old_in start.context start.settings.least start.noted d.version) DowngradeDetected error.error_type _ way.ready.young
+      (stops_past (is_altered_in start.context start.noted d.version) MessageAltered error.error_type _ way.ready.passed
+      (made_past start.context new.context _ _ _ (on_step new.acts.negotiated _ negotiated step)
+      (state_exact start.state d new error.error_type (sym way.ready.state ∙ way.state))))))
+
   module _ {D : Type 0} (k : KdcCalls D) where
     -- a call that its context suspended nowhere, or at its first question
     pub called_takes : (old new : ClientView C) (kdc : D) (d : TsRequest) (result : Result Progress Error) → k.replies kdc [] kdc →
@@ -91,9 +106,10 @@ module _ {C : Type 0} (c : Meaning ContextSetting C) where
     resumed_why : (start : ClientView C) (d : TsRequest) (mid new : ClientView C) (log : List Asked) (result : Result Progress Error) →
         IsUnderway c start d mid → ResumeIsRefused c mid result new → HasStepped c start d 0 log result new →
         new.acts.negotiated ≡ true → ClientIsRefused c start d result new
-    resumed_why start d mid new log (Ok progress) way why step negotiated = record { kind = tt; status = tt }
+    resumed_why start d mid new log (Ok progress) way why step negotiated = record { kind = tt; exact = tt; status = tt }
     resumed_why start d mid new log (Err error) way why step negotiated = record {
       kind = resumed_cause start d mid new log error way why.kind step negotiated;
+      exact = resumed_exact start d mid new log error way step negotiated;
       status = rw (way.ready.idle, way.ready.code) why.codeless;
     }
 
