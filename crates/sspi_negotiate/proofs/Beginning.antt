@@ -48,7 +48,7 @@ no_rule_for : (v : Values) (p : Protocol) (identity : Identity) →
 no_rule_for v Kerberos identity = refl
 no_rule_for v Ntlm identity = refl
 
-no_rule : (v : Values) (user : Option Identity) →
+pub no_rule : (v : Values) (user : Option Identity) →
     user_url (record v { packages = record v.packages { kerberos = false } }) user ≡ None
 no_rule v None = refl
 no_rule v (Some identity) = no_rule_for v v.hand identity

@@ -16,9 +16,10 @@ use Rattle.sspi_negotiate.specs.declared.state.NegotiateState.TheVariants as sta
 use Rattle.sspi_negotiate.specs.Beginning.{FallsBy, FallsResumed, MayBegin}
 use Rattle.sspi_negotiate.specs.Choices.{chosen_at, excuses_guest}
 use Rattle.sspi_negotiate.specs.Client.{spnego_client, spnego_resumed}
-use Rattle.sspi_negotiate.specs.Does.{Does, Stays, StaysNeeded, StaysPicked, StaysResumed, StaysUnmarked, StaysSilent, WaitsOn, told}
-use Rattle.sspi_negotiate.specs.Hand.{asks_left, hand, hand_of}
-use Rattle.sspi_negotiate.specs.Holding.{MayHold, MayKeep, user_of, user_url}
+use Rattle.sspi_negotiate.specs.Does.{Does, Stays, StaysNeeded, StaysPicked, StaysConfigured, StaysResumed, StaysUnmarked}
+use Rattle.sspi_negotiate.specs.Does.{StaysSilent, WaitsOn, told}
+use Rattle.sspi_negotiate.specs.Hand.{asks_left, hand}
+use Rattle.sspi_negotiate.specs.Holding.{MayHave, MayKeep, StaysFirst, user_of, user_url}
 use Rattle.sspi_negotiate.specs.Keeps.{is_answering, is_opening}
 use Rattle.sspi_negotiate.specs.Negotiate.{Moves, ClientMoves, ResumeStays, ServerMoves}
 use Rattle.sspi_negotiate.specs.Server.{spnego_server}
@@ -51,50 +52,53 @@ module _ {N K : Type 0} (n : Meaning Setting N) (k : Meaning Setting K) (s : Neg
   pub accept_moves : (args : AcceptArgs) (result : Result Step Error) (s2 : Negotiation (NegotiatedProtocol N K)) →
       Does n k (spnego_server (values_of s) args) s (told result) s2 → OnErr result (Stays (values_of s) (values_of s2)) →
       OnErr result (s2.need ≡ s.need) → StaysSilent n k s s2 → (s.state ≡ states.Initial → StaysUnmarked n k s s2) →
-      (s.state ≢ states.Initial → StaysPicked (values_of s) (values_of s2)) → ServerMoves n k s args result s2
-  accept_moves args result s2 follows stays need unused unmarked picked = record {
+      (s.state ≢ states.Initial → StaysPicked (values_of s) (values_of s2)) → StaysConfigured (values_of s) (values_of s2) →
+      ServerMoves n k s args result s2
+  accept_moves args result s2 follows stays need unused unmarked picked configured = record {
     moves = record { follows = follows; stays = told_stays _ result stays; unused = unused; unmarked = unmarked; protected = need };
     picked = picked;
+    configured = configured;
   }
 
   pub client_moves : (args : StepArgs) (result : Result Progressing Error) (s2 : Negotiation (NegotiatedProtocol N K)) (ip : Bool) →
       (IsTrue ip ↔ IsNamedByIp args.target) → Does n k (spnego_client ip (values_of s) args) s (answer_of result) s2 →
       OnErr result (Stays (values_of s) (values_of s2)) → StaysSilent n k s s2 →
-      (s.state ≡ states.Initial → StaysUnmarked n k s s2) →
+      (s.state ≡ states.Initial → StaysFirst n k args s s2) →
       (s.state ≢ states.Initial →
       StaysNeeded (excuses_guest (chosen_at s.state args.input) (values_of s) args) (values_of s) (values_of s2)) →
-      (s.state ≢ states.Initial → MayHold (ip && s.packages.ntlm ≡ true) (user_url (values_of s) (user_of args.handle))
-      (chosen_at s.state args.input) (hand_of s.mech) (hand_of s2.mech)) →
-      (s.state ≢ states.Initial → MayKeep (user_of args.handle) s.kept s2.kept) →
+      (s.state ≢ states.Initial → MayHave (ip && s.packages.ntlm ≡ true) (user_url (values_of s) (user_of args.handle))
+      (chosen_at s.state args.input) (values_of s) (values_of s2)) → MayKeep (user_of args.handle) s.kept s2.kept →
       (s.state ≡ states.Initial → OnErr result (MayBegin (hand n k) (ip && s.packages.ntlm ≡ true)
       (user_url (values_of s) (user_of args.handle)) args s s2)) → ClientMoves n k s args (answer_of result) s2
-  client_moves args result s2 ip is follows stays unused unmarked need held kept begun = record {
+  client_moves args result s2 ip is follows stays unused opened need held kept begun = record {
     begun = λ first. answered_stays _ result (on_err result (begun_by (hand n k) (addressed ip is s.packages.ntlm)) (begun first));
-    held = λ late. record { hand = held_by (addressed ip is s.packages.ntlm) (λ found h. h) (held late); kept = kept late };
+    held = λ late. held_by (addressed ip is s.packages.ntlm) (λ found h. h) (held late);
+    kept = kept;
+    asked = λ first. (opened first).1;
     ip = ip;
     ip_is = is;
     moves = record {
       follows = follows;
       stays = answered_stays _ result stays;
       unused = unused;
-      unmarked = unmarked;
+      unmarked = λ first. (opened first).0;
       protected = need;
     };
   }
 
   pub resume_moves : (reply : Reply) (result : Result Progressing Error) (s2 : Negotiation (NegotiatedProtocol N K)) →
       Does n k (spnego_resumed (values_of s) reply) s (answer_of result) s2 → OnErr result (WaitsOn s (record s { branch = Idle }) s2) →
-      StaysSilent n k s s2 → (is_answering s.branch ≡ false → StaysUnmarked n k s s2) → s2.need ≡ s.need →
+      StaysSilent n k s s2 → (is_answering s.branch ≡ false → StaysUnmarked n k s s2) → s2.need ≡ s.need → s2.kept ≡ s.kept →
       (is_opening s.branch ≡ false → StaysPicked (values_of s) (values_of s2)) →
       (is_opening s.branch ≡ true → OnErr result (FallsBy (FallsResumed (hand n k) s.mech reply) (values_of s) (values_of s2))) →
       Moves n k (is_answering s.branch ≡ false) (ResumeStays n k s reply s2) (StaysResumed (values_of s) (values_of s2))
       (spnego_resumed (values_of s) reply) s (answer_of result) s2
-  resume_moves reply result s2 follows stays unused unmarked need picked begun = record {
+  resume_moves reply result s2 follows stays unused unmarked need kept picked begun = record {
     follows = follows;
     stays = answered_stays _ result (resume_stays result (λ waits begun. record { waits = waits; begun = begun }) stays begun);
     unused = unused;
     unmarked = unmarked;
-    protected = record { need = need; picked = picked };
+    protected = record { need = need; kept = kept; picked = picked };
   }
 
 -- a further question to a KDC is one fewer to come

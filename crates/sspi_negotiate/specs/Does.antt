@@ -65,17 +65,25 @@ pub data WaitsOn {N K : Type 0} (waiting over new : Negotiation (NegotiatedProto
   as_before : new ≡ waiting → WaitsOn waiting over new
   no_longer : Stays (values_of over) (values_of new) → WaitsOn waiting over new
 
--- the list of mechanisms, the mechanism in hand and the kept credentials are as they were
+-- the list of mechanisms, the mechanism in hand, the kept credentials and the packages are as they were
 pub record StaysPicked (old new : Values) : Type 0 where
   pub list : new.list ≡ old.list
   pub hand : new.hand ≡ old.hand
+  pub kept : new.kept ≡ old.kept
+  pub packages : new.packages ≡ old.packages
+
+-- the packages and the kept credentials are as they were
+pub record StaysConfigured (old new : Values) : Type 0 where
+  pub packages : new.packages ≡ old.packages
   pub kept : new.kept ≡ old.kept
 
 -- where MICs were needed, they are, but for a guest who is excused
 abbrev pub StaysNeeded : Bool → Values → Values → Type 0
 StaysNeeded excused old new = old.need ≡ true → excused ≡ false → new.need ≡ true
 
--- what a resumed step leaves: the need, and, where the one that waits is no first step, the list and what is in hand and kept
+-- what a resumed step leaves: the need and the kept credentials, and, where the one that waits is no first step, the list, the
+-- packages and what is in hand
 pub record StaysResumed (old new : Values) : Type 0 where
   pub need : new.need ≡ old.need
+  pub kept : new.kept ≡ old.kept
   pub picked : is_opening old.branch ≡ false → StaysPicked old new

@@ -17,9 +17,10 @@ use Rattle.sspi_negotiate.specs.Acquire.{Acquires, RefusesToAcquire}
 use Rattle.sspi_negotiate.specs.Beginning.{FallsBy, FallsResumed, MayBegin}
 use Rattle.sspi_negotiate.specs.Choices.{chosen_at, excuses_guest}
 use Rattle.sspi_negotiate.specs.Client.{spnego_client, spnego_resumed}
-use Rattle.sspi_negotiate.specs.Does.{Does, Stays, StaysNeeded, StaysPicked, StaysResumed, StaysUnmarked, StaysSilent, WaitsOn, told}
+use Rattle.sspi_negotiate.specs.Does.{Does, Stays, StaysNeeded, StaysPicked, StaysConfigured, StaysResumed, StaysUnmarked}
+use Rattle.sspi_negotiate.specs.Does.{StaysSilent, WaitsOn, told}
 use Rattle.sspi_negotiate.specs.Hand.{hand, asks_left}
-use Rattle.sspi_negotiate.specs.Holding.{StaysHeld, user_of, user_url}
+use Rattle.sspi_negotiate.specs.Holding.{StaysHeld, MayKeep, MayNeed, user_of, user_url}
 use Rattle.sspi_negotiate.specs.Keeps.{is_answering, is_opening}
 use Rattle.sspi_negotiate.specs.New.{NegotiateSetting, MadeOf, UnmadeOf}
 use Rattle.sspi_negotiate.specs.Plan.{Plan}
@@ -45,8 +46,8 @@ pub record ResumeStays {N K : Type 0} (n : Meaning Setting N) (k : Meaning Setti
   pub begun : is_opening s.branch ≡ true → FallsBy (FallsResumed (hand n k) s.mech reply) (values_of s) (values_of s2)
 
 -- a client's step, whose plan depends on whether the target is named by its IP address; behind the first one the need of MICs goes
--- only where the server chooses NTLM for a guest, and what is in hand and kept changes only as StaysHeld says; a first one that is
--- refused leaves in hand and of the packages what MayBegin says
+-- only where the server chooses NTLM for a guest, and what is in hand and the packages change only as StaysHeld says; a first one
+-- that is refused leaves of the two what MayBegin says, and the need of MICs stays there or is what the flags say
 pub record ClientMoves {N K : Type 0} (n : Meaning Setting N) (k : Meaning Setting K) (s : Negotiation (NegotiatedProtocol N K))
     (args : StepArgs) (r : Answer)
     (s2 : Negotiation (NegotiatedProtocol N K)) : Type 0 where
@@ -56,16 +57,19 @@ pub record ClientMoves {N K : Type 0} (n : Meaning Setting N) (k : Meaning Setti
       (s.state ≢ Initial → StaysNeeded (excuses_guest (chosen_at s.state args.input) (values_of s) args) (values_of s) (values_of s2))
       (spnego_client ip (values_of s) args) s r s2
   pub held : s.state ≢ Initial → StaysHeld (values_of s) args (values_of s2)
+  pub kept : MayKeep (user_of args.handle) s.kept s2.kept
+  pub asked : s.state ≡ Initial → MayNeed args.requirements s.need s2.need
   pub begun : s.state ≡ Initial → OnRefused r (MayBegin (hand n k) (IsNamedByIp args.target × (s.packages.ntlm ≡ true))
       (user_url (values_of s) (user_of args.handle)) args s s2)
 
--- a server's step, which leaves the need of MICs where it is refused; once it has read the list, it leaves that and the name of
--- the mechanism that it picked, which lives on by its plan (`LivesOn`)
+-- a server's step, which leaves the packages and the kept credentials, and the need of MICs where it is refused; once it has read
+-- the list, it leaves that and the name of the mechanism that it picked, which lives on by its plan (`LivesOn`)
 pub record ServerMoves {N K : Type 0} (n : Meaning Setting N) (k : Meaning Setting K) (s : Negotiation (NegotiatedProtocol N K))
     (args : AcceptArgs) (result : Result Step Error) (s2 : Negotiation (NegotiatedProtocol N K)) : Type 0 where
   pub moves : Moves n k (s.state ≡ Initial) (Stays (values_of s) (values_of s2)) (OnErr result (s2.need ≡ s.need))
       (spnego_server (values_of s) args) s (told result) s2
   pub picked : s.state ≢ Initial → StaysPicked (values_of s) (values_of s2)
+  pub configured : StaysConfigured (values_of s) (values_of s2)
 
 module _ {N K : Type 0} (requests : ℕ) (n : Meaning Setting N) (k : Meaning Setting K) where
   -- the entry of the package is always there

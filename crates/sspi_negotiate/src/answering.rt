@@ -17,7 +17,7 @@ ghost use Rattle.sspi_negotiate.specs.Client.{stepped, settles, verified, at_ver
 ghost use Rattle.sspi_negotiate.specs.Client.{last_mic, handle_for, resumes_answering, spnego_resumed};
 ghost use Rattle.sspi_negotiate.specs.Does.{Does, Stays, StaysNeeded, StaysPicked, StaysUnmarked, StaysSilent, WaitsOn, told};
 ghost use Rattle.sspi_negotiate.specs.Hand.{hand, hand_of};
-ghost use Rattle.sspi_negotiate.specs.Holding.{MayHold};
+ghost use Rattle.sspi_negotiate.specs.Holding.{MayHave};
 ghost use Rattle.sspi_negotiate.specs.Keeps.{is_answering, is_opening};
 ghost use Rattle.sspi_negotiate.specs.Negotiate.{negotiate};
 ghost use Rattle.sspi_negotiate.specs.Plan.{Goes};
@@ -89,7 +89,7 @@ impl<N: Mechanism, K: Mechanism> Negotiate<N, K> {
         ensures unused { StaysSilent N.meaning K.meaning self.old self.new }
         ensures need { let v = values_of self.old in
             StaysNeeded (excuses_guest (chosen_in args.now.input.now) v (step_args args.now)) v (values_of self.new) }
-        ensures hand { MayHold ⊥ None (chosen_in args.now.input.now) (hand_of self.old.mech) (hand_of self.new.mech) }
+        ensures held { MayHave ⊥ None (chosen_in args.now.input.now) (values_of self.old) (values_of self.new) }
         ensures kept { self.new.kept ≡ self.old.kept }
     {
         let token = NegTokenTarg::decode(self.alloc, args.input)?;
@@ -109,8 +109,8 @@ impl<N: Mechanism, K: Mechanism> Negotiate<N, K> {
         ensures need { let v = values_of self.old in StaysNeeded
             (excuses_guest (option_and_then protocol_of (option_map kind_of token.supported_mech)) v (step_args args.now))
             v (values_of self.new) }
-        ensures hand { MayHold ⊥ None (option_and_then protocol_of (option_map kind_of token.supported_mech))
-            (hand_of self.old.mech) (hand_of self.new.mech) }
+        ensures held { MayHave ⊥ None (option_and_then protocol_of (option_map kind_of token.supported_mech))
+            (values_of self.old) (values_of self.new) }
         ensures kept { self.new.kept ≡ self.old.kept }
     {
         match choice_of(&token) {
@@ -133,7 +133,7 @@ impl<N: Mechanism, K: Mechanism> Negotiate<N, K> {
         ensures stays { OnErr result (Stays (values_of self.old) (values_of self.new)) }
         ensures unused { StaysSilent N.meaning K.meaning self.old self.new }
         ensures need { StaysNeeded false (values_of self.old) (values_of self.new) }
-        ensures hand { MayHold ⊥ None (Some protocols.Kerberos) (hand_of self.old.mech) (hand_of self.new.mech) }
+        ensures held { MayHave ⊥ None (Some protocols.Kerberos) (values_of self.old) (values_of self.new) }
         ensures kept { self.new.kept ≡ self.old.kept }
     {
         if self.packages.kerberos {
@@ -154,7 +154,7 @@ impl<N: Mechanism, K: Mechanism> Negotiate<N, K> {
         ensures stays { self.old.packages.kerberos ≡ true → OnErr result (Stays (values_of self.old) (values_of self.new)) }
         ensures unused { StaysSilent N.meaning K.meaning self.old self.new }
         ensures need { StaysNeeded false (values_of self.old) (values_of self.new) }
-        ensures hand { MayHold ⊥ None (Some protocols.Kerberos) (hand_of self.old.mech) (hand_of self.new.mech) }
+        ensures held { self.old.packages.kerberos ≡ true → MayHave ⊥ None (Some protocols.Kerberos) (values_of self.old) (values_of self.new) }
         ensures kept { self.new.kept ≡ self.old.kept }
     {
         match self.protocol.protocol() {
@@ -175,7 +175,7 @@ impl<N: Mechanism, K: Mechanism> Negotiate<N, K> {
         ensures stays { self.old.packages.kerberos ≡ true → OnErr result (Stays (values_of self.old) (values_of self.new)) }
         ensures unused { StaysSilent N.meaning K.meaning self.old self.new }
         ensures need { StaysNeeded false (values_of self.old) (values_of self.new) }
-        ensures hand { MayHold ⊥ None (Some protocols.Kerberos) (hand_of self.old.mech) (hand_of self.new.mech) }
+        ensures held { self.old.packages.kerberos ≡ true → MayHave ⊥ None (Some protocols.Kerberos) (values_of self.old) (values_of self.new) }
         ensures kept { self.new.kept ≡ self.old.kept }
     {
         self.protocol = NegotiatedProtocol::new_kerberos(
@@ -198,7 +198,7 @@ impl<N: Mechanism, K: Mechanism> Negotiate<N, K> {
         ensures stays { hand_of self.old.mech ≡ protocols.Kerberos → OnErr result (Stays (values_of self.old) (values_of self.new)) }
         ensures unused { StaysSilent N.meaning K.meaning self.old self.new }
         ensures need { StaysNeeded false (values_of self.old) (values_of self.new) }
-        ensures picked { StaysPicked (values_of self.old) (values_of self.new) }
+        ensures picked { StaysPicked (without_ntlm (values_of self.old)) (values_of self.new) }
     {
         self.packages.ntlm = false;
         self.answer(token, args)
@@ -216,7 +216,7 @@ impl<N: Mechanism, K: Mechanism> Negotiate<N, K> {
         ensures unused { StaysSilent N.meaning K.meaning self.old self.new }
         ensures need { let v = values_of self.old in
             StaysNeeded (excuses_guest (Some protocols.Ntlm) v (step_args args.now)) v (values_of self.new) }
-        ensures hand { MayHold ⊥ None (Some protocols.Ntlm) (hand_of self.old.mech) (hand_of self.new.mech) }
+        ensures held { MayHave ⊥ None (Some protocols.Ntlm) (values_of self.old) (values_of self.new) }
         ensures kept { self.new.kept ≡ self.old.kept }
     {
         if self.packages.ntlm {
@@ -243,7 +243,7 @@ impl<N: Mechanism, K: Mechanism> Negotiate<N, K> {
         ensures stays { self.old.packages.ntlm ≡ true → OnErr result (Stays (values_of self.old) (values_of self.new)) }
         ensures unused { StaysSilent N.meaning K.meaning self.old self.new }
         ensures need { StaysNeeded guest (values_of self.old) (values_of self.new) }
-        ensures hand { MayHold ⊥ None (Some protocols.Ntlm) (hand_of self.old.mech) (hand_of self.new.mech) }
+        ensures held { self.old.packages.ntlm ≡ true → MayHave ⊥ None (Some protocols.Ntlm) (values_of self.old) (values_of self.new) }
         ensures kept { self.new.kept ≡ self.old.kept }
     {
         self.take_ntlm()?;
@@ -265,7 +265,8 @@ impl<N: Mechanism, K: Mechanism> Negotiate<N, K> {
         ensures stays { hand_of self.old.mech ≡ protocols.Ntlm → OnErr result (Stays (values_of self.old) (values_of self.new)) }
         ensures unused { StaysSilent N.meaning K.meaning self.old self.new }
         ensures need { StaysNeeded guest (values_of self.old) (values_of self.new) }
-        ensures picked { StaysPicked (values_of self.old) (values_of self.new) }
+        ensures picked { StaysPicked (record (values_of self.old) { packages = record self.old.packages { kerberos = false } })
+            (values_of self.new) }
     {
         self.packages.kerberos = false;
         self.mic_needed = !guest;
@@ -446,6 +447,7 @@ impl<N: Mechanism, K: Mechanism> Negotiate<N, K> {
         ensures unused { StaysSilent N.meaning K.meaning self.old self.new }
         ensures first { is_answering self.old.branch ≡ false → StaysUnmarked N.meaning K.meaning self.old self.new }
         ensures need { self.new.need ≡ self.old.need }
+        ensures kept { self.new.kept ≡ self.old.kept }
         ensures picked { is_opening self.old.branch ≡ false → StaysPicked (values_of self.old) (values_of self.new) }
     {
         match mem::replace(&mut self.branch, Branch::Idle) {

@@ -9,9 +9,9 @@ ghost use Rattle.sspi_negotiate.specs.declared.protocol.Protocol.TheVariants as 
 ghost use Rattle.sspi_negotiate.specs.Beginning.{FallsBy, Falls, MayBegin, OnlyNtlm};
 ghost use Rattle.sspi_negotiate.specs.Choices.{chosen_at, excuses_guest};
 ghost use Rattle.sspi_negotiate.specs.Client.{is_closed, spnego_client, by_target, with_handle, keeps, ruled, client_at};
-ghost use Rattle.sspi_negotiate.specs.Does.{Does, Stays, StaysNeeded, StaysUnmarked, StaysSilent};
+ghost use Rattle.sspi_negotiate.specs.Does.{Does, Stays, StaysNeeded, StaysSilent};
 ghost use Rattle.sspi_negotiate.specs.Hand.{hand, hand_of};
-ghost use Rattle.sspi_negotiate.specs.Holding.{MayHold, MayKeep, user_of, user_url};
+ghost use Rattle.sspi_negotiate.specs.Holding.{MayHave, MayKeep, StaysFirst, user_of, user_url};
 ghost use Rattle.sspi_negotiate.specs.Negotiate.{negotiate};
 ghost use Rattle.sspi_negotiate.specs.Rows.{in_ntlm};
 ghost use Rattle.sspi_negotiate.specs.Rule.{rule_url};
@@ -75,13 +75,14 @@ impl<N: Mechanism, K: Mechanism> Negotiate<N, K> {
             (step_args args.now) self.old self.new) }
         // What every answer keeps.
         ensures unused { StaysSilent N.meaning K.meaning self.old self.new }
-        ensures first { self.old.state ≡ states.Initial → StaysUnmarked N.meaning K.meaning self.old self.new }
+        ensures first { self.old.state ≡ states.Initial →
+            StaysFirst N.meaning K.meaning (step_args args.now) self.old self.new }
         ensures need { let v = values_of self.old in self.old.state ≢ states.Initial →
             StaysNeeded (excuses_guest (chosen_at self.old.state args.now.input.now) v (step_args args.now)) v (values_of self.new) }
-        ensures hand { let v = values_of self.old in self.old.state ≢ states.Initial →
-            MayHold (ip && v.packages.ntlm ≡ true) (user_url v (user_of (step_args args.now).handle))
-            (chosen_at v.state args.now.input.now) v.hand (hand_of self.new.mech) }
-        ensures kept { self.old.state ≢ states.Initial → MayKeep (user_of (step_args args.now).handle) self.old.kept self.new.kept }
+        ensures held { let v = values_of self.old in self.old.state ≢ states.Initial →
+            MayHave (ip && v.packages.ntlm ≡ true) (user_url v (user_of (step_args args.now).handle))
+            (chosen_at v.state args.now.input.now) v (values_of self.new) }
+        ensures kept { MayKeep (user_of (step_args args.now).handle) self.old.kept self.new.kept }
     {
         if self.is_closed() {
             Err(Refusal::out_of_sequence())
@@ -104,13 +105,14 @@ impl<N: Mechanism, K: Mechanism> Negotiate<N, K> {
             (step_args args.now) self.old self.new) }
         // What every answer keeps.
         ensures unused { StaysSilent N.meaning K.meaning self.old self.new }
-        ensures first { self.old.state ≡ states.Initial → StaysUnmarked N.meaning K.meaning self.old self.new }
+        ensures first { self.old.state ≡ states.Initial →
+            StaysFirst N.meaning K.meaning (step_args args.now) self.old self.new }
         ensures need { let v = values_of self.old in self.old.state ≢ states.Initial →
             StaysNeeded (excuses_guest (chosen_at self.old.state args.now.input.now) v (step_args args.now)) v (values_of self.new) }
-        ensures hand { let v = values_of self.old in self.old.state ≢ states.Initial →
-            MayHold (ip && v.packages.ntlm ≡ true) (user_url v (user_of (step_args args.now).handle))
-            (chosen_at v.state args.now.input.now) v.hand (hand_of self.new.mech) }
-        ensures kept { self.old.state ≢ states.Initial → MayKeep (user_of (step_args args.now).handle) self.old.kept self.new.kept }
+        ensures held { let v = values_of self.old in self.old.state ≢ states.Initial →
+            MayHave (ip && v.packages.ntlm ≡ true) (user_url v (user_of (step_args args.now).handle))
+            (chosen_at v.state args.now.input.now) v (values_of self.new) }
+        ensures kept { MayKeep (user_of (step_args args.now).handle) self.old.kept self.new.kept }
     {
         if ip && self.packages.ntlm {
             self.leave_kerberos(args)
@@ -135,12 +137,13 @@ impl<N: Mechanism, K: Mechanism> Negotiate<N, K> {
             OnErr result (FallsBy (Unit {0}) (values_of self.old) (values_of self.new)) }
         // What every answer keeps.
         ensures unused { StaysSilent N.meaning K.meaning self.old self.new }
-        ensures first { self.old.state ≡ states.Initial → StaysUnmarked N.meaning K.meaning self.old self.new }
+        ensures first { self.old.state ≡ states.Initial →
+            StaysFirst N.meaning K.meaning (step_args args.now) self.old self.new }
         ensures need { let v = values_of self.old in self.old.state ≢ states.Initial →
             StaysNeeded (excuses_guest (chosen_at self.old.state args.now.input.now) v (step_args args.now)) v (values_of self.new) }
-        ensures hand { let v = values_of self.old in self.old.state ≢ states.Initial →
-            MayHold (Unit {0}) None (chosen_at v.state args.now.input.now) v.hand (hand_of self.new.mech) }
-        ensures kept { self.old.state ≢ states.Initial → MayKeep (user_of (step_args args.now).handle) self.old.kept self.new.kept }
+        ensures held { let v = values_of self.old in self.old.state ≢ states.Initial →
+            MayHave (Unit {0}) None (chosen_at v.state args.now.input.now) v (values_of self.new) }
+        ensures kept { MayKeep (user_of (step_args args.now).handle) self.old.kept self.new.kept }
     {
         self.take_ntlm()?;
         self.disable_kerberos(args)
@@ -159,13 +162,14 @@ impl<N: Mechanism, K: Mechanism> Negotiate<N, K> {
             OnErr result (OnlyNtlm (values_of self.old) (values_of self.new)) }
         // What every answer keeps.
         ensures unused { StaysSilent N.meaning K.meaning self.old self.new }
-        ensures first { self.old.state ≡ states.Initial → StaysUnmarked N.meaning K.meaning self.old self.new }
+        ensures first { self.old.state ≡ states.Initial →
+            StaysFirst N.meaning K.meaning (step_args args.now) self.old self.new }
         ensures need { let v = values_of self.old in self.old.state ≢ states.Initial →
             StaysNeeded (excuses_guest (chosen_at self.old.state args.now.input.now) v (step_args args.now)) v (values_of self.new) }
-        ensures hand { let v = values_of self.old in self.old.state ≢ states.Initial →
-            MayHold ⊥ (user_url (record v { packages = record v.packages { kerberos = false } }) (user_of (step_args args.now).handle))
-            (chosen_at v.state args.now.input.now) v.hand (hand_of self.new.mech) }
-        ensures kept { self.old.state ≢ states.Initial → MayKeep (user_of (step_args args.now).handle) self.old.kept self.new.kept }
+        ensures held { let v = record (values_of self.old) { packages = record self.old.packages { kerberos = false } } in
+            self.old.state ≢ states.Initial → MayHave ⊥ (user_url v (user_of (step_args args.now).handle))
+            (chosen_at v.state args.now.input.now) v (values_of self.new) }
+        ensures kept { MayKeep (user_of (step_args args.now).handle) self.old.kept self.new.kept }
     {
         self.packages.kerberos = false;
         self.with_handle(args)
@@ -181,13 +185,14 @@ impl<N: Mechanism, K: Mechanism> Negotiate<N, K> {
             ⊥ (user_url (values_of self.old) (user_of (step_args args.now).handle)) (step_args args.now) self.old self.new) }
         // What every answer keeps.
         ensures unused { StaysSilent N.meaning K.meaning self.old self.new }
-        ensures first { self.old.state ≡ states.Initial → StaysUnmarked N.meaning K.meaning self.old self.new }
+        ensures first { self.old.state ≡ states.Initial →
+            StaysFirst N.meaning K.meaning (step_args args.now) self.old self.new }
         ensures need { let v = values_of self.old in self.old.state ≢ states.Initial →
             StaysNeeded (excuses_guest (chosen_at self.old.state args.now.input.now) v (step_args args.now)) v (values_of self.new) }
-        ensures hand { let v = values_of self.old in self.old.state ≢ states.Initial →
-            MayHold ⊥ (user_url v (user_of (step_args args.now).handle))
-            (chosen_at v.state args.now.input.now) v.hand (hand_of self.new.mech) }
-        ensures kept { self.old.state ≢ states.Initial → MayKeep (user_of (step_args args.now).handle) self.old.kept self.new.kept }
+        ensures held { let v = values_of self.old in self.old.state ≢ states.Initial →
+            MayHave ⊥ (user_url v (user_of (step_args args.now).handle))
+            (chosen_at v.state args.now.input.now) v (values_of self.new) }
+        ensures kept { MayKeep (user_of (step_args args.now).handle) self.old.kept self.new.kept }
     {
         match args.credentials_handle {
             None => self.step_at(args),
@@ -210,12 +215,13 @@ impl<N: Mechanism, K: Mechanism> Negotiate<N, K> {
             ⊥ (user_url (values_of self.old) (identity_of buffers.now)) (step_args args.now) self.old self.new) }
         // What every answer keeps.
         ensures unused { StaysSilent N.meaning K.meaning self.old self.new }
-        ensures first { self.old.state ≡ states.Initial → StaysUnmarked N.meaning K.meaning self.old self.new }
+        ensures first { self.old.state ≡ states.Initial →
+            StaysFirst N.meaning K.meaning (step_args args.now) self.old self.new }
         ensures need { let v = values_of self.old in self.old.state ≢ states.Initial →
             StaysNeeded (excuses_guest (chosen_at self.old.state args.now.input.now) v (step_args args.now)) v (values_of self.new) }
-        ensures hand { let v = values_of self.old in self.old.state ≢ states.Initial →
-            MayHold ⊥ (user_url v (identity_of buffers.now)) (chosen_at v.state args.now.input.now) v.hand (hand_of self.new.mech) }
-        ensures kept { self.old.state ≢ states.Initial → MayKeep (identity_of buffers.now) self.old.kept self.new.kept }
+        ensures held { let v = values_of self.old in self.old.state ≢ states.Initial →
+            MayHave ⊥ (user_url v (identity_of buffers.now)) (chosen_at v.state args.now.input.now) v (values_of self.new) }
+        ensures kept { MayKeep (identity_of buffers.now) self.old.kept self.new.kept }
     {
         let identity = AuthIdentity::from_buffers(self.alloc, buffers)?;
         self.keep(&identity, args)
@@ -236,12 +242,13 @@ impl<N: Mechanism, K: Mechanism> Negotiate<N, K> {
             ⊥ (rule_url (values_of self.old) identity.now.username) (step_args args.now) self.old self.new) }
         // What every answer keeps.
         ensures unused { StaysSilent N.meaning K.meaning self.old self.new }
-        ensures first { self.old.state ≡ states.Initial → StaysUnmarked N.meaning K.meaning self.old self.new }
+        ensures first { self.old.state ≡ states.Initial →
+            StaysFirst N.meaning K.meaning (step_args args.now) self.old self.new }
         ensures need { let v = values_of self.old in self.old.state ≢ states.Initial →
             StaysNeeded (excuses_guest (chosen_at self.old.state args.now.input.now) v (step_args args.now)) v (values_of self.new) }
-        ensures hand { let v = values_of self.old in self.old.state ≢ states.Initial →
-            MayHold ⊥ (rule_url v identity.now.username) (chosen_at v.state args.now.input.now) v.hand (hand_of self.new.mech) }
-        ensures kept { self.old.state ≢ states.Initial → MayKeep (Some identity.now) self.old.kept self.new.kept }
+        ensures held { let v = values_of self.old in self.old.state ≢ states.Initial →
+            MayHave ⊥ (rule_url v identity.now.username) (chosen_at v.state args.now.input.now) v (values_of self.new) }
+        ensures kept { MayKeep (Some identity.now) self.old.kept self.new.kept }
     {
         let kept = identity.to_buffers(self.alloc)?;
         self.auth_identity = Some(CredentialsBuffers::AuthIdentity(kept));
@@ -261,12 +268,13 @@ impl<N: Mechanism, K: Mechanism> Negotiate<N, K> {
             ⊥ (rule_url (values_of self.old) name.now) (step_args args.now) self.old self.new) }
         // What every answer keeps.
         ensures unused { StaysSilent N.meaning K.meaning self.old self.new }
-        ensures first { self.old.state ≡ states.Initial → StaysUnmarked N.meaning K.meaning self.old self.new }
+        ensures first { self.old.state ≡ states.Initial →
+            StaysFirst N.meaning K.meaning (step_args args.now) self.old self.new }
         ensures need { let v = values_of self.old in self.old.state ≢ states.Initial →
             StaysNeeded (excuses_guest (chosen_at self.old.state args.now.input.now) v (step_args args.now)) v (values_of self.new) }
-        ensures hand { let v = values_of self.old in self.old.state ≢ states.Initial →
-            MayHold ⊥ (rule_url v name.now) (chosen_at v.state args.now.input.now) v.hand (hand_of self.new.mech) }
-        ensures kept { self.old.state ≢ states.Initial → self.new.kept ≡ self.old.kept }
+        ensures held { let v = values_of self.old in self.old.state ≢ states.Initial →
+            MayHave ⊥ (rule_url v name.now) (chosen_at v.state args.now.input.now) v (values_of self.new) }
+        ensures kept { self.new.kept ≡ self.old.kept }
     {
         self.take_by_rule(name)?;
         self.step_at(args)
@@ -283,12 +291,13 @@ impl<N: Mechanism, K: Mechanism> Negotiate<N, K> {
             (values_of self.old) (values_of self.new)) }
         // What every answer keeps.
         ensures unused { StaysSilent N.meaning K.meaning self.old self.new }
-        ensures first { self.old.state ≡ states.Initial → StaysUnmarked N.meaning K.meaning self.old self.new }
+        ensures first { self.old.state ≡ states.Initial →
+            StaysFirst N.meaning K.meaning (step_args args.now) self.old self.new }
         ensures need { let v = values_of self.old in self.old.state ≢ states.Initial →
             StaysNeeded (excuses_guest (chosen_at self.old.state args.now.input.now) v (step_args args.now)) v (values_of self.new) }
-        ensures hand { let v = values_of self.old in self.old.state ≢ states.Initial →
-            MayHold ⊥ None (chosen_at v.state args.now.input.now) v.hand (hand_of self.new.mech) }
-        ensures kept { self.old.state ≢ states.Initial → self.new.kept ≡ self.old.kept }
+        ensures held { let v = values_of self.old in self.old.state ≢ states.Initial →
+            MayHave ⊥ None (chosen_at v.state args.now.input.now) v (values_of self.new) }
+        ensures kept { self.new.kept ≡ self.old.kept }
     {
         match self.state {
             NegotiateState::Initial => self.first_step(args),

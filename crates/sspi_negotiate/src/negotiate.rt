@@ -1,6 +1,6 @@
 ghost use Rattle.std.specs.Prelude.{◌≡◌, [], true, None, OnErr};
 ghost use Rattle.sspi_mech.specs.Answered.{answered};
-ghost use Rattle.sspi_negotiate.specs.Does.{Does, Stays, StaysPicked, StaysUnmarked, StaysSilent, told};
+ghost use Rattle.sspi_negotiate.specs.Does.{Does, Stays, StaysPicked, StaysConfigured, StaysUnmarked, StaysSilent, told};
 ghost use Rattle.sspi_negotiate.specs.Passes.{Passes};
 ghost use Rattle.sspi_negotiate.specs.declared.protocol.Protocol.TheVariants as protocols;
 ghost use Rattle.sspi_negotiate.specs.Hand.{hand_of, asks_left};
@@ -106,6 +106,7 @@ impl<N: Mechanism, K: Mechanism> Negotiate<N, K> {
         ensures stays { self.old.packages.ntlm ≡ true → Stays (values_of self.old) (values_of self.new) }
         ensures unused { StaysSilent N.meaning K.meaning self.old self.new }
         ensures unmarked { StaysUnmarked N.meaning K.meaning self.old self.new }
+        ensures configured { StaysConfigured (values_of self.old) (values_of self.new) }
         ensures need { self.new.need ≡ self.old.need }
         // What a refusal leaves.
         ensures err { OnErr result (self.new ≡ self.old) }
@@ -124,6 +125,7 @@ impl<N: Mechanism, K: Mechanism> Negotiate<N, K> {
         ensures stays { self.old.packages.ntlm ≡ true → Stays (values_of self.old) (values_of self.new) }
         ensures unused { StaysSilent N.meaning K.meaning self.old self.new }
         ensures unmarked { StaysUnmarked N.meaning K.meaning self.old self.new }
+        ensures configured { StaysConfigured (values_of self.old) (values_of self.new) }
         ensures need { self.new.need ≡ self.old.need }
         // What a refusal leaves.
         ensures err { OnErr result (self.new ≡ self.old) }

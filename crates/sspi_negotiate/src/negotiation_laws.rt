@@ -8,13 +8,13 @@ ghost use Rattle.sspi_mech.specs.declared.step.Step.{Step};
 ghost use Rattle.sspi_mech.specs.Calls.{StepArgs, AcceptArgs};
 ghost use Rattle.sspi_mech.specs.Context.{IsContext};
 ghost use Rattle.sspi_negotiate.specs.declared.protocol.NegotiatedProtocol.{NegotiatedProtocol};
-ghost use Rattle.sspi_negotiate.specs.Does.{StaysNeeded, StaysPicked, UnlessMemory, told};
+ghost use Rattle.sspi_negotiate.specs.Does.{StaysNeeded, StaysPicked, StaysConfigured, UnlessMemory, told};
 ghost use Rattle.sspi_negotiate.specs.Choices.{chosen_in, chosen_at, excuses_guest, other_protocol, UnlessRefused};
 ghost use Rattle.sspi_negotiate.specs.declared.protocol.Protocol.{Protocol};
 ghost use Rattle.sspi_mech.specs.declared.step.Answer.TheVariants as answers;
 ghost use Rattle.sspi_negotiate.specs.declared.state.NegotiateState.TheVariants as states;
 ghost use Rattle.sspi_negotiate.specs.Hand.{hand, hand_of};
-ghost use Rattle.sspi_negotiate.specs.Holding.{StaysHeld};
+ghost use Rattle.sspi_negotiate.specs.Holding.{StaysHeld, MayKeep, MayNeed, user_of};
 ghost use Rattle.sspi_negotiate.specs.Verified.{IsVerified, IsGuestNamed};
 ghost use Rattle.sspi_negotiate.specs.Keeps.{Keeps, KeepsPackages, is_opening, may_use};
 ghost use Rattle.sspi_negotiate.specs.Lives.{LivesOn};
@@ -67,35 +67,46 @@ pub fn choices_are_kept<N: Mechanism, K: Mechanism>()
         chosen_in args.input ≡ Some protocol → may_use old.packages protocol ≡ false → UnlessRefused answer ⊥ }
 {}
 
-/// What is in hand and kept behind the first step, want of memory included. A client's step leaves the mechanism in hand, or takes
-/// the one that the server chooses, NTLM where the target is named by its IP address and NTLM may be used, or Kerberos where a KDC
-/// serves the domain of the user that the call hands over; the kept credentials stay, or are that user's. A resumed step, but for
-/// a resumed first one, and a server's step leave the list, the mechanism in hand and the kept credentials. A server makes no other
-/// mechanism of the same name: the one that is left is the one from before, or what at most one token, the peer's identities, one MIC
-/// verified and one MIC made of it.
+/// What is in hand, allowed and kept, want of memory included. Behind the first step, a client's step leaves the mechanism in hand,
+/// or takes the one that the server chooses, NTLM where the target is named by its IP address and NTLM may be used, or Kerberos where
+/// a KDC serves the domain of the user that the call hands over; of the packages it disables at most the one beside that choice, or
+/// Kerberos because of the address. A resumed step, but for a resumed first one, and a server's later step leave the list, the packages
+/// and the mechanism in hand. In each step of a client the kept credentials stay, or are the user's that the call hands over; a
+/// resumed step leaves them, and a server's step the packages too. A server makes no other mechanism of the same name: the one that
+/// is left is the one from before, or what at most one token, the peer's identities, one MIC verified and one MIC made of it.
 pub fn hand_is_kept<N: Mechanism, K: Mechanism>()
     ensures client { (old new : Negotiation (NegotiatedProtocol N K)) (args : StepArgs) (answer : Answer) →
         (negotiate N.REQUESTS N.meaning K.meaning).steps old args answer new →
         old.state ≢ states.Initial → StaysHeld (values_of old) args (values_of new) }
+    ensures client_keeps { (old new : Negotiation (NegotiatedProtocol N K)) (args : StepArgs) (answer : Answer) →
+        (negotiate N.REQUESTS N.meaning K.meaning).steps old args answer new → MayKeep (user_of args.handle) old.kept new.kept }
     ensures resumed { (old new : Negotiation (NegotiatedProtocol N K)) (reply : Reply) (answer : Answer) →
         (negotiate N.REQUESTS N.meaning K.meaning).resumes old reply answer new →
         is_opening old.branch ≡ false → StaysPicked (values_of old) (values_of new) }
+    ensures resumed_keeps { (old new : Negotiation (NegotiatedProtocol N K)) (reply : Reply) (answer : Answer) →
+        (negotiate N.REQUESTS N.meaning K.meaning).resumes old reply answer new → new.kept ≡ old.kept }
     ensures server { (old new : Negotiation (NegotiatedProtocol N K)) (args : AcceptArgs) (result : Result Step Error) →
         (negotiate N.REQUESTS N.meaning K.meaning).accepts old args result new →
         old.state ≢ states.Initial → StaysPicked (values_of old) (values_of new) }
+    ensures server_configured { (old new : Negotiation (NegotiatedProtocol N K)) (args : AcceptArgs) (result : Result Step Error) →
+        (negotiate N.REQUESTS N.meaning K.meaning).accepts old args result new → StaysConfigured (values_of old) (values_of new) }
     ensures server_lives { (old new : Negotiation (NegotiatedProtocol N K)) (args : AcceptArgs) (result : Result Step Error) →
         (negotiate N.REQUESTS N.meaning K.meaning).accepts old args result new →
         old.state ≢ states.Initial → LivesOn (hand N.meaning K.meaning) args old.mech new.mech }
 {}
 
 /// Where MICs are needed they stay so, want of memory included: a server's refused step leaves the need as it was, and so does a
-/// resumed step, whatever it answers; behind the first step, a client's step takes it away only by the server's choice of NTLM, which
-/// may be used, for a guest, and a server's only where the peer is a guest by the name that the mechanism then in hand gives.
+/// resumed step, whatever it answers. A client's first step leaves it, or makes it what the flags of the step say. Behind the first
+/// step, a client's step takes it away only by the server's choice of NTLM, which may be used, for a guest, and a server's only where
+/// the peer is a guest by the name that the mechanism then in hand gives.
 pub fn mic_need_is_kept<N: Mechanism, K: Mechanism>()
     ensures client { (old new : Negotiation (NegotiatedProtocol N K)) (args : StepArgs) (answer : Answer) →
         (negotiate N.REQUESTS N.meaning K.meaning).steps old args answer new →
         old.state ≢ states.Initial →
         StaysNeeded (excuses_guest (chosen_at old.state args.input) (values_of old) args) (values_of old) (values_of new) }
+    ensures client_first { (old new : Negotiation (NegotiatedProtocol N K)) (args : StepArgs) (answer : Answer) →
+        (negotiate N.REQUESTS N.meaning K.meaning).steps old args answer new →
+        old.state ≡ states.Initial → MayNeed args.requirements old.need new.need }
     ensures resumed { (old new : Negotiation (NegotiatedProtocol N K)) (reply : Reply) (answer : Answer) →
         (negotiate N.REQUESTS N.meaning K.meaning).resumes old reply answer new → new.need ≡ old.need }
     ensures server { (old new : Negotiation (NegotiatedProtocol N K)) (args : AcceptArgs) (result : Result Step Error) →

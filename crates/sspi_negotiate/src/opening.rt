@@ -9,6 +9,7 @@ ghost use Rattle.sspi_negotiate.specs.Client.{at_initial, first_step, begun, off
 ghost use Rattle.sspi_negotiate.specs.Client.{steps_again, handle_for, passwords, resumes_opening};
 ghost use Rattle.sspi_negotiate.specs.Does.{Does, Stays, StaysUnmarked, StaysSilent, UnlessMemory, WaitsOn, told};
 ghost use Rattle.sspi_negotiate.specs.Hand.{hand, hand_of, is_kerberos_hand};
+ghost use Rattle.sspi_negotiate.specs.Holding.{MayNeed};
 ghost use Rattle.sspi_negotiate.specs.Fallback.{is_fallback};
 ghost use Rattle.sspi_negotiate.specs.declared.branch.Branch.TheVariants as branches;
 ghost use Rattle.sspi_negotiate.specs.Values.{values_of};
@@ -110,6 +111,8 @@ impl<N: Mechanism, K: Mechanism> Negotiate<N, K> {
         // What every answer keeps.
         ensures unused { StaysSilent N.meaning K.meaning self.old self.new }
         ensures unmarked { StaysUnmarked N.meaning K.meaning self.old self.new }
+        ensures kept { self.new.kept ≡ self.old.kept }
+        ensures need { MayNeed args.now.context_requirements self.old.need self.new.need }
     {
         let first = Opening::of(self.alloc, args)?;
         self.mic_needed = client_wants_mic(args.context_requirements);
@@ -131,6 +134,8 @@ impl<N: Mechanism, K: Mechanism> Negotiate<N, K> {
         // What every answer keeps.
         ensures unused { StaysSilent N.meaning K.meaning self.old self.new }
         ensures unmarked { StaysUnmarked N.meaning K.meaning self.old self.new }
+        ensures kept { self.new.kept ≡ self.old.kept }
+        ensures need { self.new.need ≡ self.old.need }
     {
         match step_with(&mut self.protocol, &self.auth_identity, args) {
             Answer::Done(step) => done(self.begin(step)),
@@ -149,6 +154,7 @@ impl<N: Mechanism, K: Mechanism> Negotiate<N, K> {
         // What every answer keeps.
         ensures unused { StaysSilent N.meaning K.meaning self.old self.new }
         ensures unmarked { StaysUnmarked N.meaning K.meaning self.old self.new }
+        ensures kept { self.new.kept ≡ self.old.kept }
         ensures need { self.new.need ≡ self.old.need }
         ensures held { SameHand (values_of self.old) (values_of self.new) }
     {
@@ -167,6 +173,7 @@ impl<N: Mechanism, K: Mechanism> Negotiate<N, K> {
         // What every answer keeps.
         ensures unused { StaysSilent N.meaning K.meaning self.old self.new }
         ensures unmarked { StaysUnmarked N.meaning K.meaning self.old self.new }
+        ensures kept { self.new.kept ≡ self.old.kept }
         ensures need { self.new.need ≡ self.old.need }
         ensures held { SameHand (values_of self.old) (values_of self.new) }
     {
@@ -202,6 +209,8 @@ impl<N: Mechanism, K: Mechanism> Negotiate<N, K> {
         // What every answer keeps.
         ensures unused { StaysSilent N.meaning K.meaning self.old self.new }
         ensures unmarked { StaysUnmarked N.meaning K.meaning self.old self.new }
+        ensures kept { self.new.kept ≡ self.old.kept }
+        ensures need { self.new.need ≡ self.old.need }
         ensures other { UnlessMemory (answer_of (answered result)) (refusal.error_type ≢ ErrorKind.InsufficientMemory) }
     {
         if self.falls_back(&refusal) {
@@ -223,6 +232,7 @@ impl<N: Mechanism, K: Mechanism> Negotiate<N, K> {
         // What every answer keeps.
         ensures unused { StaysSilent N.meaning K.meaning self.old self.new }
         ensures unmarked { StaysUnmarked N.meaning K.meaning self.old self.new }
+        ensures kept { self.new.kept ≡ self.old.kept }
         ensures need { self.new.need ≡ self.old.need }
         ensures other { UnlessMemory (answer_of (answered result)) (refusal.error_type ≢ ErrorKind.InsufficientMemory) }
     {
@@ -246,6 +256,7 @@ impl<N: Mechanism, K: Mechanism> Negotiate<N, K> {
         // What every answer keeps.
         ensures unused { StaysSilent N.meaning K.meaning self.old self.new }
         ensures unmarked { StaysUnmarked N.meaning K.meaning self.old self.new }
+        ensures kept { self.new.kept ≡ self.old.kept }
         ensures need { self.new.need ≡ self.old.need }
     {
         match NegotiatedProtocol::new_ntlm(self.alloc, &self.client_computer_name) {
@@ -271,6 +282,7 @@ impl<N: Mechanism, K: Mechanism> Negotiate<N, K> {
         // What every answer keeps.
         ensures unused { StaysSilent N.meaning K.meaning self.old self.new }
         ensures unmarked { StaysUnmarked N.meaning K.meaning self.old self.new }
+        ensures kept { self.new.kept ≡ self.old.kept }
         ensures need { self.new.need ≡ self.old.need }
         ensures held { SameHand (values_of self.old) (values_of self.new) }
     {
@@ -299,6 +311,7 @@ impl<N: Mechanism, K: Mechanism> Negotiate<N, K> {
         // What every answer keeps.
         ensures unused { StaysSilent N.meaning K.meaning self.old self.new }
         ensures unmarked { StaysUnmarked N.meaning K.meaning self.old self.new }
+        ensures kept { self.new.kept ≡ self.old.kept }
         ensures need { self.new.need ≡ self.old.need }
     {
         match self.protocol.resume(reply) {

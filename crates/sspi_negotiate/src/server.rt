@@ -4,7 +4,7 @@ ghost use Rattle.sspi_mech.specs.Calls.{accept_args};
 ghost use Rattle.sspi_mech.specs.Context.{NeitherSealsNorOpens};
 ghost use Rattle.sspi_mech.specs.Answered.{answered};
 ghost use Rattle.sspi_tokens.specs.Reading.{init_of};
-ghost use Rattle.sspi_negotiate.specs.Does.{Does, Stays, StaysPicked, StaysUnmarked, StaysSilent, told};
+ghost use Rattle.sspi_negotiate.specs.Does.{Does, Stays, StaysPicked, StaysConfigured, StaysUnmarked, StaysSilent, told};
 ghost use Rattle.sspi_negotiate.specs.declared.protocol.Protocol.TheVariants as protocols;
 ghost use Rattle.sspi_negotiate.specs.Hand.{hand, hand_of};
 ghost use Rattle.sspi_negotiate.specs.Negotiate.{negotiate};
@@ -102,6 +102,7 @@ impl<N: Mechanism, K: Mechanism> Negotiate<N, K> {
         ensures unused { StaysSilent N.meaning K.meaning self.old self.new }
         ensures first { self.old.state ≡ states.Initial → StaysUnmarked N.meaning K.meaning self.old self.new }
         ensures picked { self.old.state ≢ states.Initial → StaysPicked (values_of self.old) (values_of self.new) }
+        ensures configured { StaysConfigured (values_of self.old) (values_of self.new) }
     {
         match self.role {
             Role::Client => Err(Refusal::out_of_sequence()),
@@ -125,6 +126,7 @@ impl<N: Mechanism, K: Mechanism> Negotiate<N, K> {
         // What every answer keeps.
         ensures unused { StaysSilent N.meaning K.meaning self.old self.new }
         ensures unmarked { StaysUnmarked N.meaning K.meaning self.old self.new }
+        ensures configured { StaysConfigured (values_of self.old) (values_of self.new) }
     {
         let token = NegTokenInit::decode(self.alloc, args.input)?;
         self.read_list(token.mech_types, token.mech_token, args)
@@ -147,6 +149,7 @@ impl<N: Mechanism, K: Mechanism> Negotiate<N, K> {
         // What every answer keeps.
         ensures unused { StaysSilent N.meaning K.meaning self.old self.new }
         ensures unmarked { StaysUnmarked N.meaning K.meaning self.old self.new }
+        ensures configured { StaysConfigured (values_of self.old) (values_of self.new) }
     {
         match list {
             None => Err(invalid_token(Reason::NoMechTypes)),
@@ -175,6 +178,7 @@ impl<N: Mechanism, K: Mechanism> Negotiate<N, K> {
         // What every answer keeps.
         ensures unused { StaysSilent N.meaning K.meaning self.old self.new }
         ensures unmarked { StaysUnmarked N.meaning K.meaning self.old self.new }
+        ensures configured { StaysConfigured (values_of self.old) (values_of self.new) }
     {
         match picked {
             None => Err(invalid_token(Reason::NoSharedMech)),
@@ -200,6 +204,7 @@ impl<N: Mechanism, K: Mechanism> Negotiate<N, K> {
         // What every answer keeps.
         ensures unused { StaysSilent N.meaning K.meaning self.old self.new }
         ensures unmarked { StaysUnmarked N.meaning K.meaning self.old self.new }
+        ensures configured { StaysConfigured (values_of self.old) (values_of self.new) }
     {
         match picked.choice {
             Choice::MsKerberos => self.place(picked, token, args),
@@ -223,6 +228,7 @@ impl<N: Mechanism, K: Mechanism> Negotiate<N, K> {
         // What every answer keeps.
         ensures unused { StaysSilent N.meaning K.meaning self.old self.new }
         ensures unmarked { StaysUnmarked N.meaning K.meaning self.old self.new }
+        ensures configured { StaysConfigured (values_of self.old) (values_of self.new) }
     {
         self.take_ntlm()?;
         self.place(picked, token, args)
@@ -243,6 +249,7 @@ impl<N: Mechanism, K: Mechanism> Negotiate<N, K> {
         // What every answer keeps.
         ensures unused { StaysSilent N.meaning K.meaning self.old self.new }
         ensures unmarked { StaysUnmarked N.meaning K.meaning self.old self.new }
+        ensures configured { StaysConfigured (values_of self.old) (values_of self.new) }
     {
         if picked.index == 0 {
             self.take_first(picked, token, args)
@@ -267,6 +274,7 @@ impl<N: Mechanism, K: Mechanism> Negotiate<N, K> {
         // What every answer keeps.
         ensures unused { StaysSilent N.meaning K.meaning self.old self.new }
         ensures unmarked { StaysUnmarked N.meaning K.meaning self.old self.new }
+        ensures configured { StaysConfigured (values_of self.old) (values_of self.new) }
     {
         let incomplete = NegResult::AcceptIncomplete;
         let token = picked_targ(self.alloc, incomplete, picked.choice, token)?;
@@ -282,6 +290,7 @@ impl<N: Mechanism, K: Mechanism> Negotiate<N, K> {
         // What every answer keeps.
         ensures unused { StaysSilent N.meaning K.meaning self.old self.new }
         ensures unmarked { StaysUnmarked N.meaning K.meaning self.old self.new }
+        ensures configured { StaysConfigured (values_of self.old) (values_of self.new) }
     {
         self.go_on_with(picked, None, true, NegotiateState::InProgress)
     }
@@ -301,6 +310,7 @@ impl<N: Mechanism, K: Mechanism> Negotiate<N, K> {
         // What every answer keeps.
         ensures unused { StaysSilent N.meaning K.meaning self.old self.new }
         ensures unmarked { StaysUnmarked N.meaning K.meaning self.old self.new }
+        ensures configured { StaysConfigured (values_of self.old) (values_of self.new) }
     {
         match token {
             None => self.await_token(picked, args),
@@ -331,6 +341,7 @@ impl<N: Mechanism, K: Mechanism> Negotiate<N, K> {
         // What every answer keeps.
         ensures unused { StaysSilent N.meaning K.meaning self.old self.new }
         ensures unmarked { StaysUnmarked N.meaning K.meaning self.old self.new }
+        ensures configured { StaysConfigured (values_of self.old) (values_of self.new) }
     {
         let need = self.needs_mic(args);
         self.go_on_with(picked, None, need, NegotiateState::InProgress)
@@ -352,6 +363,7 @@ impl<N: Mechanism, K: Mechanism> Negotiate<N, K> {
         // What every answer keeps.
         ensures unused { StaysSilent N.meaning K.meaning self.old self.new }
         ensures unmarked { StaysUnmarked N.meaning K.meaning self.old self.new }
+        ensures configured { StaysConfigured (values_of self.old) (values_of self.new) }
     {
         let step = accept_with(&mut self.protocol, args, &token)?;
         self.decide_need(picked, step, args)
@@ -371,6 +383,7 @@ impl<N: Mechanism, K: Mechanism> Negotiate<N, K> {
         // What every answer keeps.
         ensures unused { StaysSilent N.meaning K.meaning self.old self.new }
         ensures unmarked { StaysUnmarked N.meaning K.meaning self.old self.new }
+        ensures configured { StaysConfigured (values_of self.old) (values_of self.new) }
     {
         let need = self.needs_mic(args);
         self.open_by_need(picked, step, need)
@@ -384,6 +397,7 @@ impl<N: Mechanism, K: Mechanism> Negotiate<N, K> {
         // What every answer keeps.
         ensures unused { StaysSilent N.meaning K.meaning self.old self.new }
         ensures unmarked { StaysUnmarked N.meaning K.meaning self.old self.new }
+        ensures configured { StaysConfigured (values_of self.old) (values_of self.new) }
     {
         if is_over(step.status) {
             if need {
@@ -405,6 +419,7 @@ impl<N: Mechanism, K: Mechanism> Negotiate<N, K> {
         // What every answer keeps.
         ensures unused { StaysSilent N.meaning K.meaning self.old self.new }
         ensures unmarked { StaysUnmarked N.meaning K.meaning self.old self.new }
+        ensures configured { StaysConfigured (values_of self.old) (values_of self.new) }
     {
         self.go_on_with(picked, Some(step.output), need, NegotiateState::InProgress)
     }
@@ -418,6 +433,7 @@ impl<N: Mechanism, K: Mechanism> Negotiate<N, K> {
         // What every answer keeps.
         ensures unused { StaysSilent N.meaning K.meaning self.old self.new }
         ensures unmarked { StaysUnmarked N.meaning K.meaning self.old self.new }
+        ensures configured { StaysConfigured (values_of self.old) (values_of self.new) }
     {
         self.go_on_with(picked, Some(step.output), true, NegotiateState::VerifyMic)
     }
@@ -431,6 +447,7 @@ impl<N: Mechanism, K: Mechanism> Negotiate<N, K> {
         // What every answer keeps.
         ensures unused { StaysSilent N.meaning K.meaning self.old self.new }
         ensures unmarked { StaysUnmarked N.meaning K.meaning self.old self.new }
+        ensures configured { StaysConfigured (values_of self.old) (values_of self.new) }
     {
         let output = Some(step.output);
         let token = picked_targ(self.alloc, NegResult::AcceptComplete, picked.choice, output)?;

@@ -7,13 +7,13 @@ use Rattle.sspi_negotiate.specs.Hand.{hand}
 use Rattle.sspi_mech.specs.Calls.{step_args}
 use Rattle.sspi_negotiate.proofs.negotiate.Negotiate.convert.Goals as goal
 
-pub returns-clause-hand : goal.returns-clause-hand
-returns-clause-hand g c = λ late. held_identified (values_of c.args.self.now) (identity_of c.args.buffers.now)
-    c.in_ok-identity.identity c.in_ok-identity.ensures (c.keep.ensures.hand late)
+pub returns-clause-held : goal.returns-clause-held
+returns-clause-held g c = λ late. held_identified (values_of c.args.self.now) (identity_of c.args.buffers.now)
+    c.in_ok-identity.identity (values_of c.keep.new.self) c.in_ok-identity.ensures (c.keep.ensures.held late)
 
 pub returns-clause-kept : goal.returns-clause-kept
-returns-clause-kept g c = λ late. kept_identified (identity_of c.args.buffers.now) c.in_ok-identity.identity c.in_ok-identity.ensures
-    (c.keep.ensures.kept late)
+returns-clause-kept g c = kept_identified (identity_of c.args.buffers.now) c.in_ok-identity.identity c.in_ok-identity.ensures
+    c.keep.ensures.kept
 
 pub returns-clause-begun : goal.returns-clause-begun
 returns-clause-begun g c = begun_identified (hand g.N.Mechanism.meaning g.K.Mechanism.meaning) c.keep.result (values_of c.args.self.now)

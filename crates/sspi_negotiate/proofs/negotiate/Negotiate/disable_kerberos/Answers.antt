@@ -4,6 +4,12 @@ use Rattle.sspi_mech.specs.Calls.{step_args}
 use Rattle.sspi_negotiate.specs.Holding.{user_of}
 use Rattle.sspi_negotiate.proofs.negotiate.Negotiate.disable_kerberos.Goals as goal
 
+pub returns-clause-held : goal.returns-clause-held
+returns-clause-held g c = rw (← c.self.view_is) c.with_handle.ensures.held
+
+pub returns-clause-first : goal.returns-clause-first
+returns-clause-first g c = rw (← c.self.view_is) c.with_handle.ensures.first
+
 pub returns-clause-kept : goal.returns-clause-kept
 returns-clause-kept g c = rw (← c.self.view_is) c.with_handle.ensures.kept
 

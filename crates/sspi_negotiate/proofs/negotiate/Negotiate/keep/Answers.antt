@@ -6,12 +6,15 @@ use Rattle.sspi_negotiate.specs.Hand.{hand}
 use Rattle.sspi_mech.specs.Calls.{step_args}
 use Rattle.sspi_negotiate.proofs.negotiate.Negotiate.keep.Goals as goal
 
-pub returns-clause-hand : goal.returns-clause-hand
-returns-clause-hand g c = rw (← c.self.view_is) c.rule.ensures.hand
+pub returns-clause-held : goal.returns-clause-held
+returns-clause-held g c = rw (← c.self.view_is) c.rule.ensures.held
+
+pub returns-clause-first : goal.returns-clause-first
+returns-clause-first g c = rw (← c.self.view_is) c.rule.ensures.first
 
 pub returns-clause-kept : goal.returns-clause-kept
-returns-clause-kept g c = rw (← c.self.view_is) (λ late. as_handed c.args.identity.now refl
-    (c.rule.ensures.kept late ∙ ap (λ buffers. Some (AuthIdentity buffers)) c.in_ok-kept.ensures.buffers))
+returns-clause-kept g c = rw (← c.self.view_is) (as_handed c.args.identity.now refl
+    (c.rule.ensures.kept ∙ ap (λ buffers. Some (AuthIdentity buffers)) c.in_ok-kept.ensures.buffers))
 
 pub returns-clause-begun : goal.returns-clause-begun
 returns-clause-begun g c = rw (← c.self.view_is) (begun_kept (hand g.N.Mechanism.meaning g.K.Mechanism.meaning) c.rule.result

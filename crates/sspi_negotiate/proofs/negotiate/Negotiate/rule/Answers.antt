@@ -12,9 +12,10 @@ pub returns-clause-step : goal.returns-clause-step
 returns-clause-step g c = ruled_met {m1 = c.take_by_rule.new.self.mech} (rule_url (values_of c.args.self.now) c.args.name.now) _ _
     (search rules) (search rules)
 
-pub returns-clause-hand : goal.returns-clause-hand
-returns-clause-hand g c = held_ruled (rule_url (values_of c.args.self.now) c.args.name.now) (values_of c.args.self.now)
-    (values_of c.take_by_rule.new.self) c.args.args.now.input.now c.in_ok-take_by_rule.ensures.named c.step_at.ensures.hand
+pub returns-clause-held : goal.returns-clause-held
+returns-clause-held g c = held_ruled (rule_url (values_of c.args.self.now) c.args.name.now) (values_of c.args.self.now)
+    (values_of c.take_by_rule.new.self) c.args.args.now.input.now (values_of c.step_at.new.self) c.in_ok-take_by_rule.ensures.named
+    c.step_at.ensures.held
 
 pub returns-clause-begun : goal.returns-clause-begun
 returns-clause-begun g c = begun_by_rule (hand g.N.Mechanism.meaning g.K.Mechanism.meaning) c.step_at.result

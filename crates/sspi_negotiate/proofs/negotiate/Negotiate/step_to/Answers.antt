@@ -3,8 +3,8 @@ use Rattle.sspi_negotiate.proofs.Beginning.{on_err, begun_by}
 use Rattle.sspi_negotiate.specs.Hand.{hand}
 use Rattle.sspi_negotiate.proofs.negotiate.Negotiate.step_to.Goals as goal
 
-pub returns-else-ip-clause-hand : goal.returns-else-ip-clause-hand
-returns-else-ip-clause-hand g c = λ late. held_by (λ never. absurd never) (λ found h. h) (c.with_handle.ensures.hand late)
+pub returns-else-ip-clause-held : goal.returns-else-ip-clause-held
+returns-else-ip-clause-held g c = λ late. held_by (λ never. absurd never) (λ found h. h) (c.with_handle.ensures.held late)
 
 pub returns-else-ip-clause-begun : goal.returns-else-ip-clause-begun
 returns-else-ip-clause-begun g c = λ first. on_err c.with_handle.result

@@ -8,13 +8,13 @@ use Rattle.sspi_names.specs.Identity.{identity_of}
 use Rattle.sspi_negotiate.specs.Holding.{user_of, user_url}
 use Rattle.sspi_negotiate.proofs.negotiate.Negotiate.with_handle.Goals as goal
 
-pub returns-in-Some-AuthIdentity-clause-hand : goal.returns-in-Some-AuthIdentity-clause-hand
-returns-in-Some-AuthIdentity-clause-hand g c = λ late. held_handed (values_of c.args.self.now)
-    (option_copied c.args.args.now.credentials_handle) _ (search rules) (c.convert.ensures.hand late)
+pub returns-in-Some-AuthIdentity-clause-held : goal.returns-in-Some-AuthIdentity-clause-held
+returns-in-Some-AuthIdentity-clause-held g c = λ late. held_handed (values_of c.args.self.now)
+    (option_copied c.args.args.now.credentials_handle) _ (values_of c.convert.new.self) (search rules) (c.convert.ensures.held late)
 
 pub returns-in-Some-AuthIdentity-clause-kept : goal.returns-in-Some-AuthIdentity-clause-kept
-returns-in-Some-AuthIdentity-clause-kept g c = λ late. kept_handed (option_copied c.args.args.now.credentials_handle) _ (search rules)
-    (c.convert.ensures.kept late)
+returns-in-Some-AuthIdentity-clause-kept g c = kept_handed (option_copied c.args.args.now.credentials_handle) _ (search rules)
+    c.convert.ensures.kept
 
 pub returns-in-Some-AuthIdentity-clause-begun : goal.returns-in-Some-AuthIdentity-clause-begun
 returns-in-Some-AuthIdentity-clause-begun g c = begun_identified (hand g.N.Mechanism.meaning g.K.Mechanism.meaning) c.convert.result
