@@ -28,3 +28,4 @@ pub mod ShownServer
 pub mod Slash
 pub mod Tidy
 pub mod Tokens
+pub mod Usable

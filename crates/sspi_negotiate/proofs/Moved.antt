@@ -18,6 +18,7 @@ use Rattle.sspi_negotiate.specs.Choices.{chosen_at, excuses_guest}
 use Rattle.sspi_negotiate.specs.Client.{spnego_client, spnego_resumed}
 use Rattle.sspi_negotiate.specs.Does.{Does, Stays, StaysNeeded, StaysPicked, StaysConfigured, StaysResumed, StaysUnmarked}
 use Rattle.sspi_negotiate.specs.Does.{StaysSilent, WaitsOn, told}
+use Rattle.sspi_negotiate.specs.Exact.{TellsKind, client_refusal, server_refusal, resumed_refusal}
 use Rattle.sspi_negotiate.specs.Hand.{asks_left, hand}
 use Rattle.sspi_negotiate.specs.Holding.{MayHave, MayKeep, StaysFirst, user_of, user_url}
 use Rattle.sspi_negotiate.specs.Keeps.{is_answering, is_opening}
@@ -53,9 +54,16 @@ module _ {N K : Type 0} (n : Meaning Setting N) (k : Meaning Setting K) (s : Neg
       Does n k (spnego_server (values_of s) args) s (told result) s2 → OnErr result (Stays (values_of s) (values_of s2)) →
       OnErr result (s2.need ≡ s.need) → StaysSilent n k s s2 → (s.state ≡ states.Initial → StaysUnmarked n k s s2) →
       (s.state ≢ states.Initial → StaysPicked (values_of s) (values_of s2)) → StaysConfigured (values_of s) (values_of s2) →
-      ServerMoves n k s args result s2
-  accept_moves args result s2 follows stays need unused unmarked picked configured = record {
-    moves = record { follows = follows; stays = told_stays _ result stays; unused = unused; unmarked = unmarked; protected = need };
+      TellsKind (server_refusal s.role s.state args.input) (told result) → ServerMoves n k s args result s2
+  accept_moves args result s2 follows stays need unused unmarked picked configured exact = record {
+    moves = record {
+      follows = follows;
+      stays = told_stays _ result stays;
+      unused = unused;
+      unmarked = unmarked;
+      protected = need;
+      exact = exact;
+    };
     picked = picked;
     configured = configured;
   }
@@ -65,14 +73,15 @@ module _ {N K : Type 0} (n : Meaning Setting N) (k : Meaning Setting K) (s : Neg
       OnErr result (Stays (values_of s) (values_of s2)) → StaysSilent n k s s2 →
       (s.state ≡ states.Initial → StaysFirst n k args s s2) →
       (s.state ≢ states.Initial →
-      StaysNeeded (excuses_guest (chosen_at s.state args.input) (values_of s) args) (values_of s) (values_of s2)) →
-      (s.state ≢ states.Initial → MayHave (ip && s.packages.ntlm ≡ true) (user_url (values_of s) (user_of args.handle))
+      StaysNeeded (excuses_guest (chosen_at s.state args.input) (values_of s) args) (values_of s) (values_of s2)
+      × MayHave (ip && s.packages.ntlm ≡ true) (user_url (values_of s) (user_of args.handle))
       (chosen_at s.state args.input) (values_of s) (values_of s2)) → MayKeep (user_of args.handle) s.kept s2.kept →
       (s.state ≡ states.Initial → OnErr result (MayBegin (hand n k) (ip && s.packages.ntlm ≡ true)
-      (user_url (values_of s) (user_of args.handle)) args s s2)) → ClientMoves n k s args (answer_of result) s2
-  client_moves args result s2 ip is follows stays unused opened need held kept begun = record {
+      (user_url (values_of s) (user_of args.handle)) args s s2)) →
+      TellsKind (client_refusal s.role s.state s.branch) (answer_of result) → ClientMoves n k s args (answer_of result) s2
+  client_moves args result s2 ip is follows stays unused opened later kept begun exact = record {
     begun = λ first. answered_stays _ result (on_err result (begun_by (hand n k) (addressed ip is s.packages.ntlm)) (begun first));
-    held = λ late. held_by (addressed ip is s.packages.ntlm) (λ found h. h) (held late);
+    held = λ late. held_by (addressed ip is s.packages.ntlm) (λ found h. h) (later late).1;
     kept = kept;
     asked = λ first. (opened first).1;
     ip = ip;
@@ -82,23 +91,25 @@ module _ {N K : Type 0} (n : Meaning Setting N) (k : Meaning Setting K) (s : Neg
       stays = answered_stays _ result stays;
       unused = unused;
       unmarked = λ first. (opened first).0;
-      protected = need;
+      protected = λ late. (later late).0;
+      exact = exact;
     };
   }
 
   pub resume_moves : (reply : Reply) (result : Result Progressing Error) (s2 : Negotiation (NegotiatedProtocol N K)) →
       Does n k (spnego_resumed (values_of s) reply) s (answer_of result) s2 → OnErr result (WaitsOn s (record s { branch = Idle }) s2) →
-      StaysSilent n k s s2 → (is_answering s.branch ≡ false → StaysUnmarked n k s s2) → s2.need ≡ s.need → s2.kept ≡ s.kept →
-      (is_opening s.branch ≡ false → StaysPicked (values_of s) (values_of s2)) →
+      StaysSilent n k s s2 → (is_answering s.branch ≡ false → StaysUnmarked n k s s2) → StaysResumed (values_of s) (values_of s2) →
       (is_opening s.branch ≡ true → OnErr result (FallsBy (FallsResumed (hand n k) s.mech reply) (values_of s) (values_of s2))) →
+      TellsKind (resumed_refusal s.branch) (answer_of result) →
       Moves n k (is_answering s.branch ≡ false) (ResumeStays n k s reply s2) (StaysResumed (values_of s) (values_of s2))
-      (spnego_resumed (values_of s) reply) s (answer_of result) s2
-  resume_moves reply result s2 follows stays unused unmarked need kept picked begun = record {
+      (resumed_refusal s.branch) (spnego_resumed (values_of s) reply) s (answer_of result) s2
+  resume_moves reply result s2 follows stays unused unmarked resumed begun exact = record {
     follows = follows;
     stays = answered_stays _ result (resume_stays result (λ waits begun. record { waits = waits; begun = begun }) stays begun);
     unused = unused;
     unmarked = unmarked;
-    protected = record { need = need; kept = kept; picked = picked };
+    protected = resumed;
+    exact = exact;
   }
 
 -- a further question to a KDC is one fewer to come

@@ -1,5 +1,5 @@
 -- Parts of a step, each with what comes after it.
-use Rattle.std.proofs.Common.{◌≡◌, ◌≢◌, ◌==◌, ℕ, length, cond, false, List, Option, None, Some}
+use Rattle.std.proofs.Common.{◌≡◌, ◌≢◌, ◌==◌, ℕ, length, cond, true, false, List, Option, None, Some}
 use Rattle.std.proofs.Common.{Result, Ok, Err, OnOk, OnErr, IfErr, refl, sym, ◌∙◌, subst, inl, inr}
 use Rattle.sspi_types.specs.declared.error.Error.{Error}
 use Rattle.sspi_types.specs.declared.error_kind.ErrorKind.TheVariants.{InsufficientMemory, NoCredentials}
@@ -63,6 +63,16 @@ module _ {N K : Type 0} {n : Meaning Setting N} {k : Meaning Setting K} where
       subst (λ xs. Passes n k (λ rest. identifies_among xs v rest) v old result new) same
       (subst (λ b. Passes n k (λ rest. cond b (Stops v NoCredentials) (Identifies given v rest)) v old result new) (sym some) h)
 
+  pub among_none : {T : Type 0} {s : Negotiation (NegotiatedProtocol N K)} {error : Error} (found : List Credentials) →
+      (length found == 0) ≡ true → (error.error_type ≢ InsufficientMemory → error.error_type ≡ NoCredentials) →
+      Passes {T = T} n k (λ rest. identifies_among found (values_of s) rest) (values_of s) s (Err error) s
+  among_none {T = T} {s = s} {error = error} found none is =
+      record {
+        onward = λ rest. subst
+            (λ b. Meets (hand n k) (cond b (Stops (values_of s) NoCredentials) (Identifies found (values_of s) rest)) s.mech (Refused error)
+            (values_of s) s.mech) (sym none) (record { as_planned = λ other. (is other, refl, refl); reached = inl refl });
+      }
+
   pub identified_part : (found : List Credentials) (old new : Negotiation (NegotiatedProtocol N K)) (result : Result (Unit {0}) Error) →
       values_of new ≡ values_of old → OnOk result ((hand n k).identifies old.mech found new.mech) → OnErr result (new.mech ≡ old.mech) →
       IfErr result (λ error. error.error_type ≢ InsufficientMemory → (hand n k).refuses old.mech (ToIdentify found) error.error_type) →
@@ -85,7 +95,8 @@ module _ {N K : Type 0} {n : Meaning Setting N} {k : Meaning Setting K} where
       OnOk result ((hand n k).verifies new.mech ((hand n k).counts old.mech).verifications mic text) →
       OnOk result (new.mech ≡ (hand n k).counted old.mech (one_verification ((hand n k).counts old.mech))) →
       OnOk result ((hand n k).permits old.mech (ToVerify mic text)) → OnErr result (new.mech ≡ old.mech) →
-      IfErr result (λ error. (hand n k).refuses old.mech (ToVerify mic text) error.error_type) →
+      IfErr result (λ error. error.error_type ≢ InsufficientMemory →
+      (hand n k).refuses old.mech (ToVerify mic text) error.error_type) →
       Passes n k (Verifies mic text (values_of old)) (values_of old) old result new
   verified_part mic text old new (Ok u) same h counted permitted still cause =
       record {
@@ -98,7 +109,7 @@ module _ {N K : Type 0} {n : Meaning Setting N} {k : Meaning Setting K} where
         );
       }
   verified_part mic text old new (Err error) same h counted permitted still cause =
-      record { onward = λ rest. record { as_planned = λ other. refused error (cause, still) refl same; reached = inl still } }
+      record { onward = λ rest. record { as_planned = λ other. refused error (cause other, still) refl same; reached = inl still } }
 
   pub named_part : {T : Type 0} {v : Values} {part : Name → Plan → Plan} {old new : Negotiation (NegotiatedProtocol N K)}
       (result : Result T Error) (name : Name) →

@@ -13,6 +13,7 @@ use Rattle.sspi_tokens.specs.Answers.{ReadsAs}
 use Rattle.sspi_negotiate.specs.declared.protocol.NegotiatedProtocol.{NegotiatedProtocol}
 use Rattle.sspi_negotiate.specs.Does.{Meets}
 use Rattle.sspi_negotiate.specs.Passes.{Passes}
+use Rattle.sspi_negotiate.specs.Exact.{TellsKind, unread_refusal}
 use Rattle.sspi_negotiate.specs.Fallback.{is_fallback}
 use Rattle.sspi_negotiate.specs.Hand.{Origin}
 use Rattle.sspi_negotiate.specs.Plan.{Plan, Stops}
@@ -44,6 +45,16 @@ module _ {M : Type 0} {c : Meaning Origin M} {m : M} where
       Meets c (plan (Some x)) m r v2 m2 → Meets c (plan o) m r v2 m2
   spelled None plan x h after = absurd h
   spelled {r = r} {v2 = v2} {m2 = m2} (Some y) plan x h after = subst (λ z. Meets c (plan (Some z)) m r v2 m2) h after
+
+-- where there is no token, that is told
+pub unread_told : {T : Type 0} (o : Option T) (error : Error) → ReadsAs o (Err error) →
+    TellsKind (unread_refusal o) (Refused (error_of (refusal_of error)))
+unread_told None error h = ap (λ e. e.error_type) h
+unread_told (Some token) error h = tt
+
+pub read_told : {T : Type 0} (o : Option T) (token : T) (r : Answer) → ReadsAs o (Ok token) → TellsKind (unread_refusal o) r
+read_told None token r h = absurd h
+read_told (Some other) token r h = tt
 
 module _ {N K : Type 0} {n : Meaning Setting N} {k : Meaning Setting K} where
   pub spelled_part : {T : Type 0} {v : Values} {result : Result T Error} {old new : Negotiation (NegotiatedProtocol N K)}

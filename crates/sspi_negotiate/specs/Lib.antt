@@ -3,6 +3,7 @@ pub mod Beginning
 pub mod Choices
 pub mod Client
 pub mod Does
+pub mod Exact
 pub mod Fallback
 pub mod Follows
 pub mod Hand

@@ -1,5 +1,5 @@
 -- What a negotiation means as a security context.
-use Rattle.std.specs.Prelude.{◌≡◌, ◌≢◌, ◌↔◌, ℕ, Bool, false, true, Result, IsTrue, OnErr}
+use Rattle.std.specs.Prelude.{◌≡◌, ◌≢◌, ◌↔◌, ℕ, Option, Bool, false, true, Result, IsTrue, OnErr}
 use Rattle.sspi_types.specs.declared.error.Error.{Error}
 use Rattle.sspi_types.specs.declared.error_kind.ErrorKind.{ErrorKind}
 use Rattle.sspi_types.specs.Packages.{negotiate_entry}
@@ -19,6 +19,7 @@ use Rattle.sspi_negotiate.specs.Choices.{chosen_at, excuses_guest}
 use Rattle.sspi_negotiate.specs.Client.{spnego_client, spnego_resumed}
 use Rattle.sspi_negotiate.specs.Does.{Does, Stays, StaysNeeded, StaysPicked, StaysConfigured, StaysResumed, StaysUnmarked}
 use Rattle.sspi_negotiate.specs.Does.{StaysSilent, WaitsOn, told}
+use Rattle.sspi_negotiate.specs.Exact.{TellsKind, client_refusal, server_refusal, resumed_refusal}
 use Rattle.sspi_negotiate.specs.Hand.{hand, asks_left}
 use Rattle.sspi_negotiate.specs.Holding.{StaysHeld, MayKeep, MayNeed, user_of, user_url}
 use Rattle.sspi_negotiate.specs.Keeps.{is_answering, is_opening}
@@ -29,15 +30,16 @@ use Rattle.sspi_negotiate.specs.Target.{IsNamedByIp}
 use Rattle.sspi_negotiate.specs.Values.{Negotiation, values_of, is_waiting}
 
 -- A step by a plan; before there is a list to protect it makes and verifies no MIC. Kept says what a refused one leaves, and
--- Protected what stays of the need of MICs. Of a step that want of memory breaks off the plan says what is left in hand (`Meets`),
+-- Protected what stays of the need of MICs; a refusal that asks no memory is told with its kind (`Exact`). Of a step that want of memory breaks off the plan says what is left in hand (`Meets`),
 -- and the others hold of it too.
-pub record Moves {N K : Type 0} (n : Meaning Setting N) (k : Meaning Setting K) (IsFirstStep Kept Protected : Type 0) (p : Plan)
-    (s : Negotiation (NegotiatedProtocol N K)) (r : Answer) (s2 : Negotiation (NegotiatedProtocol N K)) : Type 0 where
+pub record Moves {N K : Type 0} (n : Meaning Setting N) (k : Meaning Setting K) (IsFirstStep Kept Protected : Type 0)
+    (refusal : Option ErrorKind) (p : Plan) (s : Negotiation (NegotiatedProtocol N K)) (r : Answer) (s2 : Negotiation (NegotiatedProtocol N K)) : Type 0 where
   pub follows : Does n k p s r s2
   pub stays : OnRefused r Kept
   pub unused : StaysSilent n k s s2
   pub unmarked : IsFirstStep → StaysUnmarked n k s s2
   pub protected : Protected
+  pub exact : TellsKind refusal r
 
 -- what a refused resume leaves; of a first step, NTLM takes the place of Kerberos only where that refuses the step so
 pub record ResumeStays {N K : Type 0} (n : Meaning Setting N) (k : Meaning Setting K) (s : Negotiation (NegotiatedProtocol N K))
@@ -55,7 +57,7 @@ pub record ClientMoves {N K : Type 0} (n : Meaning Setting N) (k : Meaning Setti
   pub ip_is : IsTrue ip ↔ IsNamedByIp args.target
   pub moves : Moves n k (s.state ≡ Initial) (Stays (values_of s) (values_of s2))
       (s.state ≢ Initial → StaysNeeded (excuses_guest (chosen_at s.state args.input) (values_of s) args) (values_of s) (values_of s2))
-      (spnego_client ip (values_of s) args) s r s2
+      (client_refusal s.role s.state s.branch) (spnego_client ip (values_of s) args) s r s2
   pub held : s.state ≢ Initial → StaysHeld (values_of s) args (values_of s2)
   pub kept : MayKeep (user_of args.handle) s.kept s2.kept
   pub asked : s.state ≡ Initial → MayNeed args.requirements s.need s2.need
@@ -67,7 +69,7 @@ pub record ClientMoves {N K : Type 0} (n : Meaning Setting N) (k : Meaning Setti
 pub record ServerMoves {N K : Type 0} (n : Meaning Setting N) (k : Meaning Setting K) (s : Negotiation (NegotiatedProtocol N K))
     (args : AcceptArgs) (result : Result Step Error) (s2 : Negotiation (NegotiatedProtocol N K)) : Type 0 where
   pub moves : Moves n k (s.state ≡ Initial) (Stays (values_of s) (values_of s2)) (OnErr result (s2.need ≡ s.need))
-      (spnego_server (values_of s) args) s (told result) s2
+      (server_refusal s.role s.state args.input) (spnego_server (values_of s) args) s (told result) s2
   pub picked : s.state ≢ Initial → StaysPicked (values_of s) (values_of s2)
   pub configured : StaysConfigured (values_of s) (values_of s2)
 
@@ -86,7 +88,7 @@ module _ {N K : Type 0} (requests : ℕ) (n : Meaning Setting N) (k : Meaning Se
     steps = ClientMoves n k;
     resumes = λ s reply r s2.
         Moves n k (is_answering s.branch ≡ false) (ResumeStays n k s reply s2) (StaysResumed (values_of s) (values_of s2))
-        (spnego_resumed (values_of s) reply) s r s2;
+        (resumed_refusal s.branch) (spnego_resumed (values_of s) reply) s r s2;
     accepts = ServerMoves n k;
     identifies = λ s identities s2. (hand n k).identifies s.mech identities s2.mech × (s2 ≡ record s { mech = s2.mech });
     names = λ s. (hand n k).names s.mech;

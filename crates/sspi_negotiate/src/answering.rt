@@ -5,6 +5,7 @@ ghost use Rattle.sspi_mech.specs.Calls.{step_args};
 ghost use Rattle.sspi_mech.specs.Context.{NeitherSealsNorOpens};
 ghost use Rattle.sspi_mech.specs.Answered.{answered};
 ghost use Rattle.sspi_tokens.specs.Oids.{kind_of};
+ghost use Rattle.sspi_tokens.specs.declared.oid.MechKind.TheVariants as kinds;
 ghost use Rattle.sspi_tokens.specs.Reading.{targ_of};
 ghost use Rattle.sspi_negotiate.specs.declared.branch.Branch.TheVariants as branches;
 ghost use Rattle.sspi_negotiate.specs.declared.protocol.Protocol.TheVariants as protocols;
@@ -15,13 +16,14 @@ ghost use Rattle.sspi_negotiate.specs.Choices.{protocol_of, chosen_in, excuses_g
 ghost use Rattle.sspi_negotiate.specs.Client.{at_progress, chosen, chooses_kerberos, chooses_ntlm, in_kerberos, answers, without_ntlm};
 ghost use Rattle.sspi_negotiate.specs.Client.{stepped, settles, verified, at_verify_mic, confirmed};
 ghost use Rattle.sspi_negotiate.specs.Client.{last_mic, handle_for, resumes_answering, spnego_resumed};
-ghost use Rattle.sspi_negotiate.specs.Does.{Does, Stays, StaysNeeded, StaysPicked, StaysUnmarked, StaysSilent, WaitsOn, told};
+ghost use Rattle.sspi_negotiate.specs.Does.{Does, Stays, StaysNeeded, StaysPicked, StaysResumed, StaysUnmarked, StaysSilent, WaitsOn, told};
+ghost use Rattle.sspi_negotiate.specs.Exact.{TellsKind, kind_if, unread_refusal, choice_refusal, resumed_refusal};
 ghost use Rattle.sspi_negotiate.specs.Hand.{hand, hand_of};
 ghost use Rattle.sspi_negotiate.specs.Holding.{MayHave};
 ghost use Rattle.sspi_negotiate.specs.Keeps.{is_answering, is_opening};
 ghost use Rattle.sspi_negotiate.specs.Negotiate.{negotiate};
 ghost use Rattle.sspi_negotiate.specs.Plan.{Goes};
-ghost use Rattle.sspi_negotiate.specs.Rows.{or_empty, in_ntlm, verifies};
+ghost use Rattle.sspi_negotiate.specs.Rows.{or_empty, in_ntlm, is_complete, verifies};
 ghost use Rattle.sspi_negotiate.specs.Values.{values_of};
 
 use crate::branch::Branch;
@@ -33,7 +35,7 @@ use crate::rows::{is_complete, is_guest, is_ok};
 use sspi_mech::{Answer, InitializeSecurityContext, Mechanism, Progressing, Refusal, Reply, Step};
 use sspi_names::CredentialsBuffers;
 use sspi_tokens::{MechKind, NegTokenTarg};
-use sspi_types::{Bytes, Error, Reason, SecurityStatus};
+use sspi_types::{Bytes, Error, ErrorKind, Reason, SecurityStatus};
 use std::mem;
 
 /// Which mechanism a server's token chooses.
@@ -86,6 +88,7 @@ impl<N: Mechanism, K: Mechanism> Negotiate<N, K> {
         ensures step { Does N.meaning K.meaning (at_progress (targ_of args.now.input.now) (values_of self.old) (step_args args.now))
             self.old (answer_of (answered result)) self.new }
         ensures stays { OnErr result (Stays (values_of self.old) (values_of self.new)) }
+        ensures exact { TellsKind (unread_refusal (targ_of args.now.input.now)) (answer_of (answered result)) }
         ensures unused { StaysSilent N.meaning K.meaning self.old self.new }
         ensures need { let v = values_of self.old in
             StaysNeeded (excuses_guest (chosen_in args.now.input.now) v (step_args args.now)) v (values_of self.new) }
@@ -105,6 +108,7 @@ impl<N: Mechanism, K: Mechanism> Negotiate<N, K> {
             (chosen (option_map kind_of token.supported_mech) token (values_of self.old) (step_args args.now))
             self.old (answer_of (answered result)) self.new }
         ensures stays { OnErr result (Stays (values_of self.old) (values_of self.new)) }
+        ensures exact { TellsKind (choice_refusal (option_map kind_of token.supported_mech) self.old.packages) (answer_of (answered result)) }
         ensures unused { StaysSilent N.meaning K.meaning self.old self.new }
         ensures need { let v = values_of self.old in StaysNeeded
             (excuses_guest (option_and_then protocol_of (option_map kind_of token.supported_mech)) v (step_args args.now))
@@ -131,6 +135,7 @@ impl<N: Mechanism, K: Mechanism> Negotiate<N, K> {
         ensures step { Does N.meaning K.meaning (chooses_kerberos token (values_of self.old) (step_args args.now))
             self.old (answer_of (answered result)) self.new }
         ensures stays { OnErr result (Stays (values_of self.old) (values_of self.new)) }
+        ensures exact { TellsKind (choice_refusal (Some kinds.Kerberos) self.old.packages) (answer_of (answered result)) }
         ensures unused { StaysSilent N.meaning K.meaning self.old self.new }
         ensures need { StaysNeeded false (values_of self.old) (values_of self.new) }
         ensures held { MayHave ⊥ None (Some protocols.Kerberos) (values_of self.old) (values_of self.new) }
@@ -213,6 +218,7 @@ impl<N: Mechanism, K: Mechanism> Negotiate<N, K> {
         ensures step { Does N.meaning K.meaning (chooses_ntlm token (values_of self.old) (step_args args.now))
             self.old (answer_of (answered result)) self.new }
         ensures stays { OnErr result (Stays (values_of self.old) (values_of self.new)) }
+        ensures exact { TellsKind (choice_refusal (Some kinds.Ntlm) self.old.packages) (answer_of (answered result)) }
         ensures unused { StaysSilent N.meaning K.meaning self.old self.new }
         ensures need { let v = values_of self.old in
             StaysNeeded (excuses_guest (Some protocols.Ntlm) v (step_args args.now)) v (values_of self.new) }
@@ -371,6 +377,7 @@ impl<N: Mechanism, K: Mechanism> Negotiate<N, K> {
         ensures step { Does N.meaning K.meaning (at_verify_mic (targ_of args.now.input.now) (values_of self.old))
             self.old (answer_of (answered result)) self.new }
         ensures stays { OnErr result (Stays (values_of self.old) (values_of self.new)) }
+        ensures exact { TellsKind (unread_refusal (targ_of args.now.input.now)) (answer_of (answered result)) }
         ensures unused { StaysSilent N.meaning K.meaning self.old self.new }
         ensures need { self.new.need ≡ self.old.need }
         ensures picked { StaysPicked (values_of self.old) (values_of self.new) }
@@ -382,6 +389,7 @@ impl<N: Mechanism, K: Mechanism> Negotiate<N, K> {
     fn confirm_by(&mut self, token: NegTokenTarg) -> Result<Step, Refusal>
         ensures step { Does N.meaning K.meaning (confirmed token (values_of self.old)) self.old (told (answered result)) self.new }
         ensures stays { OnErr result (Stays (values_of self.old) (values_of self.new)) }
+        ensures exact { TellsKind (kind_if (not (is_complete token.neg_result)) ErrorKind.InvalidToken) (told (answered result)) }
         ensures unused { StaysSilent N.meaning K.meaning self.old self.new }
         ensures need { self.new.need ≡ self.old.need }
         ensures picked { StaysPicked (values_of self.old) (values_of self.new) }
@@ -443,12 +451,11 @@ impl<N: Mechanism, K: Mechanism> Negotiate<N, K> {
         ensures held { is_opening self.old.branch ≡ true →
             OnErr result (FallsBy (FallsResumed (hand N.meaning K.meaning) self.old.mech reply.now)
             (values_of self.old) (values_of self.new)) }
+        ensures exact { TellsKind (resumed_refusal self.old.branch) (answer_of (answered result)) }
         // What every answer keeps.
         ensures unused { StaysSilent N.meaning K.meaning self.old self.new }
         ensures first { is_answering self.old.branch ≡ false → StaysUnmarked N.meaning K.meaning self.old self.new }
-        ensures need { self.new.need ≡ self.old.need }
-        ensures kept { self.new.kept ≡ self.old.kept }
-        ensures picked { is_opening self.old.branch ≡ false → StaysPicked (values_of self.old) (values_of self.new) }
+        ensures resumed { StaysResumed (values_of self.old) (values_of self.new) }
     {
         match mem::replace(&mut self.branch, Branch::Idle) {
             Branch::Idle => Err(Refusal::out_of_sequence()),

@@ -10,6 +10,7 @@ ghost use Rattle.sspi_negotiate.specs.Beginning.{FallsBy, Falls, MayBegin, OnlyN
 ghost use Rattle.sspi_negotiate.specs.Choices.{chosen_at, excuses_guest};
 ghost use Rattle.sspi_negotiate.specs.Client.{is_closed, spnego_client, by_target, with_handle, keeps, ruled, client_at};
 ghost use Rattle.sspi_negotiate.specs.Does.{Does, Stays, StaysNeeded, StaysSilent};
+ghost use Rattle.sspi_negotiate.specs.Exact.{TellsKind, client_refusal};
 ghost use Rattle.sspi_negotiate.specs.Hand.{hand, hand_of};
 ghost use Rattle.sspi_negotiate.specs.Holding.{MayHave, MayKeep, StaysFirst, user_of, user_url};
 ghost use Rattle.sspi_negotiate.specs.Negotiate.{negotiate};
@@ -73,14 +74,14 @@ impl<N: Mechanism, K: Mechanism> Negotiate<N, K> {
         ensures begun { self.old.state ≡ states.Initial → OnErr result (MayBegin (hand N.meaning K.meaning)
             (ip && self.old.packages.ntlm ≡ true) (user_url (values_of self.old) (user_of (step_args args.now).handle))
             (step_args args.now) self.old self.new) }
+        ensures exact { TellsKind (client_refusal self.old.role self.old.state self.old.branch) (answer_of (answered result)) }
         // What every answer keeps.
         ensures unused { StaysSilent N.meaning K.meaning self.old self.new }
         ensures first { self.old.state ≡ states.Initial →
             StaysFirst N.meaning K.meaning (step_args args.now) self.old self.new }
-        ensures need { let v = values_of self.old in self.old.state ≢ states.Initial →
-            StaysNeeded (excuses_guest (chosen_at self.old.state args.now.input.now) v (step_args args.now)) v (values_of self.new) }
-        ensures held { let v = values_of self.old in self.old.state ≢ states.Initial →
-            MayHave (ip && v.packages.ntlm ≡ true) (user_url v (user_of (step_args args.now).handle))
+        ensures later { let v = values_of self.old in self.old.state ≢ states.Initial →
+            StaysNeeded (excuses_guest (chosen_at self.old.state args.now.input.now) v (step_args args.now)) v (values_of self.new)
+            × MayHave (ip && v.packages.ntlm ≡ true) (user_url v (user_of (step_args args.now).handle))
             (chosen_at v.state args.now.input.now) v (values_of self.new) }
         ensures kept { MayKeep (user_of (step_args args.now).handle) self.old.kept self.new.kept }
     {

@@ -1,9 +1,19 @@
 ghost use Rattle.std.specs.Prelude.{◌≡◌, IfOk, map};
+ghost use Rattle.std.specs.List.{list_any};
 ghost use Rattle.sspi_names.specs.declared.credentials.Credentials.TheVariants as credentials;
-ghost use Rattle.sspi_negotiate.specs.Known.{named};
+ghost use Rattle.sspi_negotiate.specs.Known.{is_named, named};
 
 use sspi_names::{AuthIdentity, Credentials, Username};
 use std::alloc::{AllocError, Global};
+
+/// Whether one of the identities has this name, but for the case of ASCII letters.
+pub(crate) fn is_known(name: &Username, known: &[AuthIdentity]) -> bool
+    ensures { result ≡ list_any (is_named name.now) known.now }
+{
+    known
+        .iter()
+        .any(|entry| entry.username.eq_ignore_ascii_case(name))
+}
 
 /// Copies of the identities whose name this is, but for the case of ASCII letters.
 fn copy_named(

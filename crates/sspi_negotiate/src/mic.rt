@@ -1,6 +1,7 @@
 // The MICs over the mechanism list (RFC 4178, section 5).
-ghost use Rattle.std.specs.Prelude.{◌≡◌, ◌≢◌, None, Some, IfOk, IfErr, OnOk, OnErr, map};
-ghost use Rattle.sspi_mech.specs.Calls.{one_signing, ToSign};
+ghost use Rattle.std.specs.Prelude.{◌≡◌, ◌≢◌, false, None, Some, IfOk, IfErr, OnOk, OnErr, map};
+ghost use Rattle.std.specs.List.{list_any};
+ghost use Rattle.sspi_mech.specs.Calls.{one_signing, one_verification, ToSign, ToVerify};
 ghost use Rattle.sspi_mech.specs.Answered.{answered};
 ghost use Rattle.sspi_negotiate.specs.Hand.{hand, hand_of};
 ghost use Rattle.sspi_names.specs.declared.credentials.Credentials.TheVariants as credentials;
@@ -8,11 +9,11 @@ ghost use Rattle.sspi_negotiate.specs.Does.{Does, Stays, StaysPicked, StaysSilen
 ghost use Rattle.sspi_negotiate.specs.Passes.{Passes};
 ghost use Rattle.sspi_negotiate.specs.Rows.{identifies_among, identifies, verifies, checks};
 ghost use Rattle.sspi_negotiate.specs.Rows.{writes, targ, if_some, answers_signed, completes_signed, hands_mic};
-ghost use Rattle.sspi_negotiate.specs.Known.{named};
+ghost use Rattle.sspi_negotiate.specs.Known.{is_named, named};
 ghost use Rattle.sspi_negotiate.specs.Plan.{Identifies, Verifies, Signs};
 ghost use Rattle.sspi_negotiate.specs.Values.{values_of};
 
-use crate::known::named;
+use crate::known::{is_known, named};
 use crate::negotiate::Negotiate;
 use crate::protocol::NegotiatedProtocol;
 use crate::rows::if_some;
@@ -42,6 +43,28 @@ fn sign_with<N: Mechanism, K: Mechanism>(
 {
     let mic = protocol.generate_mic_token(text.as_slice())?;
     Ok(Bytes::from_vec(mic))
+}
+
+/// A refusal has the kind of the mechanism's, and is never want of memory in its place.
+fn verify_with<N: Mechanism, K: Mechanism>(
+    protocol: &mut NegotiatedProtocol<N, K>,
+    mic: &Bytes,
+    text: &Bytes,
+) -> Result<(), Refusal>
+    // What `Ok` holds, and that the mechanism is the same.
+    ensures mic { let c = hand N.meaning K.meaning in
+        OnOk result (c.verifies protocol.new (c.counts protocol.old).verifications mic.now text.now) }
+    ensures ok { let c = hand N.meaning K.meaning in
+        OnOk result (protocol.new ≡ c.counted protocol.old (one_verification (c.counts protocol.old))) }
+    ensures count { let c = hand N.meaning K.meaning in OnOk result (c.counts protocol.new ≡ one_verification (c.counts protocol.old)) }
+    ensures named { hand_of protocol.new ≡ hand_of protocol.old }
+    ensures permitted { OnOk result ((hand N.meaning K.meaning).permits protocol.old (ToVerify mic.now text.now)) }
+    // What a refusal says, and what it leaves.
+    ensures err { OnErr result (protocol.new ≡ protocol.old) }
+    ensures exact { IfErr result (λ error.
+        (hand N.meaning K.meaning).refuses protocol.old (ToVerify mic.now text.now) error.error_type) }
+{
+    Ok(protocol.verify_mic_token(mic.as_slice(), text.as_slice())?)
 }
 
 impl<N: Mechanism, K: Mechanism> Negotiate<N, K> {
@@ -79,17 +102,19 @@ impl<N: Mechanism, K: Mechanism> Negotiate<N, K> {
         ensures step { Passes N.meaning K.meaning
             (λ rest. identifies_among (map credentials.AuthIdentity (named name.now self.old.known)) (values_of self.old) rest)
             (values_of self.old) self.old (answered result) self.new }
+        ensures exact { list_any (is_named name.now) self.old.known ≡ false →
+            IfErr result (λ error. error.error_type ≡ ErrorKind.NoCredentials) }
         // What every answer keeps.
         ensures stays { Stays (values_of self.old) (values_of self.new) }
         ensures unused { StaysSilent N.meaning K.meaning self.old self.new }
         ensures picked { StaysPicked (values_of self.old) (values_of self.new) }
         ensures need { self.new.need ≡ self.old.need }
     {
-        let found = named(self.alloc, name, &self.known)?;
-        if found.is_empty() {
-            Err(Refusal::new(ErrorKind::NoCredentials, Reason::NoIdentity))
-        } else {
+        if is_known(name, &self.known) {
+            let found = named(self.alloc, name, &self.known)?;
             self.identify_by(found)
+        } else {
+            Err(Refusal::new(ErrorKind::NoCredentials, Reason::NoIdentity))
         }
     }
 
@@ -125,16 +150,15 @@ impl<N: Mechanism, K: Mechanism> Negotiate<N, K> {
         // The step.
         ensures step { Passes N.meaning K.meaning (Verifies mic.now text.now (values_of self.old))
             (values_of self.old) self.old (answered result) self.new }
+        ensures exact { IfErr result (λ error.
+            (hand N.meaning K.meaning).refuses self.old.mech (ToVerify mic.now text.now) error.error_type) }
         // What every answer keeps.
         ensures stays { Stays (values_of self.old) (values_of self.new) }
         ensures unused { StaysSilent N.meaning K.meaning self.old self.new }
         ensures picked { StaysPicked (values_of self.old) (values_of self.new) }
         ensures need { self.new.need ≡ self.old.need }
     {
-        Ok(
-            self.protocol
-                .verify_mic_token(mic.as_slice(), text.as_slice())?,
-        )
+        verify_with(&mut self.protocol, mic, text)
     }
 
     /// Ends a step with a token that has the own MIC over the list.

@@ -13,6 +13,7 @@ ghost use Rattle.sspi_negotiate.specs.Choices.{chosen_in, chosen_at, excuses_gue
 ghost use Rattle.sspi_negotiate.specs.declared.protocol.Protocol.{Protocol};
 ghost use Rattle.sspi_mech.specs.declared.step.Answer.TheVariants as answers;
 ghost use Rattle.sspi_negotiate.specs.declared.state.NegotiateState.TheVariants as states;
+ghost use Rattle.sspi_negotiate.specs.Exact.{TellsKind, client_refusal, resumed_refusal, server_refusal};
 ghost use Rattle.sspi_negotiate.specs.Hand.{hand, hand_of};
 ghost use Rattle.sspi_negotiate.specs.Holding.{StaysHeld, MayKeep, MayNeed, user_of};
 ghost use Rattle.sspi_negotiate.specs.Verified.{IsVerified, IsGuestNamed};
@@ -93,6 +94,20 @@ pub fn hand_is_kept<N: Mechanism, K: Mechanism>()
     ensures server_lives { (old new : Negotiation (NegotiatedProtocol N K)) (args : AcceptArgs) (result : Result Step Error) →
         (negotiate N.REQUESTS N.meaning K.meaning).accepts old args result new →
         old.state ≢ states.Initial → LivesOn (hand N.meaning K.meaning) args old.mech new.mech }
+{}
+
+/// A refusal for which no memory is asked is told with its kind, never as want of memory. It is `OutOfSequence` for a client's step on
+/// a server, while a step waits and after the end, for a resume where no step waits, and for a server's step on a client and after
+/// the end; and `InvalidToken` for a server's step whose bytes begin with no token of the form that its state has.
+pub fn refusals_are_exact<N: Mechanism, K: Mechanism>()
+    ensures client { (old new : Negotiation (NegotiatedProtocol N K)) (args : StepArgs) (answer : Answer) →
+        (negotiate N.REQUESTS N.meaning K.meaning).steps old args answer new →
+        TellsKind (client_refusal old.role old.state old.branch) answer }
+    ensures resumed { (old new : Negotiation (NegotiatedProtocol N K)) (reply : Reply) (answer : Answer) →
+        (negotiate N.REQUESTS N.meaning K.meaning).resumes old reply answer new → TellsKind (resumed_refusal old.branch) answer }
+    ensures server { (old new : Negotiation (NegotiatedProtocol N K)) (args : AcceptArgs) (result : Result Step Error) →
+        (negotiate N.REQUESTS N.meaning K.meaning).accepts old args result new →
+        TellsKind (server_refusal old.role old.state args.input) (told result) }
 {}
 
 /// Where MICs are needed they stay so, want of memory included: a server's refused step leaves the need as it was, and so does a

@@ -1,11 +1,13 @@
 // The later steps of a server: the mechanism authenticates, and the MICs protect the list.
-ghost use Rattle.std.specs.Prelude.{◌≡◌, [], None, Some, OnErr};
+ghost use Rattle.std.specs.Prelude.{◌≡◌, [], not, None, Some, OnErr};
+ghost use Rattle.sspi_names.specs.Name.{inner_of};
 ghost use Rattle.sspi_mech.specs.Calls.{accept_args};
 ghost use Rattle.sspi_mech.specs.Answered.{answered};
 ghost use Rattle.sspi_tokens.specs.Reading.{targ_of};
 ghost use Rattle.sspi_negotiate.specs.Does.{Does, Stays, StaysPicked, StaysSilent, told};
+ghost use Rattle.sspi_negotiate.specs.Exact.{TellsKind, kind_if, unread_refusal};
 ghost use Rattle.sspi_negotiate.specs.Plan.{Accepts, Names, Goes};
-ghost use Rattle.sspi_negotiate.specs.Rows.{or_empty, checks, completes_signed};
+ghost use Rattle.sspi_negotiate.specs.Rows.{or_empty, is_guest_text, checks, completes_signed};
 ghost use Rattle.sspi_negotiate.specs.Server.{excuses, without_mic, settles, accepted, at_progress, last_mic, at_verify_mic};
 ghost use Rattle.sspi_negotiate.specs.Values.{values_of};
 ghost use Rattle.sspi_negotiate.specs.declared.state.NegotiateState.TheVariants as states;
@@ -18,7 +20,7 @@ use crate::server::accept_with;
 use sspi_mech::{AcceptSecurityContext, Mechanism, Refusal, Step};
 use sspi_names::Username;
 use sspi_tokens::NegTokenTarg;
-use sspi_types::{Bytes, Reason};
+use sspi_types::{Bytes, ErrorKind, Reason};
 
 impl<N: Mechanism, K: Mechanism> Negotiate<N, K> {
     pub(crate) fn read_response(
@@ -30,6 +32,7 @@ impl<N: Mechanism, K: Mechanism> Negotiate<N, K> {
             self.old (told (answered result)) self.new }
         ensures stays { OnErr result (Stays (values_of self.old) (values_of self.new)) }
         ensures need { OnErr result (self.new.need ≡ self.old.need) }
+        ensures exact { TellsKind (unread_refusal (targ_of args.now.input.now)) (told (answered result)) }
         // What every answer keeps.
         ensures unused { StaysSilent N.meaning K.meaning self.old self.new }
         ensures picked { StaysPicked (values_of self.old) (values_of self.new) }
@@ -152,6 +155,7 @@ impl<N: Mechanism, K: Mechanism> Negotiate<N, K> {
         ensures step { Does N.meaning K.meaning (excuses (values_of self.old) token name.now) self.old (told (answered result)) self.new }
         ensures stays { OnErr result (Stays (values_of self.old) (values_of self.new)) }
         ensures need { OnErr result (self.new.need ≡ self.old.need) }
+        ensures exact { TellsKind (kind_if (not (is_guest_text (inner_of name.now))) ErrorKind.InvalidToken) (told (answered result)) }
         // What every answer keeps.
         ensures unused { StaysSilent N.meaning K.meaning self.old self.new }
         ensures picked { StaysPicked (values_of self.old) (values_of self.new) }
@@ -169,6 +173,7 @@ impl<N: Mechanism, K: Mechanism> Negotiate<N, K> {
             self.old (told (answered result)) self.new }
         ensures stays { OnErr result (Stays (values_of self.old) (values_of self.new)) }
         ensures need { OnErr result (self.new.need ≡ self.old.need) }
+        ensures exact { TellsKind (unread_refusal (targ_of args.now.input.now)) (told (answered result)) }
         // What every answer keeps.
         ensures unused { StaysSilent N.meaning K.meaning self.old self.new }
         ensures picked { StaysPicked (values_of self.old) (values_of self.new) }
@@ -182,6 +187,7 @@ impl<N: Mechanism, K: Mechanism> Negotiate<N, K> {
         ensures step { Does N.meaning K.meaning (last_mic mic (values_of self.old)) self.old (told (answered result)) self.new }
         ensures stays { OnErr result (Stays (values_of self.old) (values_of self.new)) }
         ensures need { OnErr result (self.new.need ≡ self.old.need) }
+        ensures exact { TellsKind (unread_refusal mic) (told (answered result)) }
         // What every answer keeps.
         ensures unused { StaysSilent N.meaning K.meaning self.old self.new }
         ensures picked { StaysPicked (values_of self.old) (values_of self.new) }
