@@ -65,7 +65,8 @@ pub data WaitsOn {N K : Type 0} (waiting over new : Negotiation (NegotiatedProto
   as_before : new ≡ waiting → WaitsOn waiting over new
   no_longer : Stays (values_of over) (values_of new) → WaitsOn waiting over new
 
--- the list of mechanisms, the mechanism in hand, the kept credentials and the packages are as they were
+-- the list of mechanisms, the mechanism in hand, the kept credentials and the packages are as they
+-- were
 pub record StaysPicked (old new : Values) : Type 0 where
   pub list : new.list ≡ old.list
   pub hand : new.hand ≡ old.hand
@@ -81,8 +82,8 @@ pub record StaysConfigured (old new : Values) : Type 0 where
 abbrev pub StaysNeeded : Bool → Values → Values → Type 0
 StaysNeeded excused old new = old.need ≡ true → excused ≡ false → new.need ≡ true
 
--- what a resumed step leaves: the need and the kept credentials, and, where the one that waits is no first step, the list, the
--- packages and what is in hand
+-- what a resumed step leaves: the need and the kept credentials, and, where the one that waits is
+-- no first step, the list, the packages and what is in hand
 pub record StaysResumed (old new : Values) : Type 0 where
   pub need : new.need ≡ old.need
   pub kept : new.kept ≡ old.kept

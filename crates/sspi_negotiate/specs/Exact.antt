@@ -1,4 +1,5 @@
--- Refusals of a step for which no memory is asked, so that want of memory never comes in their place.
+-- Refusals of a step for which no memory is asked, so that want of memory never comes in their
+-- place.
 use Rattle.std.specs.Prelude.{ℕ, List, Option, None, Some, Bool, true, false, not}
 use Rattle.sspi_types.specs.declared.error_kind.ErrorKind.{ErrorKind}
 use Rattle.sspi_types.specs.declared.error_kind.ErrorKind.TheVariants.{InvalidToken, OutOfSequence}
@@ -30,7 +31,8 @@ abbrev pub unread_refusal : {T : Type 0} → Option T → Option ErrorKind
 unread_refusal None = Some InvalidToken
 unread_refusal (Some token) = None
 
--- a server's step: on a client, past the end, and for bytes that begin with no token of the form that the state has
+-- a server's step: on a client, past the end, and for bytes that begin with no token of the form
+-- that the state has
 abbrev pub server_refusal : Role → NegotiateState → List ℕ → Option ErrorKind
 server_refusal Client state input = Some OutOfSequence
 server_refusal Server states.Initial input = unread_refusal (init_of input)

@@ -1,4 +1,5 @@
--- What a client's step may leave in hand, of the packages, of the need of MICs, and keep, whatever it answers.
+-- What a client's step may leave in hand, of the packages, of the need of MICs, and keep, whatever
+-- it answers.
 use Rattle.std.specs.Prelude.{◌≡◌, ℕ, List, Option, Some, option_and_then, Bool, true, false}
 use Rattle.sspi_types.specs.declared.client_request_flags.ClientRequestFlags.{ClientRequestFlags}
 use Rattle.sspi_names.specs.Identity.{buffers_of, identity_of}
@@ -36,19 +37,23 @@ pub data MayHold (ByAddress : Type 0) (url : Option (List ℕ)) (choice : Option
   as_addressed : ByAddress → new ≡ Ntlm → MayHold ByAddress url choice held new
   as_ruled : (found : List ℕ) → url ≡ Some found → new ≡ Kerberos → MayHold ByAddress url choice held new
 
--- The packages are those from before, or one is disabled: Kerberos because of the target's address, or the one beside the server's
--- choice, which may be used.
-pub data MayAllow (ByAddress : Type 0) (choice : Option Protocol) (old new : PackageListConfig) : Type 0 where
+-- The packages are those from before, or one is disabled: Kerberos because of the target's address,
+-- or the one beside the server's choice, which may be used.
+pub data MayAllow (ByAddress : Type 0) (choice : Option Protocol)
+    (old new : PackageListConfig) : Type 0 where
   as_allowed : new ≡ old → MayAllow ByAddress choice old new
   as_named : ByAddress → new ≡ record old { kerberos = false } → MayAllow ByAddress choice old new
-  kerberos_chosen : choice ≡ Some Kerberos → old.kerberos ≡ true → new ≡ record old { ntlm = false } →
+  kerberos_chosen : choice ≡ Some Kerberos → old.kerberos ≡ true →
+      new ≡ record old { ntlm = false } →
       MayAllow ByAddress choice old new
-  ntlm_chosen : choice ≡ Some Ntlm → old.ntlm ≡ true → new ≡ record old { kerberos = false } → MayAllow ByAddress choice old new
+  ntlm_chosen : choice ≡ Some Ntlm → old.ntlm ≡ true → new ≡ record old { kerberos = false } →
+      MayAllow ByAddress choice old new
 
 -- the mechanism in hand and the packages
 abbrev pub MayHave : Type 0 → Option (List ℕ) → Option Protocol → Values → Values → Type 0
 MayHave ByAddress url choice old new =
-    MayHold ByAddress url choice old.hand new.hand × MayAllow ByAddress choice old.packages new.packages
+    MayHold ByAddress url choice old.hand new.hand ×
+    MayAllow ByAddress choice old.packages new.packages
 
 -- the kept credentials are those from before, or the user's
 pub data MayKeep (user : Option Identity) (kept new : Option CredentialsBuffers) : Type 0 where
@@ -62,11 +67,14 @@ pub data MayNeed (flags : ClientRequestFlags) (need new : Bool) : Type 0 where
 
 -- what a client's later step leaves in hand and of the packages
 abbrev pub StaysHeld : Values → StepArgs → Values → Type 0
-StaysHeld old args new = MayHave (IsNamedByIp args.target × (old.packages.ntlm ≡ true)) (user_url old (user_of args.handle))
+StaysHeld old args new = MayHave (IsNamedByIp args.target × (old.packages.ntlm ≡ true))
+    (user_url old (user_of args.handle))
     (chosen_at old.state args.input) old new
 
--- what a client's first step leaves, whatever it answers: where no MIC was made or verified, none is, and the need may be as the
--- flags say
-abbrev pub StaysFirst : {N K : Type 0} → Meaning Setting N → Meaning Setting K → StepArgs → Negotiation (NegotiatedProtocol N K) →
+-- what a client's first step leaves, whatever it answers: where no MIC was made or verified, none
+-- is, and the need may be as the flags say
+abbrev pub StaysFirst : {N K : Type 0} → Meaning Setting N → Meaning Setting K → StepArgs →
+    Negotiation (NegotiatedProtocol N K) →
     Negotiation (NegotiatedProtocol N K) → Type 0
-StaysFirst n k args old new = StaysUnmarked n k old new × MayNeed args.requirements old.need new.need
+StaysFirst n k args old new = StaysUnmarked n k old new ×
+    MayNeed args.requirements old.need new.need

@@ -17,7 +17,8 @@ use Rattle.sspi_negotiate.specs.Acquire.{Acquires, RefusesToAcquire}
 use Rattle.sspi_negotiate.specs.Beginning.{FallsBy, FallsResumed, MayBegin}
 use Rattle.sspi_negotiate.specs.Choices.{chosen_at, excuses_guest}
 use Rattle.sspi_negotiate.specs.Client.{spnego_client, spnego_resumed}
-use Rattle.sspi_negotiate.specs.Does.{Does, Stays, StaysNeeded, StaysPicked, StaysConfigured, StaysResumed, StaysUnmarked}
+use Rattle.sspi_negotiate.specs.Does.{Does, Stays, StaysNeeded, StaysPicked, StaysConfigured}
+use Rattle.sspi_negotiate.specs.Does.{StaysResumed, StaysUnmarked}
 use Rattle.sspi_negotiate.specs.Does.{StaysSilent, WaitsOn, told}
 use Rattle.sspi_negotiate.specs.Exact.{TellsKind, client_refusal, server_refusal, resumed_refusal}
 use Rattle.sspi_negotiate.specs.Hand.{hand, asks_left}
@@ -30,10 +31,13 @@ use Rattle.sspi_negotiate.specs.Target.{IsNamedByIp}
 use Rattle.sspi_negotiate.specs.Values.{Negotiation, values_of, is_waiting}
 
 -- A step by a plan; before there is a list to protect it makes and verifies no MIC. Kept says what a refused one leaves, and
--- Protected what stays of the need of MICs; a refusal that asks no memory is told with its kind (`Exact`). Of a step that want of memory breaks off the plan says what is left in hand (`Meets`),
+-- Protected what stays of the need of MICs; a refusal that asks no memory is told with its kind
+-- (`Exact`). Of a step that want of memory breaks off the plan says what is left in hand (`Meets`),
 -- and the others hold of it too.
-pub record Moves {N K : Type 0} (n : Meaning Setting N) (k : Meaning Setting K) (IsFirstStep Kept Protected : Type 0)
-    (refusal : Option ErrorKind) (p : Plan) (s : Negotiation (NegotiatedProtocol N K)) (r : Answer) (s2 : Negotiation (NegotiatedProtocol N K)) : Type 0 where
+pub record Moves {N K : Type 0} (n : Meaning Setting N) (k : Meaning Setting K)
+    (IsFirstStep Kept Protected : Type 0)
+    (refusal : Option ErrorKind) (p : Plan) (s : Negotiation (NegotiatedProtocol N K)) (r : Answer)
+    (s2 : Negotiation (NegotiatedProtocol N K)) : Type 0 where
   pub follows : Does n k p s r s2
   pub stays : OnRefused r Kept
   pub unused : StaysSilent n k s s2
@@ -48,8 +52,9 @@ pub record ResumeStays {N K : Type 0} (n : Meaning Setting N) (k : Meaning Setti
   pub begun : is_opening s.branch ≡ true → FallsBy (FallsResumed (hand n k) s.mech reply) (values_of s) (values_of s2)
 
 -- a client's step, whose plan depends on whether the target is named by its IP address; behind the first one the need of MICs goes
--- only where the server chooses NTLM for a guest, and what is in hand and the packages change only as StaysHeld says; a first one
--- that is refused leaves of the two what MayBegin says, and the need of MICs stays there or is what the flags say
+-- only where the server chooses NTLM for a guest, and what is in hand and the packages change only
+-- as StaysHeld says; a first one that is refused leaves of the two what MayBegin says, and the need
+-- of MICs stays there or is what the flags say
 pub record ClientMoves {N K : Type 0} (n : Meaning Setting N) (k : Meaning Setting K) (s : Negotiation (NegotiatedProtocol N K))
     (args : StepArgs) (r : Answer)
     (s2 : Negotiation (NegotiatedProtocol N K)) : Type 0 where
@@ -64,12 +69,14 @@ pub record ClientMoves {N K : Type 0} (n : Meaning Setting N) (k : Meaning Setti
   pub begun : s.state ≡ Initial → OnRefused r (MayBegin (hand n k) (IsNamedByIp args.target × (s.packages.ntlm ≡ true))
       (user_url (values_of s) (user_of args.handle)) args s s2)
 
--- a server's step, which leaves the packages and the kept credentials, and the need of MICs where it is refused; once it has read
--- the list, it leaves that and the name of the mechanism that it picked, which lives on by its plan (`LivesOn`)
+-- a server's step, which leaves the packages and the kept credentials, and the need of MICs where
+-- it is refused; once it has read the list, it leaves that and the name of the mechanism that it
+-- picked, which lives on by its plan (`LivesOn`)
 pub record ServerMoves {N K : Type 0} (n : Meaning Setting N) (k : Meaning Setting K) (s : Negotiation (NegotiatedProtocol N K))
     (args : AcceptArgs) (result : Result Step Error) (s2 : Negotiation (NegotiatedProtocol N K)) : Type 0 where
   pub moves : Moves n k (s.state ≡ Initial) (Stays (values_of s) (values_of s2)) (OnErr result (s2.need ≡ s.need))
-      (server_refusal s.role s.state args.input) (spnego_server (values_of s) args) s (told result) s2
+      (server_refusal s.role s.state args.input) (spnego_server (values_of s) args) s
+      (told result) s2
   pub picked : s.state ≢ Initial → StaysPicked (values_of s) (values_of s2)
   pub configured : StaysConfigured (values_of s) (values_of s2)
 

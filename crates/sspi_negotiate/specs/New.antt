@@ -2,6 +2,7 @@
 use Rattle.std.specs.Prelude.{◌≡◌, List, [], None, Bool, true, false, Result, Ok, Err, if◌then◌else◌}
 use Rattle.sspi_types.specs.declared.error_kind.ErrorKind.{ErrorKind}
 use Rattle.sspi_types.specs.declared.error_kind.ErrorKind.TheVariants.{NoCredentials, InternalError}
+use Rattle.sspi_types.specs.declared.error_kind.ErrorKind.TheVariants.{InsufficientMemory}
 use Rattle.sspi_names.specs.declared.identity.AuthIdentity.{AuthIdentity}
 use Rattle.sspi_mech.specs.Meaning.{Meaning}
 use Rattle.sspi_mech.specs.Settings.{Setting}
@@ -56,6 +57,11 @@ IsFirst c (Err kind) m = ⊥
 abbrev pub IsUnmade : Result Origin ErrorKind → ErrorKind → Type 0
 IsUnmade (Ok origin) kind = ⊥
 IsUnmade (Err refusal) kind = refusal ≡ kind
+
+-- the kind of a refusal, where only memory may be wanting for a mechanism that there is
+abbrev pub TellsUnmade : Result Origin ErrorKind → ErrorKind → Type 0
+TellsUnmade (Ok origin) kind = kind ≡ InsufficientMemory
+TellsUnmade (Err refusal) kind = kind ≡ refusal
 
 -- an end that has made no step
 abbrev pub fresh : {M : Type 0} → Role → NegotiateConfig → List AuthIdentity → M → Negotiation M

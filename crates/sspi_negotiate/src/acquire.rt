@@ -75,6 +75,9 @@ impl<N: Mechanism, K: Mechanism> Negotiate<N, K> {
         ensures unused { StaysSilent N.meaning K.meaning self.old self.new }
         // What a refusal says.
         ensures codeless { IfErr result (λ error. error.nstatus ≡ None) }
+        ensures lacking { is_outbound credential_use
+            && lacks (hand_of self.old.mech) (option_copied auth_data.entry) ≡ true →
+            IfErr result (λ error. error.error_type ≡ ErrorKind.NoCredentials) }
         ensures cause { IfErr result (λ error. error.error_type ≢ ErrorKind.InsufficientMemory →
             RefusesToAcquire N.meaning K.meaning self.old credential_use (option_copied auth_data.entry) error.error_type) }
     {

@@ -16,8 +16,10 @@ ghost use Rattle.sspi_negotiate.specs.Choices.{protocol_of, chosen_in, excuses_g
 ghost use Rattle.sspi_negotiate.specs.Client.{at_progress, chosen, chooses_kerberos, chooses_ntlm, in_kerberos, answers, without_ntlm};
 ghost use Rattle.sspi_negotiate.specs.Client.{stepped, settles, verified, at_verify_mic, confirmed};
 ghost use Rattle.sspi_negotiate.specs.Client.{last_mic, handle_for, resumes_answering, spnego_resumed};
-ghost use Rattle.sspi_negotiate.specs.Does.{Does, Stays, StaysNeeded, StaysPicked, StaysResumed, StaysUnmarked, StaysSilent, WaitsOn, told};
-ghost use Rattle.sspi_negotiate.specs.Exact.{TellsKind, kind_if, unread_refusal, choice_refusal, resumed_refusal};
+ghost use Rattle.sspi_negotiate.specs.Does.{Does, Stays, StaysNeeded, StaysPicked, StaysResumed};
+ghost use Rattle.sspi_negotiate.specs.Does.{StaysUnmarked, StaysSilent, WaitsOn, told};
+ghost use Rattle.sspi_negotiate.specs.Exact.{TellsKind, kind_if, unread_refusal, choice_refusal};
+ghost use Rattle.sspi_negotiate.specs.Exact.{resumed_refusal};
 ghost use Rattle.sspi_negotiate.specs.Hand.{hand, hand_of};
 ghost use Rattle.sspi_negotiate.specs.Holding.{MayHave};
 ghost use Rattle.sspi_negotiate.specs.Keeps.{is_answering, is_opening};
@@ -88,11 +90,13 @@ impl<N: Mechanism, K: Mechanism> Negotiate<N, K> {
         ensures step { Does N.meaning K.meaning (at_progress (targ_of args.now.input.now) (values_of self.old) (step_args args.now))
             self.old (answer_of (answered result)) self.new }
         ensures stays { OnErr result (Stays (values_of self.old) (values_of self.new)) }
-        ensures exact { TellsKind (unread_refusal (targ_of args.now.input.now)) (answer_of (answered result)) }
+        ensures exact { TellsKind (unread_refusal (targ_of args.now.input.now))
+            (answer_of (answered result)) }
         ensures unused { StaysSilent N.meaning K.meaning self.old self.new }
         ensures need { let v = values_of self.old in
             StaysNeeded (excuses_guest (chosen_in args.now.input.now) v (step_args args.now)) v (values_of self.new) }
-        ensures held { MayHave ⊥ None (chosen_in args.now.input.now) (values_of self.old) (values_of self.new) }
+        ensures held { MayHave ⊥ None (chosen_in args.now.input.now) (values_of self.old)
+            (values_of self.new) }
         ensures kept { self.new.kept ≡ self.old.kept }
     {
         let token = NegTokenTarg::decode(self.alloc, args.input)?;
@@ -108,12 +112,15 @@ impl<N: Mechanism, K: Mechanism> Negotiate<N, K> {
             (chosen (option_map kind_of token.supported_mech) token (values_of self.old) (step_args args.now))
             self.old (answer_of (answered result)) self.new }
         ensures stays { OnErr result (Stays (values_of self.old) (values_of self.new)) }
-        ensures exact { TellsKind (choice_refusal (option_map kind_of token.supported_mech) self.old.packages) (answer_of (answered result)) }
+        ensures exact { TellsKind
+            (choice_refusal (option_map kind_of token.supported_mech) self.old.packages)
+            (answer_of (answered result)) }
         ensures unused { StaysSilent N.meaning K.meaning self.old self.new }
         ensures need { let v = values_of self.old in StaysNeeded
             (excuses_guest (option_and_then protocol_of (option_map kind_of token.supported_mech)) v (step_args args.now))
             v (values_of self.new) }
-        ensures held { MayHave ⊥ None (option_and_then protocol_of (option_map kind_of token.supported_mech))
+        ensures held { MayHave ⊥ None
+            (option_and_then protocol_of (option_map kind_of token.supported_mech))
             (values_of self.old) (values_of self.new) }
         ensures kept { self.new.kept ≡ self.old.kept }
     {
@@ -135,10 +142,12 @@ impl<N: Mechanism, K: Mechanism> Negotiate<N, K> {
         ensures step { Does N.meaning K.meaning (chooses_kerberos token (values_of self.old) (step_args args.now))
             self.old (answer_of (answered result)) self.new }
         ensures stays { OnErr result (Stays (values_of self.old) (values_of self.new)) }
-        ensures exact { TellsKind (choice_refusal (Some kinds.Kerberos) self.old.packages) (answer_of (answered result)) }
+        ensures exact { TellsKind (choice_refusal (Some kinds.Kerberos) self.old.packages)
+            (answer_of (answered result)) }
         ensures unused { StaysSilent N.meaning K.meaning self.old self.new }
         ensures need { StaysNeeded false (values_of self.old) (values_of self.new) }
-        ensures held { MayHave ⊥ None (Some protocols.Kerberos) (values_of self.old) (values_of self.new) }
+        ensures held { MayHave ⊥ None (Some protocols.Kerberos) (values_of self.old)
+            (values_of self.new) }
         ensures kept { self.new.kept ≡ self.old.kept }
     {
         if self.packages.kerberos {
@@ -159,7 +168,8 @@ impl<N: Mechanism, K: Mechanism> Negotiate<N, K> {
         ensures stays { self.old.packages.kerberos ≡ true → OnErr result (Stays (values_of self.old) (values_of self.new)) }
         ensures unused { StaysSilent N.meaning K.meaning self.old self.new }
         ensures need { StaysNeeded false (values_of self.old) (values_of self.new) }
-        ensures held { self.old.packages.kerberos ≡ true → MayHave ⊥ None (Some protocols.Kerberos) (values_of self.old) (values_of self.new) }
+        ensures held { self.old.packages.kerberos ≡ true → MayHave ⊥ None (Some protocols.Kerberos)
+            (values_of self.old) (values_of self.new) }
         ensures kept { self.new.kept ≡ self.old.kept }
     {
         match self.protocol.protocol() {
@@ -180,7 +190,8 @@ impl<N: Mechanism, K: Mechanism> Negotiate<N, K> {
         ensures stays { self.old.packages.kerberos ≡ true → OnErr result (Stays (values_of self.old) (values_of self.new)) }
         ensures unused { StaysSilent N.meaning K.meaning self.old self.new }
         ensures need { StaysNeeded false (values_of self.old) (values_of self.new) }
-        ensures held { self.old.packages.kerberos ≡ true → MayHave ⊥ None (Some protocols.Kerberos) (values_of self.old) (values_of self.new) }
+        ensures held { self.old.packages.kerberos ≡ true → MayHave ⊥ None (Some protocols.Kerberos)
+            (values_of self.old) (values_of self.new) }
         ensures kept { self.new.kept ≡ self.old.kept }
     {
         self.protocol = NegotiatedProtocol::new_kerberos(
@@ -218,11 +229,13 @@ impl<N: Mechanism, K: Mechanism> Negotiate<N, K> {
         ensures step { Does N.meaning K.meaning (chooses_ntlm token (values_of self.old) (step_args args.now))
             self.old (answer_of (answered result)) self.new }
         ensures stays { OnErr result (Stays (values_of self.old) (values_of self.new)) }
-        ensures exact { TellsKind (choice_refusal (Some kinds.Ntlm) self.old.packages) (answer_of (answered result)) }
+        ensures exact { TellsKind (choice_refusal (Some kinds.Ntlm) self.old.packages)
+            (answer_of (answered result)) }
         ensures unused { StaysSilent N.meaning K.meaning self.old self.new }
         ensures need { let v = values_of self.old in
             StaysNeeded (excuses_guest (Some protocols.Ntlm) v (step_args args.now)) v (values_of self.new) }
-        ensures held { MayHave ⊥ None (Some protocols.Ntlm) (values_of self.old) (values_of self.new) }
+        ensures held { MayHave ⊥ None (Some protocols.Ntlm) (values_of self.old)
+            (values_of self.new) }
         ensures kept { self.new.kept ≡ self.old.kept }
     {
         if self.packages.ntlm {
@@ -249,7 +262,8 @@ impl<N: Mechanism, K: Mechanism> Negotiate<N, K> {
         ensures stays { self.old.packages.ntlm ≡ true → OnErr result (Stays (values_of self.old) (values_of self.new)) }
         ensures unused { StaysSilent N.meaning K.meaning self.old self.new }
         ensures need { StaysNeeded guest (values_of self.old) (values_of self.new) }
-        ensures held { self.old.packages.ntlm ≡ true → MayHave ⊥ None (Some protocols.Ntlm) (values_of self.old) (values_of self.new) }
+        ensures held { self.old.packages.ntlm ≡ true → MayHave ⊥ None (Some protocols.Ntlm)
+            (values_of self.old) (values_of self.new) }
         ensures kept { self.new.kept ≡ self.old.kept }
     {
         self.take_ntlm()?;
@@ -271,7 +285,8 @@ impl<N: Mechanism, K: Mechanism> Negotiate<N, K> {
         ensures stays { hand_of self.old.mech ≡ protocols.Ntlm → OnErr result (Stays (values_of self.old) (values_of self.new)) }
         ensures unused { StaysSilent N.meaning K.meaning self.old self.new }
         ensures need { StaysNeeded guest (values_of self.old) (values_of self.new) }
-        ensures picked { StaysPicked (record (values_of self.old) { packages = record self.old.packages { kerberos = false } })
+        ensures picked { StaysPicked
+            (record (values_of self.old) { packages = record self.old.packages { kerberos = false } })
             (values_of self.new) }
     {
         self.packages.kerberos = false;
@@ -377,7 +392,8 @@ impl<N: Mechanism, K: Mechanism> Negotiate<N, K> {
         ensures step { Does N.meaning K.meaning (at_verify_mic (targ_of args.now.input.now) (values_of self.old))
             self.old (answer_of (answered result)) self.new }
         ensures stays { OnErr result (Stays (values_of self.old) (values_of self.new)) }
-        ensures exact { TellsKind (unread_refusal (targ_of args.now.input.now)) (answer_of (answered result)) }
+        ensures exact { TellsKind (unread_refusal (targ_of args.now.input.now))
+            (answer_of (answered result)) }
         ensures unused { StaysSilent N.meaning K.meaning self.old self.new }
         ensures need { self.new.need ≡ self.old.need }
         ensures picked { StaysPicked (values_of self.old) (values_of self.new) }
@@ -389,7 +405,9 @@ impl<N: Mechanism, K: Mechanism> Negotiate<N, K> {
     fn confirm_by(&mut self, token: NegTokenTarg) -> Result<Step, Refusal>
         ensures step { Does N.meaning K.meaning (confirmed token (values_of self.old)) self.old (told (answered result)) self.new }
         ensures stays { OnErr result (Stays (values_of self.old) (values_of self.new)) }
-        ensures exact { TellsKind (kind_if (not (is_complete token.neg_result)) ErrorKind.InvalidToken) (told (answered result)) }
+        ensures exact { TellsKind
+            (kind_if (not (is_complete token.neg_result)) ErrorKind.InvalidToken)
+            (told (answered result)) }
         ensures unused { StaysSilent N.meaning K.meaning self.old self.new }
         ensures need { self.new.need ≡ self.old.need }
         ensures picked { StaysPicked (values_of self.old) (values_of self.new) }

@@ -74,14 +74,17 @@ impl<N: Mechanism, K: Mechanism> Negotiate<N, K> {
         ensures begun { self.old.state ≡ states.Initial → OnErr result (MayBegin (hand N.meaning K.meaning)
             (ip && self.old.packages.ntlm ≡ true) (user_url (values_of self.old) (user_of (step_args args.now).handle))
             (step_args args.now) self.old self.new) }
-        ensures exact { TellsKind (client_refusal self.old.role self.old.state self.old.branch) (answer_of (answered result)) }
+        ensures exact { TellsKind (client_refusal self.old.role self.old.state self.old.branch)
+            (answer_of (answered result)) }
         // What every answer keeps.
         ensures unused { StaysSilent N.meaning K.meaning self.old self.new }
         ensures first { self.old.state ≡ states.Initial →
             StaysFirst N.meaning K.meaning (step_args args.now) self.old self.new }
         ensures later { let v = values_of self.old in self.old.state ≢ states.Initial →
-            StaysNeeded (excuses_guest (chosen_at self.old.state args.now.input.now) v (step_args args.now)) v (values_of self.new)
-            × MayHave (ip && v.packages.ntlm ≡ true) (user_url v (user_of (step_args args.now).handle))
+            StaysNeeded (excuses_guest (chosen_at self.old.state args.now.input.now) v
+            (step_args args.now)) v (values_of self.new)
+            × MayHave (ip && v.packages.ntlm ≡ true)
+            (user_url v (user_of (step_args args.now).handle))
             (chosen_at v.state args.now.input.now) v (values_of self.new) }
         ensures kept { MayKeep (user_of (step_args args.now).handle) self.old.kept self.new.kept }
     {
@@ -111,7 +114,8 @@ impl<N: Mechanism, K: Mechanism> Negotiate<N, K> {
         ensures need { let v = values_of self.old in self.old.state ≢ states.Initial →
             StaysNeeded (excuses_guest (chosen_at self.old.state args.now.input.now) v (step_args args.now)) v (values_of self.new) }
         ensures held { let v = values_of self.old in self.old.state ≢ states.Initial →
-            MayHave (ip && v.packages.ntlm ≡ true) (user_url v (user_of (step_args args.now).handle))
+            MayHave (ip && v.packages.ntlm ≡ true)
+            (user_url v (user_of (step_args args.now).handle))
             (chosen_at v.state args.now.input.now) v (values_of self.new) }
         ensures kept { MayKeep (user_of (step_args args.now).handle) self.old.kept self.new.kept }
     {
@@ -167,8 +171,10 @@ impl<N: Mechanism, K: Mechanism> Negotiate<N, K> {
             StaysFirst N.meaning K.meaning (step_args args.now) self.old self.new }
         ensures need { let v = values_of self.old in self.old.state ≢ states.Initial →
             StaysNeeded (excuses_guest (chosen_at self.old.state args.now.input.now) v (step_args args.now)) v (values_of self.new) }
-        ensures held { let v = record (values_of self.old) { packages = record self.old.packages { kerberos = false } } in
-            self.old.state ≢ states.Initial → MayHave ⊥ (user_url v (user_of (step_args args.now).handle))
+        ensures held { let v = record
+            (values_of self.old) { packages = record self.old.packages { kerberos = false } } in
+            self.old.state ≢ states.Initial → MayHave ⊥
+            (user_url v (user_of (step_args args.now).handle))
             (chosen_at v.state args.now.input.now) v (values_of self.new) }
         ensures kept { MayKeep (user_of (step_args args.now).handle) self.old.kept self.new.kept }
     {
@@ -221,7 +227,8 @@ impl<N: Mechanism, K: Mechanism> Negotiate<N, K> {
         ensures need { let v = values_of self.old in self.old.state ≢ states.Initial →
             StaysNeeded (excuses_guest (chosen_at self.old.state args.now.input.now) v (step_args args.now)) v (values_of self.new) }
         ensures held { let v = values_of self.old in self.old.state ≢ states.Initial →
-            MayHave ⊥ (user_url v (identity_of buffers.now)) (chosen_at v.state args.now.input.now) v (values_of self.new) }
+            MayHave ⊥ (user_url v (identity_of buffers.now))
+            (chosen_at v.state args.now.input.now) v (values_of self.new) }
         ensures kept { MayKeep (identity_of buffers.now) self.old.kept self.new.kept }
     {
         let identity = AuthIdentity::from_buffers(self.alloc, buffers)?;
@@ -248,7 +255,8 @@ impl<N: Mechanism, K: Mechanism> Negotiate<N, K> {
         ensures need { let v = values_of self.old in self.old.state ≢ states.Initial →
             StaysNeeded (excuses_guest (chosen_at self.old.state args.now.input.now) v (step_args args.now)) v (values_of self.new) }
         ensures held { let v = values_of self.old in self.old.state ≢ states.Initial →
-            MayHave ⊥ (rule_url v identity.now.username) (chosen_at v.state args.now.input.now) v (values_of self.new) }
+            MayHave ⊥ (rule_url v identity.now.username) (chosen_at v.state args.now.input.now) v
+            (values_of self.new) }
         ensures kept { MayKeep (Some identity.now) self.old.kept self.new.kept }
     {
         let kept = identity.to_buffers(self.alloc)?;
@@ -274,7 +282,8 @@ impl<N: Mechanism, K: Mechanism> Negotiate<N, K> {
         ensures need { let v = values_of self.old in self.old.state ≢ states.Initial →
             StaysNeeded (excuses_guest (chosen_at self.old.state args.now.input.now) v (step_args args.now)) v (values_of self.new) }
         ensures held { let v = values_of self.old in self.old.state ≢ states.Initial →
-            MayHave ⊥ (rule_url v name.now) (chosen_at v.state args.now.input.now) v (values_of self.new) }
+            MayHave ⊥ (rule_url v name.now) (chosen_at v.state args.now.input.now) v
+            (values_of self.new) }
         ensures kept { self.new.kept ≡ self.old.kept }
     {
         self.take_by_rule(name)?;

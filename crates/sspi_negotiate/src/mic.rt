@@ -53,16 +53,21 @@ fn verify_with<N: Mechanism, K: Mechanism>(
 ) -> Result<(), Refusal>
     // What `Ok` holds, and that the mechanism is the same.
     ensures mic { let c = hand N.meaning K.meaning in
-        OnOk result (c.verifies protocol.new (c.counts protocol.old).verifications mic.now text.now) }
+        OnOk result (c.verifies protocol.new
+        (c.counts protocol.old).verifications mic.now text.now) }
     ensures ok { let c = hand N.meaning K.meaning in
-        OnOk result (protocol.new ≡ c.counted protocol.old (one_verification (c.counts protocol.old))) }
-    ensures count { let c = hand N.meaning K.meaning in OnOk result (c.counts protocol.new ≡ one_verification (c.counts protocol.old)) }
+        OnOk result (protocol.new ≡ c.counted protocol.old
+        (one_verification (c.counts protocol.old))) }
+    ensures count { let c = hand N.meaning K.meaning in OnOk result
+        (c.counts protocol.new ≡ one_verification (c.counts protocol.old)) }
     ensures named { hand_of protocol.new ≡ hand_of protocol.old }
-    ensures permitted { OnOk result ((hand N.meaning K.meaning).permits protocol.old (ToVerify mic.now text.now)) }
+    ensures permitted { OnOk result
+        ((hand N.meaning K.meaning).permits protocol.old (ToVerify mic.now text.now)) }
     // What a refusal says, and what it leaves.
     ensures err { OnErr result (protocol.new ≡ protocol.old) }
     ensures exact { IfErr result (λ error.
-        (hand N.meaning K.meaning).refuses protocol.old (ToVerify mic.now text.now) error.error_type) }
+        (hand N.meaning K.meaning).refuses protocol.old
+        (ToVerify mic.now text.now) error.error_type) }
 {
     Ok(protocol.verify_mic_token(mic.as_slice(), text.as_slice())?)
 }
@@ -151,7 +156,8 @@ impl<N: Mechanism, K: Mechanism> Negotiate<N, K> {
         ensures step { Passes N.meaning K.meaning (Verifies mic.now text.now (values_of self.old))
             (values_of self.old) self.old (answered result) self.new }
         ensures exact { IfErr result (λ error.
-            (hand N.meaning K.meaning).refuses self.old.mech (ToVerify mic.now text.now) error.error_type) }
+            (hand N.meaning K.meaning).refuses self.old.mech
+            (ToVerify mic.now text.now) error.error_type) }
         // What every answer keeps.
         ensures stays { Stays (values_of self.old) (values_of self.new) }
         ensures unused { StaysSilent N.meaning K.meaning self.old self.new }

@@ -1,6 +1,7 @@
 ghost use Rattle.std.specs.Prelude.{◌≡◌, [], true, None, OnErr};
 ghost use Rattle.sspi_mech.specs.Answered.{answered};
-ghost use Rattle.sspi_negotiate.specs.Does.{Does, Stays, StaysPicked, StaysConfigured, StaysUnmarked, StaysSilent, told};
+ghost use Rattle.sspi_negotiate.specs.Does.{Does, Stays, StaysPicked, StaysConfigured};
+ghost use Rattle.sspi_negotiate.specs.Does.{StaysUnmarked, StaysSilent, told};
 ghost use Rattle.sspi_negotiate.specs.Passes.{Passes};
 ghost use Rattle.sspi_negotiate.specs.declared.protocol.Protocol.TheVariants as protocols;
 ghost use Rattle.sspi_negotiate.specs.Hand.{hand_of, asks_left};

@@ -8,12 +8,14 @@ ghost use Rattle.sspi_mech.specs.declared.step.Step.{Step};
 ghost use Rattle.sspi_mech.specs.Calls.{StepArgs, AcceptArgs};
 ghost use Rattle.sspi_mech.specs.Context.{IsContext};
 ghost use Rattle.sspi_negotiate.specs.declared.protocol.NegotiatedProtocol.{NegotiatedProtocol};
-ghost use Rattle.sspi_negotiate.specs.Does.{StaysNeeded, StaysPicked, StaysConfigured, UnlessMemory, told};
+ghost use Rattle.sspi_negotiate.specs.Does.{StaysNeeded, StaysPicked, StaysConfigured};
+ghost use Rattle.sspi_negotiate.specs.Does.{UnlessMemory, told};
 ghost use Rattle.sspi_negotiate.specs.Choices.{chosen_in, chosen_at, excuses_guest, other_protocol, UnlessRefused};
 ghost use Rattle.sspi_negotiate.specs.declared.protocol.Protocol.{Protocol};
 ghost use Rattle.sspi_mech.specs.declared.step.Answer.TheVariants as answers;
 ghost use Rattle.sspi_negotiate.specs.declared.state.NegotiateState.TheVariants as states;
-ghost use Rattle.sspi_negotiate.specs.Exact.{TellsKind, client_refusal, resumed_refusal, server_refusal};
+ghost use Rattle.sspi_negotiate.specs.Exact.{TellsKind, client_refusal, resumed_refusal};
+ghost use Rattle.sspi_negotiate.specs.Exact.{server_refusal};
 ghost use Rattle.sspi_negotiate.specs.Hand.{hand, hand_of};
 ghost use Rattle.sspi_negotiate.specs.Holding.{StaysHeld, MayKeep, MayNeed, user_of};
 ghost use Rattle.sspi_negotiate.specs.Verified.{IsVerified, IsGuestNamed};
@@ -32,13 +34,16 @@ pub fn negotiation_is_context<N: Mechanism, K: Mechanism>()
 
 /// No step enables a package again or leaves a mechanism in hand that may not be used, whatever it answers, want of memory too.
 pub fn packages_are_kept<N: Mechanism, K: Mechanism>()
-    ensures client { (old new : Negotiation (NegotiatedProtocol N K)) (args : StepArgs) (answer : Answer) →
+    ensures client { (old new : Negotiation (NegotiatedProtocol N K)) (args : StepArgs)
+        (answer : Answer) →
         (negotiate N.REQUESTS N.meaning K.meaning).steps old args answer new →
         KeepsPackages old.packages (hand_of old.mech) new.packages (hand_of new.mech) }
-    ensures resumed { (old new : Negotiation (NegotiatedProtocol N K)) (reply : Reply) (answer : Answer) →
+    ensures resumed { (old new : Negotiation (NegotiatedProtocol N K)) (reply : Reply)
+        (answer : Answer) →
         (negotiate N.REQUESTS N.meaning K.meaning).resumes old reply answer new →
         KeepsPackages old.packages (hand_of old.mech) new.packages (hand_of new.mech) }
-    ensures server { (old new : Negotiation (NegotiatedProtocol N K)) (args : AcceptArgs) (result : Result Step Error) →
+    ensures server { (old new : Negotiation (NegotiatedProtocol N K)) (args : AcceptArgs)
+        (result : Result Step Error) →
         (negotiate N.REQUESTS N.meaning K.meaning).accepts old args result new →
         KeepsPackages old.packages (hand_of old.mech) new.packages (hand_of new.mech) }
 {}
@@ -46,12 +51,15 @@ pub fn packages_are_kept<N: Mechanism, K: Mechanism>()
 /// No step replaces the list of mechanisms that the client once offered, beside what `packages_are_kept` says; want of memory
 /// apart, in which `Stays` says what stays.
 pub fn steps_keep<N: Mechanism, K: Mechanism>()
-    ensures client { (old new : Negotiation (NegotiatedProtocol N K)) (args : StepArgs) (answer : Answer) →
+    ensures client { (old new : Negotiation (NegotiatedProtocol N K)) (args : StepArgs)
+        (answer : Answer) →
         (negotiate N.REQUESTS N.meaning K.meaning).steps old args answer new → UnlessMemory answer (Keeps (values_of old) (values_of new)) }
-    ensures resumed { (old new : Negotiation (NegotiatedProtocol N K)) (reply : Reply) (answer : Answer) →
+    ensures resumed { (old new : Negotiation (NegotiatedProtocol N K)) (reply : Reply)
+        (answer : Answer) →
         (negotiate N.REQUESTS N.meaning K.meaning).resumes old reply answer new →
         UnlessMemory answer (Keeps (values_of old) (values_of new)) }
-    ensures server { (old new : Negotiation (NegotiatedProtocol N K)) (args : AcceptArgs) (result : Result Step Error) →
+    ensures server { (old new : Negotiation (NegotiatedProtocol N K)) (args : AcceptArgs)
+        (result : Result Step Error) →
         (negotiate N.REQUESTS N.meaning K.meaning).accepts old args result new →
         UnlessMemory (told result) (Keeps (values_of old) (values_of new)) }
 {}
@@ -68,63 +76,86 @@ pub fn choices_are_kept<N: Mechanism, K: Mechanism>()
         chosen_in args.input ≡ Some protocol → may_use old.packages protocol ≡ false → UnlessRefused answer ⊥ }
 {}
 
-/// What is in hand, allowed and kept, want of memory included. Behind the first step, a client's step leaves the mechanism in hand,
-/// or takes the one that the server chooses, NTLM where the target is named by its IP address and NTLM may be used, or Kerberos where
-/// a KDC serves the domain of the user that the call hands over; of the packages it disables at most the one beside that choice, or
-/// Kerberos because of the address. A resumed step, but for a resumed first one, and a server's later step leave the list, the packages
-/// and the mechanism in hand. In each step of a client the kept credentials stay, or are the user's that the call hands over; a
-/// resumed step leaves them, and a server's step the packages too. A server makes no other mechanism of the same name: the one that
-/// is left is the one from before, or what at most one token, the peer's identities, one MIC verified and one MIC made of it.
+/// What is in hand, allowed and kept, want of memory included. Behind the first step, a client's
+/// step leaves the mechanism in hand, or takes the one that the server chooses, NTLM where the
+/// target is named by its IP address and NTLM may be used, or Kerberos where a KDC serves the
+/// domain of the user that the call hands over; of the packages it disables at most the one beside
+/// that choice, or Kerberos because of the address. A resumed step, but for a resumed first one,
+/// and a server's later step leave the list, the packages and the mechanism in hand. In each step
+/// of a client the kept credentials stay, or are the user's that the call hands over; a resumed
+/// step leaves them, and a server's step the packages too. A server makes no other mechanism of the
+/// same name: the one that is left is the one from before, or what at most one token, the peer's
+/// identities, one MIC verified and one MIC made of it.
 pub fn hand_is_kept<N: Mechanism, K: Mechanism>()
-    ensures client { (old new : Negotiation (NegotiatedProtocol N K)) (args : StepArgs) (answer : Answer) →
+    ensures client { (old new : Negotiation (NegotiatedProtocol N K)) (args : StepArgs)
+        (answer : Answer) →
         (negotiate N.REQUESTS N.meaning K.meaning).steps old args answer new →
         old.state ≢ states.Initial → StaysHeld (values_of old) args (values_of new) }
-    ensures client_keeps { (old new : Negotiation (NegotiatedProtocol N K)) (args : StepArgs) (answer : Answer) →
-        (negotiate N.REQUESTS N.meaning K.meaning).steps old args answer new → MayKeep (user_of args.handle) old.kept new.kept }
-    ensures resumed { (old new : Negotiation (NegotiatedProtocol N K)) (reply : Reply) (answer : Answer) →
+    ensures client_keeps { (old new : Negotiation (NegotiatedProtocol N K)) (args : StepArgs)
+        (answer : Answer) →
+        (negotiate N.REQUESTS N.meaning K.meaning).steps old args answer new → MayKeep
+        (user_of args.handle) old.kept new.kept }
+    ensures resumed { (old new : Negotiation (NegotiatedProtocol N K)) (reply : Reply)
+        (answer : Answer) →
         (negotiate N.REQUESTS N.meaning K.meaning).resumes old reply answer new →
         is_opening old.branch ≡ false → StaysPicked (values_of old) (values_of new) }
-    ensures resumed_keeps { (old new : Negotiation (NegotiatedProtocol N K)) (reply : Reply) (answer : Answer) →
-        (negotiate N.REQUESTS N.meaning K.meaning).resumes old reply answer new → new.kept ≡ old.kept }
-    ensures server { (old new : Negotiation (NegotiatedProtocol N K)) (args : AcceptArgs) (result : Result Step Error) →
+    ensures resumed_keeps { (old new : Negotiation (NegotiatedProtocol N K)) (reply : Reply)
+        (answer : Answer) →
+        (negotiate N.REQUESTS N.meaning K.meaning).resumes old reply answer new →
+        new.kept ≡ old.kept }
+    ensures server { (old new : Negotiation (NegotiatedProtocol N K)) (args : AcceptArgs)
+        (result : Result Step Error) →
         (negotiate N.REQUESTS N.meaning K.meaning).accepts old args result new →
         old.state ≢ states.Initial → StaysPicked (values_of old) (values_of new) }
-    ensures server_configured { (old new : Negotiation (NegotiatedProtocol N K)) (args : AcceptArgs) (result : Result Step Error) →
-        (negotiate N.REQUESTS N.meaning K.meaning).accepts old args result new → StaysConfigured (values_of old) (values_of new) }
+    ensures server_configured { (old new : Negotiation (NegotiatedProtocol N K)) (args : AcceptArgs)
+        (result : Result Step Error) →
+        (negotiate N.REQUESTS N.meaning K.meaning).accepts old args result new → StaysConfigured
+        (values_of old) (values_of new) }
     ensures server_lives { (old new : Negotiation (NegotiatedProtocol N K)) (args : AcceptArgs) (result : Result Step Error) →
         (negotiate N.REQUESTS N.meaning K.meaning).accepts old args result new →
         old.state ≢ states.Initial → LivesOn (hand N.meaning K.meaning) args old.mech new.mech }
 {}
 
-/// A refusal for which no memory is asked is told with its kind, never as want of memory. It is `OutOfSequence` for a client's step on
-/// a server, while a step waits and after the end, for a resume where no step waits, and for a server's step on a client and after
-/// the end; and `InvalidToken` for a server's step whose bytes begin with no token of the form that its state has.
+/// A refusal for which no memory is asked is told with its kind, never as want of memory. It is
+/// `OutOfSequence` for a client's step on a server, while a step waits and after the end, for a
+/// resume where no step waits, and for a server's step on a client and after the end; and
+/// `InvalidToken` for a server's step whose bytes begin with no token of the form that its state
+/// has.
 pub fn refusals_are_exact<N: Mechanism, K: Mechanism>()
-    ensures client { (old new : Negotiation (NegotiatedProtocol N K)) (args : StepArgs) (answer : Answer) →
+    ensures client { (old new : Negotiation (NegotiatedProtocol N K)) (args : StepArgs)
+        (answer : Answer) →
         (negotiate N.REQUESTS N.meaning K.meaning).steps old args answer new →
         TellsKind (client_refusal old.role old.state old.branch) answer }
-    ensures resumed { (old new : Negotiation (NegotiatedProtocol N K)) (reply : Reply) (answer : Answer) →
-        (negotiate N.REQUESTS N.meaning K.meaning).resumes old reply answer new → TellsKind (resumed_refusal old.branch) answer }
-    ensures server { (old new : Negotiation (NegotiatedProtocol N K)) (args : AcceptArgs) (result : Result Step Error) →
+    ensures resumed { (old new : Negotiation (NegotiatedProtocol N K)) (reply : Reply)
+        (answer : Answer) →
+        (negotiate N.REQUESTS N.meaning K.meaning).resumes old reply answer new → TellsKind
+        (resumed_refusal old.branch) answer }
+    ensures server { (old new : Negotiation (NegotiatedProtocol N K)) (args : AcceptArgs)
+        (result : Result Step Error) →
         (negotiate N.REQUESTS N.meaning K.meaning).accepts old args result new →
         TellsKind (server_refusal old.role old.state args.input) (told result) }
 {}
 
 /// Where MICs are needed they stay so, want of memory included: a server's refused step leaves the need as it was, and so does a
-/// resumed step, whatever it answers. A client's first step leaves it, or makes it what the flags of the step say. Behind the first
-/// step, a client's step takes it away only by the server's choice of NTLM, which may be used, for a guest, and a server's only where
-/// the peer is a guest by the name that the mechanism then in hand gives.
+/// resumed step, whatever it answers. A client's first step leaves it, or makes it what the flags
+/// of the step say. Behind the first step, a client's step takes it away only by the server's
+/// choice of NTLM, which may be used, for a guest, and a server's only where the peer is a guest by
+/// the name that the mechanism then in hand gives.
 pub fn mic_need_is_kept<N: Mechanism, K: Mechanism>()
-    ensures client { (old new : Negotiation (NegotiatedProtocol N K)) (args : StepArgs) (answer : Answer) →
+    ensures client { (old new : Negotiation (NegotiatedProtocol N K)) (args : StepArgs)
+        (answer : Answer) →
         (negotiate N.REQUESTS N.meaning K.meaning).steps old args answer new →
         old.state ≢ states.Initial →
         StaysNeeded (excuses_guest (chosen_at old.state args.input) (values_of old) args) (values_of old) (values_of new) }
-    ensures client_first { (old new : Negotiation (NegotiatedProtocol N K)) (args : StepArgs) (answer : Answer) →
+    ensures client_first { (old new : Negotiation (NegotiatedProtocol N K)) (args : StepArgs)
+        (answer : Answer) →
         (negotiate N.REQUESTS N.meaning K.meaning).steps old args answer new →
         old.state ≡ states.Initial → MayNeed args.requirements old.need new.need }
-    ensures resumed { (old new : Negotiation (NegotiatedProtocol N K)) (reply : Reply) (answer : Answer) →
+    ensures resumed { (old new : Negotiation (NegotiatedProtocol N K)) (reply : Reply)
+        (answer : Answer) →
         (negotiate N.REQUESTS N.meaning K.meaning).resumes old reply answer new → new.need ≡ old.need }
-    ensures server { (old new : Negotiation (NegotiatedProtocol N K)) (args : AcceptArgs) (result : Result Step Error) →
+    ensures server { (old new : Negotiation (NegotiatedProtocol N K)) (args : AcceptArgs)
+        (result : Result Step Error) →
         (negotiate N.REQUESTS N.meaning K.meaning).accepts old args result new → OnErr result (new.need ≡ old.need) }
     ensures server_done { (old new : Negotiation (NegotiatedProtocol N K)) (args : AcceptArgs) (step : Step) →
         (negotiate N.REQUESTS N.meaning K.meaning).accepts old args (Ok step) new →

@@ -3,7 +3,8 @@ ghost use Rattle.std.specs.Prelude.{◌≡◌, ◌≢◌, None, IfOk, IfErr};
 ghost use Rattle.sspi_mech.specs.Calls.{no_counts};
 ghost use Rattle.sspi_negotiate.specs.Hand.{hand};
 ghost use Rattle.sspi_negotiate.specs.New.{ForClient, ForServer, packages_in, without_ntlm, without_kerberos};
-ghost use Rattle.sspi_negotiate.specs.New.{first_by, first_in_hand, IsFirst, IsUnmade, Begins, MadeOf, UnmadeOf};
+ghost use Rattle.sspi_negotiate.specs.New.{first_by, first_in_hand, IsFirst, IsUnmade, TellsUnmade};
+ghost use Rattle.sspi_negotiate.specs.New.{Begins, MadeOf, UnmadeOf};
 
 use crate::branch::Branch;
 use crate::negotiate::Negotiate;
@@ -39,6 +40,8 @@ fn make_without_ntlm<N: Mechanism, K: Mechanism>(
     ensures fresh { IfOk result (λ it. (hand N.meaning K.meaning).counts it ≡ no_counts) }
     ensures cause { IfErr result (λ error. error.error_type ≢ ErrorKind.InsufficientMemory →
         IsUnmade (without_ntlm role config.now kerberos) error.error_type) }
+    ensures exact { IfErr result (λ error.
+        TellsUnmade (without_ntlm role config.now kerberos) error.error_type) }
 {
     if !kerberos {
         return Err(Refusal::new(ErrorKind::NoCredentials, Reason::NoPackage));
@@ -66,6 +69,8 @@ fn make_without_kerberos<N: Mechanism, K: Mechanism>(
     ensures fresh { IfOk result (λ it. (hand N.meaning K.meaning).counts it ≡ no_counts) }
     ensures cause { IfErr result (λ error. error.error_type ≢ ErrorKind.InsufficientMemory →
         IsUnmade (without_kerberos config.now ntlm) error.error_type) }
+    ensures exact { IfErr result (λ error.
+        TellsUnmade (without_kerberos config.now ntlm) error.error_type) }
 {
     if ntlm {
         NegotiatedProtocol::new_ntlm(alloc, &config.client_computer_name)
@@ -86,6 +91,8 @@ fn make_first<N: Mechanism, K: Mechanism>(
     ensures fresh { IfOk result (λ it. (hand N.meaning K.meaning).counts it ≡ no_counts) }
     ensures cause { IfErr result (λ error. error.error_type ≢ ErrorKind.InsufficientMemory →
         IsUnmade (first_by role config.now config.now.protocol_config packages) error.error_type) }
+    ensures exact { IfErr result (λ error.
+        TellsUnmade (first_by role config.now config.now.protocol_config packages) error.error_type) }
 {
     match &config.protocol_config {
         ProtocolConfig::Ntlm(_) => {
@@ -122,6 +129,8 @@ fn begin<N: Mechanism, K: Mechanism>(
     ensures fresh { IfOk result (λ it. (hand N.meaning K.meaning).counts it.mech ≡ no_counts) }
     ensures cause { IfErr result (λ error. error.error_type ≢ ErrorKind.InsufficientMemory →
         IsUnmade (first_in_hand role config.now) error.error_type) }
+    ensures exact { IfErr result (λ error.
+        TellsUnmade (first_in_hand role config.now) error.error_type) }
 {
     let packages = packages_in(config);
     let protocol = make_first(alloc, role, config, packages)?;
@@ -155,6 +164,8 @@ impl<N: Mechanism, K: Mechanism> Negotiate<N, K> {
         ensures codeless { IfErr result (λ error. error.nstatus ≡ None) }
         ensures cause { IfErr result (λ error. error.error_type ≢ ErrorKind.InsufficientMemory →
             UnmadeOf (ForClient config.now) error.error_type) }
+        ensures exact { IfErr result (λ error.
+            TellsUnmade (first_in_hand Role.Client config.now) error.error_type) }
     {
         Ok(begin(alloc, Role::Client, config, Vec::new(alloc))?)
     }
@@ -173,6 +184,8 @@ impl<N: Mechanism, K: Mechanism> Negotiate<N, K> {
         ensures codeless { IfErr result (λ error. error.nstatus ≡ None) }
         ensures cause { IfErr result (λ error. error.error_type ≢ ErrorKind.InsufficientMemory →
             UnmadeOf (ForServer config.now auth_data.items) error.error_type) }
+        ensures exact { IfErr result (λ error.
+            TellsUnmade (first_in_hand Role.Server config.now) error.error_type) }
     {
         Ok(begin(alloc, Role::Server, config, auth_data)?)
     }

@@ -1,11 +1,13 @@
 // A client's first step, and what comes of it where it is refused (state Initial).
-ghost use Rattle.std.specs.Prelude.{◌≡◌, ◌≢◌, ◌&&◌, false, true, not, None, Some, OnErr, option_copied};
+ghost use Rattle.std.specs.Prelude.{◌≡◌, ◌≢◌, ◌&&◌, false, true, not, None, Some, OnErr};
+ghost use Rattle.std.specs.Prelude.{option_copied};
 ghost use Rattle.sspi_mech.specs.Answers.{answer_of, IfRefused};
 ghost use Rattle.sspi_mech.specs.Calls.{step_args};
 ghost use Rattle.sspi_mech.specs.Context.{NeitherSealsNorOpens};
 ghost use Rattle.sspi_mech.specs.Answered.{answered};
 ghost use Rattle.sspi_negotiate.specs.Beginning.{SameHand, FallsBy, Falls, FallsResumed};
-ghost use Rattle.sspi_negotiate.specs.Client.{at_initial, first_step, has_begun, begun, offers, falls, falls_back};
+ghost use Rattle.sspi_negotiate.specs.Client.{at_initial, first_step, has_begun, begun, offers};
+ghost use Rattle.sspi_negotiate.specs.Client.{falls, falls_back};
 ghost use Rattle.sspi_negotiate.specs.Client.{steps_again, handle_for, passwords, resumes_opening};
 ghost use Rattle.sspi_negotiate.specs.Does.{Does, Stays, StaysUnmarked, StaysSilent, UnlessMemory, WaitsOn, told};
 ghost use Rattle.sspi_negotiate.specs.Exact.{TellsKind, kind_if};
@@ -152,7 +154,8 @@ impl<N: Mechanism, K: Mechanism> Negotiate<N, K> {
         // The step, and what a refused one leaves.
         ensures step { Does N.meaning K.meaning (begun (values_of self.old) step) self.old (told (answered result)) self.new }
         ensures stays { OnErr result (Stays (values_of self.old) (values_of self.new)) }
-        ensures exact { TellsKind (kind_if (not (has_begun step.status)) ErrorKind.InternalError) (told (answered result)) }
+        ensures exact { TellsKind (kind_if (not (has_begun step.status)) ErrorKind.InternalError)
+            (told (answered result)) }
         // What every answer keeps.
         ensures unused { StaysSilent N.meaning K.meaning self.old self.new }
         ensures unmarked { StaysUnmarked N.meaning K.meaning self.old self.new }

@@ -4,7 +4,8 @@ ghost use Rattle.sspi_mech.specs.Calls.{accept_args};
 ghost use Rattle.sspi_mech.specs.Context.{NeitherSealsNorOpens};
 ghost use Rattle.sspi_mech.specs.Answered.{answered};
 ghost use Rattle.sspi_tokens.specs.Reading.{init_of};
-ghost use Rattle.sspi_negotiate.specs.Does.{Does, Stays, StaysPicked, StaysConfigured, StaysUnmarked, StaysSilent, told};
+ghost use Rattle.sspi_negotiate.specs.Does.{Does, Stays, StaysPicked, StaysConfigured};
+ghost use Rattle.sspi_negotiate.specs.Does.{StaysUnmarked, StaysSilent, told};
 ghost use Rattle.sspi_negotiate.specs.declared.protocol.Protocol.TheVariants as protocols;
 ghost use Rattle.sspi_negotiate.specs.Exact.{TellsKind, unread_refusal, server_refusal};
 ghost use Rattle.sspi_negotiate.specs.Hand.{hand, hand_of};
@@ -99,7 +100,8 @@ impl<N: Mechanism, K: Mechanism> Negotiate<N, K> {
             self.old (told (answered result)) self.new }
         ensures stays { OnErr result (Stays (values_of self.old) (values_of self.new)) }
         ensures need { OnErr result (self.new.need ≡ self.old.need) }
-        ensures exact { TellsKind (server_refusal self.old.role self.old.state args.now.input.now) (told (answered result)) }
+        ensures exact { TellsKind (server_refusal self.old.role self.old.state args.now.input.now)
+            (told (answered result)) }
         // What every answer keeps.
         ensures unused { StaysSilent N.meaning K.meaning self.old self.new }
         ensures first { self.old.state ≡ states.Initial → StaysUnmarked N.meaning K.meaning self.old self.new }
@@ -125,7 +127,8 @@ impl<N: Mechanism, K: Mechanism> Negotiate<N, K> {
             self.old (told (answered result)) self.new }
         ensures stays { OnErr result (Stays (values_of self.old) (values_of self.new)) }
         ensures need { OnErr result (self.new.need ≡ self.old.need) }
-        ensures exact { TellsKind (unread_refusal (init_of args.now.input.now)) (told (answered result)) }
+        ensures exact { TellsKind (unread_refusal (init_of args.now.input.now))
+            (told (answered result)) }
         // What every answer keeps.
         ensures unused { StaysSilent N.meaning K.meaning self.old self.new }
         ensures unmarked { StaysUnmarked N.meaning K.meaning self.old self.new }

@@ -32,7 +32,8 @@ impl<N: Mechanism, K: Mechanism> Negotiate<N, K> {
             self.old (told (answered result)) self.new }
         ensures stays { OnErr result (Stays (values_of self.old) (values_of self.new)) }
         ensures need { OnErr result (self.new.need ≡ self.old.need) }
-        ensures exact { TellsKind (unread_refusal (targ_of args.now.input.now)) (told (answered result)) }
+        ensures exact { TellsKind (unread_refusal (targ_of args.now.input.now))
+            (told (answered result)) }
         // What every answer keeps.
         ensures unused { StaysSilent N.meaning K.meaning self.old self.new }
         ensures picked { StaysPicked (values_of self.old) (values_of self.new) }
@@ -155,7 +156,9 @@ impl<N: Mechanism, K: Mechanism> Negotiate<N, K> {
         ensures step { Does N.meaning K.meaning (excuses (values_of self.old) token name.now) self.old (told (answered result)) self.new }
         ensures stays { OnErr result (Stays (values_of self.old) (values_of self.new)) }
         ensures need { OnErr result (self.new.need ≡ self.old.need) }
-        ensures exact { TellsKind (kind_if (not (is_guest_text (inner_of name.now))) ErrorKind.InvalidToken) (told (answered result)) }
+        ensures exact { TellsKind
+            (kind_if (not (is_guest_text (inner_of name.now))) ErrorKind.InvalidToken)
+            (told (answered result)) }
         // What every answer keeps.
         ensures unused { StaysSilent N.meaning K.meaning self.old self.new }
         ensures picked { StaysPicked (values_of self.old) (values_of self.new) }
@@ -173,7 +176,8 @@ impl<N: Mechanism, K: Mechanism> Negotiate<N, K> {
             self.old (told (answered result)) self.new }
         ensures stays { OnErr result (Stays (values_of self.old) (values_of self.new)) }
         ensures need { OnErr result (self.new.need ≡ self.old.need) }
-        ensures exact { TellsKind (unread_refusal (targ_of args.now.input.now)) (told (answered result)) }
+        ensures exact { TellsKind (unread_refusal (targ_of args.now.input.now))
+            (told (answered result)) }
         // What every answer keeps.
         ensures unused { StaysSilent N.meaning K.meaning self.old self.new }
         ensures picked { StaysPicked (values_of self.old) (values_of self.new) }
