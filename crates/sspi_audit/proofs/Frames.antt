@@ -7,8 +7,8 @@ use Rattle.sspi_credssp.specs.declared.turn.Turn.{Turn}
 use Rattle.sspi_credssp.specs.Noted.{noted_with}
 use Rattle.sspi_credssp.specs.Turn.{ShownFrame}
 use Rattle.sspi_delegate.specs.Turns.{client_state, client_noted, has_turn, server_state, server_noted}
-use Rattle.sspi_audit.specs.Frames.{client_frame, server_frame, own_version, told_by}
-use Rattle.sspi_audit.specs.Standings.{client_before, client_note, server_before, server_note}
+use Rattle.sspi_audit.specs.Frames.{client_before, client_frame, own_version, server_before, server_frame, server_note, told_by}
+use Rattle.sspi_audit.specs.Standings.{client_note}
 
 -- every version is noted
 any_noted : (version : ℕ) → noted_with 0 None version ≡ Some version

@@ -1,11 +1,12 @@
 -- The first turns of a list, read from their end.
 use Rattle.std.proofs.Common.{◌≡◌, ◌<◌, ◌≤◌, ◌+◌, ℕ, ◌⊎◌, inl, inr, List, [], ◌∷◌, ◌++◌, length, take, drop, reverse, get_or, slice_get}
-use Rattle.std.proofs.Common.{Some, sym, ◌∙◌, ap, subst, arith}
+use Rattle.std.proofs.Common.{Some, sym, ◌∙◌, ap, refl, subst, arith}
 use Rattle.std.proofs.lemmas.Bool.{cases_lt}
 use Rattle.std.proofs.lemmas.List.{length-reverse, length-take-le, reverse-append, take_more, take_all, take-append-drop}
 use Rattle.std.proofs.lemmas.Option.{slice_get_within, get_or_from_slice_get}
 use Rattle.sspi_credssp.specs.declared.turn.Turn.{Turn}
 use Rattle.sspi_delegate.specs.declared.carried.Carried.{Carried}
+use Rattle.sspi_audit.specs.Run.{IsLeftBehind, LastLeft}
 use Rattle.sspi_audit.specs.Shown.{ShownTurn, EachShown, IsCounted}
 
 pub next_past : {A : Type 0} (xs : List A) (n : ℕ) (x : A) → slice_get xs n ≡ Some x → reverse (take (n + 1) xs) ≡ x ∷ reverse (take n xs)
@@ -56,3 +57,12 @@ counted_forward turns log counted = record {
   most = subst (λ (n : ℕ). length log ≤ n) (length-reverse turns) counted.most;
   least = subst (λ (n : ℕ). n ≤ length log + 1) (length-reverse turns) counted.least;
 }
+
+-- of the last turn, read from the first one
+pub last_is : (turns : List Turn) (log : List Carried) (place : ℕ) (t : Turn) (e : Carried) → length turns ≡ place + 1 →
+    slice_get turns place ≡ Some t → slice_get log place ≡ Some e → LastLeft (reverse turns) log ≡ IsLeftBehind t.outcome e
+last_is turns log place t e long there entry =
+    let newest : reverse turns ≡ t ∷ reverse (take place turns) =
+    sym (all_past turns (place + 1) (omega (arith, long))) ∙ next_past turns place t there in
+    let before = front_length turns place (slice_get_within turns place t there) in
+    rw (newest, before, entry) refl

@@ -1,7 +1,13 @@
+pub mod Back
+pub mod ClientHeeding
 pub mod Entries
 pub mod Frames
 pub mod Fronts
+pub mod InRuns
 pub mod Logs
+pub mod RunEndings
 pub mod Runs
 pub mod Sealing
+pub mod ServerHeeding
+pub mod Unreadable
 pub mod Weaker

@@ -37,20 +37,20 @@ use Rattle.sspi_audit.proofs.Weaker.{Knows, client_by, server_by}
 
 -- ---- the version that is noted whatever the least is
 
-noted_by : (low : Bool) (version noted : ℕ) → (if low then None else Some version) ≡ Some noted → Some version ≡ Some noted
+pub noted_by : (low : Bool) (version noted : ℕ) → (if low then None else Some version) ≡ Some noted → Some version ≡ Some noted
 noted_by true version noted is = absurd (cc (is))
 noted_by false version noted is = is
 
 noted_any : (least version noted : ℕ) → noted_with least None version ≡ Some noted → noted_with 0 None version ≡ Some noted
 noted_any least version noted is = rw (le-ltb version 0 (omega arith)) (noted_by (nat_lt version least) version noted is)
 
-client_any : (least : ℕ) (turns : List Turn) (noted : ℕ) → client_noted least turns ≡ Some noted → client_noted 0 turns ≡ Some noted
+pub client_any : (least : ℕ) (turns : List Turn) (noted : ℕ) → client_noted least turns ≡ Some noted → client_noted 0 turns ≡ Some noted
 client_any least [] noted is = absurd (cc (is))
 client_any least (t ∷ []) noted is = absurd (cc (is))
 client_any least (t ∷ u ∷ []) noted is = noted_any least t.delivered.version noted is
 client_any least (t ∷ u ∷ v ∷ past) noted is = client_any least (u ∷ v ∷ past) noted is
 
-server_any : (least : ℕ) (turns : List Turn) (noted : ℕ) → server_noted least turns ≡ Some noted → server_noted 0 turns ≡ Some noted
+pub server_any : (least : ℕ) (turns : List Turn) (noted : ℕ) → server_noted least turns ≡ Some noted → server_noted 0 turns ≡ Some noted
 server_any least [] noted is = absurd (cc (is))
 server_any least (t ∷ []) noted is = noted_any least t.delivered.version noted is
 server_any least (t ∷ u ∷ past) noted is = server_any least (u ∷ past) noted is
@@ -138,7 +138,7 @@ module _ {C : Type 0} (c : Meaning ContextSetting C) (laws : IsContext c) where
       let own = own_reply (client_shown (client_frame_at e past t)) e.settings.version t t.outcome refl each.0.shown.reply in
       told_on e.settings.version (own_version past) t.outcome (client_told e past each.1) own.0 own.1
 
-  server_told : (e : ServerEnd C) (past : List Turn) → EachServerTurn c e past →
+  pub server_told : (e : ServerEnd C) (past : List Turn) → EachServerTurn c e past →
       (own_version past ≡ None) ⊎ (own_version past ≡ Some e.settings.version)
   server_told e [] each = inl refl
   server_told e (t ∷ past) each =

@@ -35,3 +35,25 @@ server_frame past t = record {
   noted = server_noted 0 (t ∷ past);
   version = own_version past;
 }
+
+-- what is known of an end once these turns of it are over
+abbrev pub client_before : List Turn → ShownFrame
+client_before past = record {
+  state = client_state past;
+  looks = has_turn past;
+  noted = client_noted 0 past;
+  version = own_version past;
+}
+
+abbrev pub server_before : List Turn → ShownFrame
+server_before past = record {
+  state = server_state past;
+  looks = true;
+  noted = server_noted 0 past;
+  version = own_version past;
+}
+
+-- the version that a server has noted once it was given one more request
+abbrev pub server_note : Option ℕ → ℕ → Option ℕ
+server_note None version = Some version
+server_note (Some noted) version = Some noted

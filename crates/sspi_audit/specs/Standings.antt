@@ -1,38 +1,15 @@
 -- What an auditor keeps between two turns, by the turns so far, the newest first.
 use Rattle.std.specs.Prelude.{◌≡◌, ◌↔◌, ℕ, List, Option, None, Some, IsTrue, Bool, true, false}
 use Rattle.sspi_credssp.specs.declared.turn.Turn.{Turn}
-use Rattle.sspi_credssp.specs.Turn.{ShownFrame}
-use Rattle.sspi_delegate.specs.Turns.{client_state, client_noted, has_turn, server_state, server_noted}
 use Rattle.sspi_delegate.specs.Turns.{client_turns, server_turns, next_end, AllGoOn}
-use Rattle.sspi_audit.specs.Frames.{own_version}
+use Rattle.sspi_audit.specs.Frames.{client_before, server_before}
 use Rattle.sspi_audit.specs.declared.standing.Standing.{Standing}
 
--- what is known of an end once these turns of it are over
-abbrev pub client_before : List Turn → ShownFrame
-client_before past = record {
-  state = client_state past;
-  looks = has_turn past;
-  noted = client_noted 0 past;
-  version = own_version past;
-}
-
-abbrev pub server_before : List Turn → ShownFrame
-server_before past = record {
-  state = server_state past;
-  looks = true;
-  noted = server_noted 0 past;
-  version = own_version past;
-}
-
--- the version that an end has noted once it was given one more request: a client does not look at its first
+-- the version that a client has noted once it was given one more request: it does not look at its first
 abbrev pub client_note : Bool → Option ℕ → ℕ → Option ℕ
 client_note looks (Some noted) version = Some noted
 client_note true None version = Some version
 client_note false None version = None
-
-abbrev pub server_note : Option ℕ → ℕ → Option ℕ
-server_note None version = Some version
-server_note (Some noted) version = Some noted
 
 -- the turn that sealed, after the turn of this number
 abbrev pub sealing_after : Bool → ℕ → Option ℕ → Option ℕ

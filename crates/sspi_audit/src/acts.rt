@@ -75,7 +75,7 @@ fn has_full_length(nonce: &[u8]) -> bool
 }
 
 /// From version 5 on there is a nonce.
-fn has_nonce(noted: Option<u32>, nonce: &Option<[u8; 32]>) -> bool
+pub(crate) fn has_nonce(noted: Option<u32>, nonce: &Option<[u8; 32]>) -> bool
     ensures { IsTrue result ↔ AtNoted noted (λ noted. HasNonce (nat_lt noted 5) nonce.now) }
 {
     match (noted, nonce) {

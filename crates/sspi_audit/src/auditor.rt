@@ -45,14 +45,14 @@ pub fn audit(alloc: Global, turns: &[Turn], log: &[Carried]) -> Result<Verdict, 
 }
 
 /// The turn that sealed, after the turn of this number.
-fn sealing_after(sealed: bool, place: usize, sealing: Option<u64>) -> Option<u64>
+pub(crate) fn sealing_after(sealed: bool, place: usize, sealing: Option<u64>) -> Option<u64>
     ensures { result ≡ sealing_after sealed place sealing }
 {
     if sealed { Some(place as u64) } else { sealing }
 }
 
 /// As many entries as turns, or one less.
-fn are_counted(turns: usize, entries: usize) -> bool
+pub(crate) fn are_counted(turns: usize, entries: usize) -> bool
     ensures { IsTrue result ↔ (entries ≤ turns) × (turns ≤ entries + 1) }
 {
     entries <= turns && turns - entries <= 1

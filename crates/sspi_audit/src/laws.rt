@@ -1,14 +1,22 @@
-//! What an auditor finds of what `delegate` leaves.
-ghost use Rattle.std.specs.Prelude.{List};
+//! What an auditor finds of what `delegate` leaves, and what its yes implies.
+ghost use Rattle.std.specs.Prelude.{ℕ, List, [], reverse, Result};
+ghost use Rattle.sspi_credssp.specs.declared.context.SspiContext.{SspiContext};
 ghost use Rattle.sspi_credssp.specs.declared.turn.Turn.{Turn};
 ghost use Rattle.sspi_credssp.specs.Ends.{ClientView, ServerView};
 ghost use Rattle.sspi_credssp.specs.Context.{either};
+ghost use Rattle.sspi_delegate.specs.declared.answer.DelegateError.{DelegateError};
+ghost use Rattle.sspi_delegate.specs.declared.answer.Delegation.{Delegation};
 ghost use Rattle.sspi_delegate.specs.declared.carried.Carried.{Carried};
-ghost use Rattle.sspi_delegate.specs.Headline.{IsRun};
-ghost use Rattle.sspi_audit.specs.Left.{LeavesShown};
+ghost use Rattle.sspi_delegate.specs.Headline.{around_by, Delegates, IsFresh, IsRun, Parties};
+ghost use Rattle.sspi_delegate.specs.Log.{HasLog};
+ghost use Rattle.sspi_delegate.specs.Turns.{Alternates};
+ghost use Rattle.sspi_audit.specs.Left.{LeavesRun, LeavesShown};
+ghost use Rattle.sspi_audit.specs.Run.{IsShownRun};
+ghost use Rattle.sspi_audit.specs.Shown.{ShownRun};
 
 use sspi_credssp::{CredentialsProxy, SspiContext, context_keeps_laws};
-use sspi_mech::Mechanism;
+use sspi_delegate::Link;
+use sspi_mech::{Kdc, Mechanism};
 
 /// A run of two ends is shown right: of what `delegate` leaves of two fresh ends, its turns and the entries that
 /// it added to the log, `audit` says yes, or memory was wanting.
@@ -19,3 +27,21 @@ pub fn delegation_is_shown<N: Mechanism, K: Mechanism, C: CredentialsProxy>()
 {
     context_keeps_laws::<N, K>();
 }
+
+/// What `delegate` promises of two fresh ends, whatever its answer, is shown as a run: of its turns and the entries that it added to the
+/// log, `audit_run` says yes, or memory was wanting.
+pub fn delegation_is_a_shown_run<N: Mechanism, K: Mechanism, C: CredentialsProxy, L: Link, D: Kdc>()
+    ensures { (old new : Parties (SspiContext N K) C L D) (limit : ℕ) (result : Result Delegation DelegateError) →
+        IsFresh old.client old.server → Delegates (either N.REQUESTS N.meaning K.meaning)
+        (around_by C.meaning L.log L.edits L.faults D.told D.asked D.faults) old limit result new →
+        LeavesRun (L.log old.link) (L.log new.link) new.turns }
+{
+    context_keeps_laws::<N, K>();
+}
+
+/// What is shown as a run is shown right: where `audit_run` says yes, `audit` does. Its ends take turns, none after one that ended the
+/// exchange, and turns and log belong together as those of a run whose link had carried nothing before.
+pub fn a_shown_run_is_shown()
+    ensures shown { (turns : List Turn) (log : List Carried) → IsShownRun turns log → ShownRun turns log }
+    ensures run { (turns : List Turn) (log : List Carried) → IsShownRun turns log → Alternates turns × HasLog [] turns (reverse log) }
+{}

@@ -1,11 +1,13 @@
 //! An auditor of recorded CredSSP exchanges (MS-CSSP 3.1.5): does a record have what recorded bytes can show of a run, and in which turn
 //! were the credentials handed over?
 //!
-//! `audit` reads turns and log entries, whoever recorded them. It needs no key, no nonce and no context, and so it cannot tell that two
-//! ends made them: a yes is of the record alone. What two ends left of a run is always such a record (`laws`).
+//! `audit` and the stricter `audit_run` read turns and log entries, whoever recorded them. They need no key, no nonce and no context, and
+//! so they cannot tell that two ends made them: a yes is of the record alone. What two ends left of a run gets yes of both (`laws`).
+//! `audit_run` asks all that recorded bytes can show of a run; `audit` does not ask a refused turn what it was told.
 //!
 //! - `specs/Shown.antt`: what it takes for turns and a log to be shown right.
-//! - `specs/Verdicts.antt`: what each verdict means.
+//! - `specs/Run.antt`, `specs/Refusals.antt`: what it takes besides for them to be shown as a run.
+//! - `specs/Verdicts.antt`, `specs/RunVerdicts.antt`: what each verdict means.
 #![tactic(auto)]
 
 mod acts;
@@ -14,10 +16,14 @@ mod client;
 mod entry;
 mod fields;
 mod frame;
+mod heeds;
 pub mod laws;
+mod refusals;
+pub mod run;
 mod server;
 mod standing;
 pub mod verdict;
 
 pub use auditor::audit;
+pub use run::audit_run;
 pub use verdict::Verdict;

@@ -4,15 +4,17 @@ ghost use Rattle.sspi_credssp.specs.declared.turn.Turn.{Turn};
 ghost use Rattle.sspi_delegate.specs.Turns.{client_state, is_over, server_state};
 ghost use Rattle.sspi_delegate.specs.Log.{IsEntry};
 ghost use Rattle.sspi_delegate.specs.Turns.{AllGoOn, GoesOn, next_end};
-ghost use Rattle.sspi_audit.specs.Frames.{client_frame, server_frame, told_by};
+ghost use Rattle.sspi_audit.specs.Frames.{client_before, client_frame, server_before, server_frame, server_note, told_by};
+ghost use Rattle.sspi_audit.specs.Run.{HeedsPeer, RunTurn};
 ghost use Rattle.sspi_audit.specs.Shown.{HasLongBlobs, IsGiven, ShownTurn, ShowsTurn};
-ghost use Rattle.sspi_audit.specs.Standings.{client_before, client_note, server_before, server_note, Stands};
+ghost use Rattle.sspi_audit.specs.Standings.{client_note, Stands};
 ghost use Rattle.sspi_types.specs.Errors.{memory_error};
 
 use crate::client::shows_client;
 use crate::entry::{gives, is_entry};
 use crate::fields::is_long;
 use crate::frame::Frame;
+use crate::heeds::{client_heeds, server_heeds};
 use crate::server::shows_server;
 use sspi_credssp::{CredSspState, End, Outcome, Turn};
 use sspi_delegate::Carried;
@@ -90,7 +92,7 @@ fn server_at(before: &Frame, turn: &Turn) -> Frame
     }
 }
 
-fn server_note(noted: Option<u32>, version: u32) -> Option<u32>
+pub(crate) fn server_note(noted: Option<u32>, version: u32) -> Option<u32>
     ensures { result ≡ server_note noted version }
 {
     match noted {
@@ -256,6 +258,35 @@ impl Standing {
     {
         if self.allows(turn) && has_long_blobs(turn) {
             is_logged(alloc, place, turn, log)
+        } else {
+            Ok(false)
+        }
+    }
+
+    /// By what is known of its end before it, this turn heeds its peer.
+    fn heeds(&self, turn: &Turn) -> bool
+        ensures { (past : List Turn) → Stands past self.now → (IsTrue result ↔ HeedsPeer turn.now.end past turn.now) }
+    {
+        match turn.end {
+            End::Client => client_heeds(&self.client, turn),
+            End::Server => server_heeds(&self.server, turn),
+        }
+    }
+
+    /// The next turn of a run, after so many, may be this one.
+    pub fn judges_run(
+        &self,
+        alloc: Global,
+        place: usize,
+        turn: &Turn,
+        log: &[Carried],
+    ) -> Result<bool, Error>
+        ensures judges { IfOk result (λ shown. (past : List Turn) → Stands past self.now → length past ≡ place →
+            (IsTrue shown ↔ RunTurn log.now past turn.now)) }
+        ensures only { IfErr result (λ error. error ≡ memory_error) }
+    {
+        if self.heeds(turn) {
+            self.judges(alloc, place, turn, log)
         } else {
             Ok(false)
         }

@@ -4,4 +4,5 @@ mod negotiated_changes;
 mod ntlm;
 mod ntlm_changes;
 mod records;
+mod runs;
 mod tables;

@@ -4,9 +4,10 @@
 //! of the log. Octets are a name or hex, where `~` behind a name alters the last octet, `*` repeats so often and `+` adds what follows. A
 //! request is the name of a message, with changes of its fields behind `;`. An act behind `!` is taken away again.
 //!
-//! A case is the verdict, the turns and the entries by their names, and what is changed in these, as `4.acts=checked`.
+//! A case is the verdict, the turns and the entries by their names, and what is changed in these, as `4.acts=checked`. A case of both
+//! calls has the verdict of `audit` and then that of `audit_run`.
 
-use sspi_audit::{Verdict, audit};
+use sspi_audit::{Verdict, audit, audit_run};
 use sspi_credssp::{Acts, End, Outcome, Turn};
 use sspi_delegate::Carried;
 use sspi_tsreq::TsRequest;
@@ -230,6 +231,10 @@ fn kind(rt: &impl Abort, name: &str) -> ErrorKind {
         "InvalidToken" => ErrorKind::InvalidToken,
         "LogonDenied" => ErrorKind::LogonDenied,
         "MessageAltered" => ErrorKind::MessageAltered,
+        "InsufficientMemory" => ErrorKind::InsufficientMemory,
+        "DowngradeDetected" => ErrorKind::DowngradeDetected,
+        "OutOfSequence" => ErrorKind::OutOfSequence,
+        "InternalError" => ErrorKind::InternalError,
         _ => rt.abort(),
     }
 }
@@ -332,6 +337,20 @@ pub fn found(rt: &impl Test, record: Record<'_>, turn_names: &str, entry_names: 
     given(rt, audit(rt.alloc(), &turns, &log))
 }
 
+/// The verdicts of `audit` and of `audit_run` on the same.
+fn both_found(
+    rt: &impl Test,
+    record: Record<'_>,
+    turn_names: &str,
+    entry_names: &str,
+) -> (Verdict, Verdict) {
+    change_fields(rt, record);
+    let turns = turns(rt, record, turn_names);
+    let log = log(rt, record, entry_names);
+    let shown = given(rt, audit(rt.alloc(), &turns, &log));
+    (shown, given(rt, audit_run(rt.alloc(), &turns, &log)))
+}
+
 fn is_judged(rt: &impl Test, exchange: &str, case: &str) {
     let (wanted, rest) = first(case);
     let (turn_names, rest) = first(rest);
@@ -344,5 +363,22 @@ fn is_judged(rt: &impl Test, exchange: &str, case: &str) {
 pub fn are_judged(rt: &impl Test, exchange: &str, cases: &str) {
     for case in cases.lines() {
         is_judged(rt, exchange, case);
+    }
+}
+
+fn is_judged_by_both(rt: &impl Test, exchange: &str, case: &str) {
+    let (shown, rest) = first(case);
+    let (run, rest) = first(rest);
+    let (turn_names, rest) = first(rest);
+    let (entry_names, changes) = first(rest);
+    let found = both_found(rt, Record { exchange, changes }, turn_names, entry_names);
+    assert!(rt; found.0 == verdict(rt, shown), "audit of {case}");
+    assert!(rt; found.1 == verdict(rt, run), "audit_run of {case}");
+}
+
+/// Each case is judged by both calls as it says.
+pub fn are_judged_by_both(rt: &impl Test, exchange: &str, cases: &str) {
+    for case in cases.lines() {
+        is_judged_by_both(rt, exchange, case);
     }
 }

@@ -1,0 +1,84 @@
+//! The auditor of whole runs: what `audit` asks, and all else that recorded bytes can show of two ends.
+ghost use Rattle.std.specs.Prelude.{◌≡◌, ◌↔◌, List, length, reverse, slice_get, false, [], IsTrue, IfOk, IfErr, IfSome};
+ghost use Rattle.sspi_credssp.specs.declared.turn.Turn.{Turn};
+ghost use Rattle.sspi_audit.specs.Run.{IsLeftBehind, LastLeft, LogEnds};
+ghost use Rattle.sspi_audit.specs.RunVerdicts.{JudgesRun};
+ghost use Rattle.sspi_types.specs.Errors.{memory_error};
+
+use crate::auditor::{are_counted, sealing_after};
+use crate::standing::Standing;
+use crate::verdict::Verdict;
+use sspi_credssp::{Outcome, Turn};
+use sspi_delegate::{Carried, DELIVERY_LIMIT};
+use sspi_types::Error;
+use std::alloc::Global;
+
+/// Judges recorded turns and the log of the link that carried their messages, the oldest first, as a run of two ends.
+///
+/// `Yes` exactly where they have all that recorded bytes can show of a run (`specs/Run.antt`). Beside what `audit` asks:
+///
+/// - A turn that was told an error or another version than the noted one did nothing, and was refused for that.
+/// - A refused turn has a kind with which a turn of its acts can end.
+/// - A turn in which no step answered has no token.
+/// - A server opened a proof from version 5 on only with a nonce; its error request has the version that it then owes.
+/// - Of the last delivery, which no turn was given, no more than `DELIVERY_LIMIT` bytes were taken; of that of a refusal nothing.
+///
+/// What `delegate` leaves of two fresh ends gets `Yes` (`laws`). Use `audit` for records whose refused turns were written by others.
+/// Neither asks what a record cannot show: what was sealed, keys, nonces and contexts. The verdict names the only turn in which the
+/// client is recorded to have sealed its credentials.
+///
+/// `No` names the first turn at fault; or it is the number of turns, where the entries are too many or too few, or of the last delivery
+/// too much was taken.
+///
+/// The only refusal is `InsufficientMemory`, without a status. What no clause says: the time is linear in the octets of turns and log,
+/// and the memory at most that of one of their messages.
+pub fn audit_run(alloc: Global, turns: &[Turn], log: &[Carried]) -> Result<Verdict, Error>
+    ensures judges { IfOk result (JudgesRun turns.now log.now) }
+    ensures only { IfErr result (λ error. error ≡ memory_error) }
+{
+    let mut standing = Standing::new();
+    let mut sealing = None;
+    for (place, turn) in turns.iter().enumerate() {
+        if !standing.judges_run(alloc, place, turn, log)? {
+            return Ok(Verdict::No(place as u64));
+        }
+        sealing = sealing_after(turn.acts.sealed, place, sealing);
+        standing.pass(turn);
+    }
+    if log_ends(turns, log) {
+        Ok(Verdict::Yes(sealing))
+    } else {
+        Ok(Verdict::No(turns.len() as u64))
+    }
+}
+
+/// As many entries as turns, or one less, and of the last delivery no more was taken than an end takes.
+fn log_ends(turns: &[Turn], log: &[Carried]) -> bool
+    ensures { IsTrue result ↔ LogEnds (reverse turns.now) log.now }
+{
+    are_counted(turns.len(), log.len()) && last_left(turns, log)
+}
+
+fn last_left(turns: &[Turn], log: &[Carried]) -> bool
+    ensures { IsTrue result ↔ LastLeft (reverse turns.now) log.now }
+{
+    let Some(place) = turns.len().checked_sub(1) else {
+        return true;
+    };
+    match log.get(place) {
+        None => true,
+        Some(entry) => is_left_behind(&turns[place].outcome, entry),
+    }
+}
+
+/// What was taken of the delivery that no later turn was given.
+fn is_left_behind(outcome: &Outcome, entry: &Carried) -> bool
+    ensures { IsTrue result ↔ IsLeftBehind outcome.now entry.now }
+{
+    match outcome {
+        Outcome::Reply(_) => entry.delivered.len() <= DELIVERY_LIMIT,
+        Outcome::Final(_) => entry.delivered.len() <= DELIVERY_LIMIT,
+        Outcome::Finished => true,
+        Outcome::Refused(_, _) => entry.delivered.is_empty() && !entry.ended,
+    }
+}
