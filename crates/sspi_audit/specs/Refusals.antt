@@ -1,6 +1,7 @@
--- With which kinds a turn that did these acts can have been refused, as far as recorded bytes show it (MS-CSSP 3.1.5). An end looks at
--- a request in a fixed order: the reported error, the version, and what its state wants. What it looks at before it takes memory or
--- asks its context has one kind; a context may refuse with any, and from the version on memory may be wanting.
+-- With which kinds a turn that did these acts can have been refused, as far as recorded bytes show
+-- it (MS-CSSP 3.1.5). An end looks at a request in a fixed order: the reported error, the version,
+-- and what its state wants. What it looks at before it takes memory or asks its context has one
+-- kind; a context may refuse with any, and from the version on memory may be wanting.
 use Rattle.std.specs.Prelude.{◌≡◌, ◌⊎◌, ℕ, Option, None, Some, Bool, true, false, nat_lt}
 use Rattle.sspi_types.specs.declared.error_kind.ErrorKind.{ErrorKind}
 use Rattle.sspi_types.specs.declared.error_kind.ErrorKind.TheVariants.{DowngradeDetected, InternalError, InvalidParameter, InvalidToken}
@@ -19,19 +20,22 @@ use Rattle.sspi_credssp.specs.Requests.{is_code}
 use Rattle.sspi_credssp.specs.ServerCause.{lacks_nonce}
 use Rattle.sspi_credssp.specs.Turn.{ShownFrame}
 
--- f: what is known of the end before the turn. A client looks at versions from its second turn on, and a server has noted one from then.
+-- f: what is known of the end before the turn. A client looks at versions from its second turn on,
+-- and a server has noted one from then.
 
 -- ---- a client (MS-CSSP 3.1.5.1)
 
--- the server's first version is too old: the client looks at it in its second turn, and does nothing then
+-- the server's first version is too old: the client looks at it in its second turn, and does
+-- nothing then
 pub record FindsOldServer (f : ShownFrame) (t : Turn) (kind : ErrorKind) : Type 0 where
   pub looks : f.looks ≡ true
   pub unnoted : f.noted ≡ None
   pub acts : t.acts ≡ no_acts
   pub downgrade : kind ≡ DowngradeDetected
 
--- in the authentication: the step was refused, or in the first turn no context was made; or the client was authenticated, and its proof
--- was not made, which in the first turn is for want of a noted version
+-- in the authentication: the step was refused, or in the first turn no context was made; or the
+-- client was authenticated, and its proof was not made, which in the first turn is for want of a
+-- noted version
 abbrev pub TokenRefused : ShownFrame → Acts → Option SecurityStatus → ErrorKind → Type 0
 TokenRefused f acts None kind = acts.negotiated ≡ false → f.looks ≡ false
 TokenRefused f acts (Some statuses.Ok) kind = f.looks ≡ false → kind ≡ InternalError
@@ -52,8 +56,9 @@ ClientRefuses f t kind =
 
 -- ---- a server (MS-CSSP 3.1.5.2)
 
--- in the authentication: the step was refused, or in the first turn no context was made, or the client's version was too old; or the
--- client was authenticated and its name or its proof refused; or the step came to a status that no server goes on with
+-- in the authentication: the step was refused, or in the first turn no context was made, or the
+-- client's version was too old; or the client was authenticated and its name or its proof refused;
+-- or the step came to a status that no server goes on with
 abbrev pub TokenRefusedBack : ShownFrame → Acts → Option SecurityStatus → ErrorKind → Type 0
 TokenRefusedBack f acts None kind = acts.negotiated ≡ false → f.noted ≡ None
 TokenRefusedBack f acts (Some statuses.ContinueNeeded) kind = ⊥
@@ -67,7 +72,8 @@ ProofRefusedBack None d kind = ⊥
 ProofRefusedBack (Some noted) d kind =
     StopsIf (lacks_nonce (nat_lt noted 5) d.client_nonce) InvalidToken kind (BlobStops d.pub_key_auth kind (λ blob. Unit {0}))
 
--- credentials that were opened are no TSCredentials, no password, no UTF-16, or no name (MS-CSSP 2.2.1.2)
+-- credentials that were opened are no TSCredentials, no password, no UTF-16, or no name (MS-CSSP
+-- 2.2.1.2)
 abbrev pub AreUnreadable : ErrorKind → Type 0
 AreUnreadable kind = (kind ≡ InvalidToken) ⊎ ((kind ≡ UnsupportedFunction) ⊎ (kind ≡ InvalidParameter))
 

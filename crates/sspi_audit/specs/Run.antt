@@ -1,6 +1,6 @@
--- All that recorded bytes can show of a run of two ends, whatever key, nonce and context stand behind it (MS-CSSP 3.1.5): what is shown
--- of each turn, what its end heeds and how it refuses, and what was taken of the last delivery. Turns are the newest first, the log is
--- the oldest first.
+-- All that recorded bytes can show of a run of two ends, whatever key, nonce and context stand
+-- behind it (MS-CSSP 3.1.5): what is shown of each turn, what its end heeds and how it refuses, and
+-- what was taken of the last delivery. Turns are the newest first, the log is the oldest first.
 use Rattle.std.specs.Prelude.{◌≡◌, ◌≤◌, ℕ, Option, None, Some, true, false, List, [], ◌∷◌, length, nat_lt, slice_get, IfSome}
 use Rattle.std.specs.Prelude.{if◌then◌else◌}
 use Rattle.sspi_types.specs.declared.error_kind.ErrorKind.{ErrorKind}
@@ -30,14 +30,16 @@ IfRefused (outcome.Refused kind reply) P = P kind
 
 -- f: what is known of the end before the turn
 
--- told an error, or another version than the noted one, a client does nothing; and a step without an answer gives no token
+-- told an error, or another version than the noted one, a client does nothing; and a step without
+-- an answer gives no token
 pub record ClientHeeds (f : ShownFrame) (t : Turn) : Type 0 where
   pub told : is_code t.delivered.error_code ≡ true → t.acts ≡ no_acts
   pub altered : differs f.noted t.delivered.version ≡ true → t.acts ≡ no_acts
   pub unanswered : t.acts.status ≡ None → t.output ≡ []
   pub refused : IfRefused t.outcome (ClientRefuses f t)
 
--- the version of an error request of a server whose own version is known: the delivered one where it is not the noted one
+-- the version of an error request of a server whose own version is known: the delivered one where
+-- it is not the noted one
 abbrev pub TellsVersion : Option ℕ → Option ℕ → ℕ → ℕ → Type 0
 TellsVersion None noted delivered version = Unit {0}
 TellsVersion (Some own) noted delivered version = version ≡ (if differs noted delivered then delivered else own)
@@ -46,7 +48,8 @@ abbrev pub ErrorTells : ShownFrame → TsRequest → Outcome → Type 0
 ErrorTells f d (outcome.Refused kind (Some reply)) = TellsVersion f.version f.noted d.version reply.version
 ErrorTells f d other = Unit {0}
 
--- told another version than the noted one, a server does nothing; from version 5 on it opens no proof without a nonce
+-- told another version than the noted one, a server does nothing; from version 5 on it opens no
+-- proof without a nonce
 pub record ServerHeeds (f : ShownFrame) (t : Turn) : Type 0 where
   pub altered : differs f.noted t.delivered.version ≡ true → t.acts ≡ no_acts
   pub unanswered : t.acts.status ≡ None → t.output ≡ []
@@ -68,8 +71,8 @@ abbrev pub EachRunTurn : List Carried → List Turn → Type 0
 EachRunTurn log [] = Unit {0}
 EachRunTurn log (t ∷ past) = RunTurn log past t × EachRunTurn log past
 
--- what was taken of the delivery of a turn's message that no later turn was given: up to the limit; of a refusal nothing, since no end
--- reads on
+-- what was taken of the delivery of a turn's message that no later turn was given: up to the limit;
+-- of a refusal nothing, since no end reads on
 abbrev pub IsLeftBehind : Outcome → Carried → Type 0
 IsLeftBehind (outcome.Reply reply) e = length e.delivered ≤ delivery_limit
 IsLeftBehind (outcome.Final reply) e = length e.delivered ≤ delivery_limit

@@ -18,8 +18,8 @@ use sspi_credssp::{CredentialsProxy, SspiContext, context_keeps_laws};
 use sspi_delegate::Link;
 use sspi_mech::{Kdc, Mechanism};
 
-/// A run of two ends is shown right: of what `delegate` leaves of two fresh ends, its turns and the entries that
-/// it added to the log, `audit` says yes, or memory was wanting.
+/// A run of two ends is shown right: of what `delegate` leaves of two fresh ends, its turns and the
+/// entries that it added to the log, `audit` says yes, or memory was wanting.
 pub fn delegation_is_shown<N: Mechanism, K: Mechanism, C: CredentialsProxy>()
     ensures { (client client2 : ClientView (SspiContext N K)) (server server2 : ServerView (SspiContext N K) C) (base log : List Carried)
         (turns : List Turn) → IsRun (either N.REQUESTS N.meaning K.meaning) client client2 server server2 base log turns →
@@ -28,8 +28,8 @@ pub fn delegation_is_shown<N: Mechanism, K: Mechanism, C: CredentialsProxy>()
     context_keeps_laws::<N, K>();
 }
 
-/// What `delegate` promises of two fresh ends, whatever its answer, is shown as a run: of its turns and the entries that it added to the
-/// log, `audit_run` says yes, or memory was wanting.
+/// What `delegate` promises of two fresh ends, whatever its answer, is shown as a run: of its turns
+/// and the entries that it added to the log, `audit_run` says yes, or memory was wanting.
 pub fn delegation_is_a_shown_run<N: Mechanism, K: Mechanism, C: CredentialsProxy, L: Link, D: Kdc>()
     ensures { (old new : Parties (SspiContext N K) C L D) (limit : ℕ) (result : Result Delegation DelegateError) →
         IsFresh old.client old.server → Delegates (either N.REQUESTS N.meaning K.meaning)
@@ -39,8 +39,9 @@ pub fn delegation_is_a_shown_run<N: Mechanism, K: Mechanism, C: CredentialsProxy
     context_keeps_laws::<N, K>();
 }
 
-/// What is shown as a run is shown right: where `audit_run` says yes, `audit` does. Its ends take turns, none after one that ended the
-/// exchange, and turns and log belong together as those of a run whose link had carried nothing before.
+/// What is shown as a run is shown right: where `audit_run` says yes, `audit` does. Its ends take
+/// turns, none after one that ended the exchange, and turns and log belong together as those of a
+/// run whose link had carried nothing before.
 pub fn a_shown_run_is_shown()
     ensures shown { (turns : List Turn) (log : List Carried) → IsShownRun turns log → ShownRun turns log }
     ensures run { (turns : List Turn) (log : List Carried) → IsShownRun turns log → Alternates turns × HasLog [] turns (reverse log) }

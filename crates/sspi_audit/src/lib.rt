@@ -1,9 +1,10 @@
-//! An auditor of recorded CredSSP exchanges (MS-CSSP 3.1.5): does a record have what recorded bytes can show of a run, and in which turn
-//! were the credentials handed over?
+//! An auditor of recorded CredSSP exchanges (MS-CSSP 3.1.5): does a record have what recorded bytes
+//! can show of a run, and in which turn were the credentials handed over?
 //!
-//! `audit` and the stricter `audit_run` read turns and log entries, whoever recorded them. They need no key, no nonce and no context, and
-//! so they cannot tell that two ends made them: a yes is of the record alone. What two ends left of a run gets yes of both (`laws`).
-//! `audit_run` asks all that recorded bytes can show of a run; `audit` does not ask a refused turn what it was told.
+//! `audit` and the stricter `audit_run` read turns and log entries, whoever recorded them. They
+//! need no key, no nonce and no context, and so they cannot tell that two ends made them: a yes is
+//! of the record alone. What two ends left of a run gets yes of both (`laws`). `audit_run` asks all
+//! that recorded bytes can show of a run; `audit` does not ask a refused turn what it was told.
 //!
 //! - `specs/Shown.antt`: what it takes for turns and a log to be shown right.
 //! - `specs/Run.antt`, `specs/Refusals.antt`: what it takes besides for them to be shown as a run.

@@ -1,4 +1,5 @@
-//! The auditor of whole runs: what `audit` asks, and all else that recorded bytes can show of two ends.
+//! The auditor of whole runs: what `audit` asks, and all else that recorded bytes can show of two
+//! ends.
 ghost use Rattle.std.specs.Prelude.{◌≡◌, ◌↔◌, List, length, reverse, slice_get, false, [], IsTrue, IfOk, IfErr, IfSome};
 ghost use Rattle.sspi_credssp.specs.declared.turn.Turn.{Turn};
 ghost use Rattle.sspi_audit.specs.Run.{IsLeftBehind, LastLeft, LogEnds};
@@ -13,25 +14,31 @@ use sspi_delegate::{Carried, DELIVERY_LIMIT};
 use sspi_types::Error;
 use std::alloc::Global;
 
-/// Judges recorded turns and the log of the link that carried their messages, the oldest first, as a run of two ends.
+/// Judges recorded turns and the log of the link that carried their messages, the oldest first, as
+/// a run of two ends.
 ///
-/// `Yes` exactly where they have all that recorded bytes can show of a run (`specs/Run.antt`). Beside what `audit` asks:
+/// `Yes` exactly where they have all that recorded bytes can show of a run (`specs/Run.antt`).
+/// Beside what `audit` asks:
 ///
-/// - A turn that was told an error or another version than the noted one did nothing, and was refused for that.
+/// - A turn that was told an error or another version than the noted one did nothing, and was
+///   refused for that.
 /// - A refused turn has a kind with which a turn of its acts can end.
 /// - A turn in which no step answered has no token.
-/// - A server opened a proof from version 5 on only with a nonce; its error request has the version that it then owes.
-/// - Of the last delivery, which no turn was given, no more than `DELIVERY_LIMIT` bytes were taken; of that of a refusal nothing.
+/// - A server opened a proof from version 5 on only with a nonce; its error request has the version
+///   that it then owes.
+/// - Of the last delivery, which no turn was given, no more than `DELIVERY_LIMIT` bytes were taken;
+///   of that of a refusal nothing.
 ///
-/// What `delegate` leaves of two fresh ends gets `Yes` (`laws`). Use `audit` for records whose refused turns were written by others.
-/// Neither asks what a record cannot show: what was sealed, keys, nonces and contexts. The verdict names the only turn in which the
-/// client is recorded to have sealed its credentials.
+/// What `delegate` leaves of two fresh ends gets `Yes` (`laws`). Use `audit` where a recorder does
+/// not keep refused turns as the ends left them. Neither asks what a record cannot show: what was
+/// sealed, keys, nonces and contexts. The verdict names the only turn in which the client is
+/// recorded to have sealed its credentials.
 ///
-/// `No` names the first turn at fault; or it is the number of turns, where the entries are too many or too few, or of the last delivery
-/// too much was taken.
+/// `No` names the first turn at fault; or it is the number of turns, where the entries are too many
+/// or too few, or of the last delivery too much was taken.
 ///
-/// The only refusal is `InsufficientMemory`, without a status. What no clause says: the time is linear in the octets of turns and log,
-/// and the memory at most that of one of their messages.
+/// The only refusal is `InsufficientMemory`, without a status. What no clause says: the time is
+/// linear in the octets of turns and log, and the memory at most that of one of their messages.
 pub fn audit_run(alloc: Global, turns: &[Turn], log: &[Carried]) -> Result<Verdict, Error>
     ensures judges { IfOk result (JudgesRun turns.now log.now) }
     ensures only { IfErr result (λ error. error ≡ memory_error) }
@@ -52,7 +59,8 @@ pub fn audit_run(alloc: Global, turns: &[Turn], log: &[Carried]) -> Result<Verdi
     }
 }
 
-/// As many entries as turns, or one less, and of the last delivery no more was taken than an end takes.
+/// As many entries as turns, or one less, and of the last delivery no more was taken than an end
+/// takes.
 fn log_ends(turns: &[Turn], log: &[Carried]) -> bool
     ensures { IsTrue result ↔ LogEnds (reverse turns.now) log.now }
 {
