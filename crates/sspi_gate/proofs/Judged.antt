@@ -10,7 +10,9 @@ use Rattle.sspi_ber.specs.declared.wire_kind.WireKind.TheVariants as kinds
 use Rattle.sspi_ber.proofs.Match.{both_are}
 use Rattle.sspi_ber.proofs.PiecesMatch.{header_match}
 use Rattle.sspi_tsreq.specs.declared.request.TsRequest.{TsRequest}
+use Rattle.sspi_tsreq.specs.Answer.{IsAnswer}
 use Rattle.sspi_tsreq.specs.Grammar.{IsRequest}
+use Rattle.sspi_tsreq.specs.Quiet.{HasOctets}
 use Rattle.sspi_gate.specs.Front.{IsText}
 use Rattle.sspi_tsreq.specs.Reading.{fault}
 use Rattle.sspi_tsreq.proofs.Faults.{framed}
@@ -45,6 +47,13 @@ is_text bytes r count w t =
       length-append (0x30 ∷ t.len) t.body,
     ) in
     subst (λ (k : ℕ). IsRequest bytes r k) (sym all) t
+
+-- memory was wanting for a request
+pub lacks_memory : (bytes : List ℕ) (kind : WireKind) → kind ≡ kinds.InsufficientMemory → IsWhole bytes → IsAnswer bytes (Err kind) →
+    (r : TsRequest) × IsText bytes r × HasOctets r
+lacks_memory bytes kind is w answer =
+    let lacks : IsAnswer bytes (Err kinds.InsufficientMemory) = subst (λ (k : WireKind). IsAnswer bytes (Err k)) is answer in
+    (lacks.0, is_text bytes lacks.0 lacks.1 w lacks.2, lacks.3)
 
 -- ---- no request
 

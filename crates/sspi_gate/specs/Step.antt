@@ -5,6 +5,7 @@ use Rattle.sspi_ber.specs.Pieces.{Ended, Invalid}
 use Rattle.sspi_ber.specs.declared.wire_kind.WireKind.{WireKind}
 use Rattle.sspi_ber.specs.declared.wire_kind.WireKind.TheVariants as kinds
 use Rattle.sspi_tsreq.specs.declared.request.TsRequest.{TsRequest}
+use Rattle.sspi_tsreq.specs.Quiet.{HasOctets}
 use Rattle.sspi_tsreq.specs.Reading.{fault}
 use Rattle.sspi_credssp.specs.declared.turn.End.{End}
 use Rattle.sspi_gate.specs.declared.answer.GateFault.TheVariants.{Bad, Version, ReadFault, WriteFault, TurnsSpent, InsufficientMemory}
@@ -35,7 +36,7 @@ HasFault bytes kinds.ReadFault = ⊥
 HasFault bytes kinds.WriteFault = ⊥
 HasFault bytes kinds.InsufficientMemory = ⊥
 
--- What is made of the bytes of a request before they are written.
+-- What is made of the bytes of a request before they are written. Memory is wanted only where they are one, for its OCTET STRINGs.
 abbrev pub Judges : End → Option ℕ → List ℕ → Result Seen GateFault → Type 0
 Judges end first bytes (Ok seen) = (r : TsRequest) × IsText bytes r × IsSeen seen r × MaySend first r.version
 Judges end first bytes (Err (Bad who kind)) = (who ≡ end) × HasFault bytes kind
@@ -43,4 +44,4 @@ Judges end first bytes (Err (Version who)) = (who ≡ end) × ((r : TsRequest) �
 Judges end first bytes (Err (ReadFault who)) = ⊥
 Judges end first bytes (Err (WriteFault who)) = ⊥
 Judges end first bytes (Err TurnsSpent) = ⊥
-Judges end first bytes (Err InsufficientMemory) = Unit {0}
+Judges end first bytes (Err InsufficientMemory) = (r : TsRequest) × IsText bytes r × HasOctets r

@@ -1,5 +1,5 @@
 use Rattle.std.proofs.Common.{refl}
-use Rattle.sspi_gate.proofs.Judged.{is_text}
+use Rattle.sspi_gate.proofs.Judged.{is_text, lacks_memory}
 use Rattle.sspi_gate.proofs.passing.judge.Goals as goal
 
 pub returns-then-not-may_send : goal.returns-then-not-may_send
@@ -15,3 +15,7 @@ returns c =
       record { version = refl; refusal = c.refusing_code.ensures },
       c.if-not-may_send.ensures,
     )
+
+pub returns-in-Err-InsufficientMemory : goal.returns-in-Err-InsufficientMemory
+returns-in-Err-InsufficientMemory c =
+    let e = c.in-Err-InsufficientMemory in lacks_memory c.args.bytes.now e.field-0 e.field-0-is c.requires e.ensures.answer
