@@ -7,7 +7,7 @@ use Rattle.sspi_scenario.specs.declared.error.LineError.{LineError}
 use Rattle.sspi_scenario.specs.declared.error.LineError.TheVariants.{Fault, InsufficientMemory}
 use Rattle.sspi_scenario.specs.declared.key.Key.{Key}
 use Rattle.sspi_scenario.specs.declared.values.Values.{Values}
-use Rattle.sspi_scenario.specs.Drafts.{with_line, with_told, noted, Takes}
+use Rattle.sspi_scenario.specs.Drafts.{AsksMemory, with_line, with_told, noted, Takes}
 use Rattle.sspi_scenario.specs.Faults.{Told, line_told}
 use Rattle.sspi_scenario.specs.Keys.{is_excluded}
 use Rattle.sspi_scenario.specs.Lines.{is_skipped, before_space, after_space}
@@ -65,8 +65,11 @@ module _ (purpose : Purpose) (draft : Draft) (line : List ℕ) where
         let value = (row k).value (after_space line) in
         told-line s (option_map (told_as k) value) (line-known purpose line k value named refl) ∙ taken-by value new h e
 
-    pub refused : (new : Draft) (values : Values) (error : LineError) →
+    pub lacking : is_excluded draft.seen k ≡ false → AsksMemory purpose draft line
+    lacking free = record { key = k; told = s; named = named; free = free }
+
+    pub refused : (new : Draft) (values : Values) (error : LineError) → is_excluded draft.seen k ≡ false →
         Puts draft.values values (Err error) ((row k).value (after_space line))
         → Takes purpose draft new line (Err error)
-    refused new values Fault e = told-line s None (line-known purpose line k None named e)
-    refused new values InsufficientMemory e = tt
+    refused new values Fault free e = told-line s None (line-known purpose line k None named e)
+    refused new values InsufficientMemory free e = lacking free

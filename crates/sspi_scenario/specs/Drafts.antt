@@ -1,5 +1,5 @@
 -- What the private functions of the parser promise: the draft of the lines so far, and what one more line makes of it.
-use Rattle.std.specs.Prelude.{◌≡◌, ℕ, List, [], ◌∷◌, ◌++◌, Option, Some, None, Result, Ok, Err, fold, if◌then◌else◌}
+use Rattle.std.specs.Prelude.{◌≡◌, ℕ, List, [], ◌∷◌, ◌++◌, Option, Some, None, Result, Ok, Err, false, fold, if◌then◌else◌}
 use Rattle.sspi_scenario.specs.declared.draft.Draft.{Draft}
 use Rattle.sspi_scenario.specs.declared.error.LineError.{LineError}
 use Rattle.sspi_scenario.specs.declared.error.LineError.TheVariants as line
@@ -10,7 +10,8 @@ use Rattle.sspi_scenario.specs.declared.scenario.ScenarioError.{ScenarioError}
 use Rattle.sspi_scenario.specs.declared.scenario.ScenarioError.TheVariants as error
 use Rattle.sspi_scenario.specs.Faults.{Told, line_told, lines_from, keys_of}
 use Rattle.sspi_scenario.specs.Keys.{has, is_excluded}
-use Rattle.sspi_scenario.specs.Lines.{is_skipped, lines_of}
+use Rattle.sspi_scenario.specs.Lines.{before_space, is_skipped, lines_of}
+use Rattle.sspi_scenario.specs.Purposes.{key_for}
 use Rattle.sspi_scenario.specs.Scenario.{values_of, completed_by, decided, scenario_of_lines}
 
 -- keys with one more, each once
@@ -31,11 +32,18 @@ with_told draft (Some told) =
 unfoldable pub with_line : Purpose → Draft → List ℕ → Option Draft
 with_line purpose draft line = if is_skipped line then Some draft else with_told draft (line_told purpose line)
 
--- the line is taken exactly so; a fault exactly where it is at fault; want of memory is free
+-- the line asks for memory: it is not skipped, has a key of the purpose, and that key stands against none before it
+pub record AsksMemory (purpose : Purpose) (draft : Draft) (line : List ℕ) : Type 0 where
+  pub key : Key
+  pub told : is_skipped line ≡ false
+  pub named : key_for purpose (before_space line) ≡ Some key
+  pub free : is_excluded draft.seen key ≡ false
+
+-- the line is taken exactly so; a fault exactly where it is at fault; memory is wanting only where it asks for some
 abbrev pub Takes : Purpose → Draft → Draft → List ℕ → Result (Unit {0}) LineError → Type 0
 Takes purpose old new text (Ok done) = with_line purpose old text ≡ Some new
 Takes purpose old new text (Err line.Fault) = with_line purpose old text ≡ None
-Takes purpose old new text (Err line.InsufficientMemory) = Unit {0}
+Takes purpose old new text (Err line.InsufficientMemory) = AsksMemory purpose old text
 
 -- the scenario of the draft, or none where a required key is missing
 abbrev pub draft_completed : Draft → Option Scenario
