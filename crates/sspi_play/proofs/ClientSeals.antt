@@ -2,7 +2,6 @@
 use Rattle.std.proofs.Common.{◌≡◌, ◌≤◌, ℕ, ◌⊎◌, inl, inr, Bool, true, false, ◌&&◌, ◌||◌, List, [], ◌∷◌, ◌++◌, length}
 use Rattle.std.proofs.Common.{Option, None, Some, IsSome, Result, Ok, Err, sym, ◌∙◌, ap, refl, arith, append_assoc}
 use Rattle.std.proofs.Common.{length-append, if◌then◌else◌}
-use Rattle.std.proofs.lemmas.List.{append-nil}
 use Rattle.sspi_types.specs.declared.error.Error.{Error}
 use Rattle.sspi_types.specs.declared.security_status.SecurityStatus.{SecurityStatus}
 use Rattle.sspi_types.specs.declared.security_status.SecurityStatus.TheVariants as statuses
@@ -15,14 +14,16 @@ use Rattle.sspi_credssp.specs.declared.turn.End.TheVariants.{Client, Server}
 use Rattle.sspi_credssp.specs.declared.turn.Outcome.{Outcome}
 use Rattle.sspi_credssp.specs.declared.turn.Outcome.TheVariants as outcome
 use Rattle.sspi_credssp.specs.declared.turn.Turn.{Turn}
+use Rattle.sspi_credssp.specs.Acts.{OpensIn}
 use Rattle.sspi_credssp.specs.Context.{ContextSetting}
 use Rattle.sspi_credssp.specs.Exchange.{delegated_text, prescribed}
 use Rattle.sspi_credssp.specs.Turn.{client_shown, ShowsClientActs, ShowsNego, ShowsReply, ClientFrame}
-use Rattle.sspi_delegate.specs.Turns.{ClientEnd, client_noted, client_frame_at, EachClientTurn}
+use Rattle.sspi_delegate.specs.Turns.{ClientEnd, client_noted, client_frame_at, EachClientTurn, opened_in}
 use Rattle.sspi_delegate.specs.Turns.{onto_client, client_turns, is_replied, is_ended, any_proved, any_ended, OthersGoOn, GoesOn, AllGoOn}
 use Rattle.sspi_play.specs.Agreement.{TurnOf, HasSealed}
-use Rattle.sspi_play.specs.Faithful.{where_done, proof_text, behind_tag, client_texts, client_sealed, opened_texts}
+use Rattle.sspi_play.specs.Faithful.{where_done, proof_text, client_texts, client_sealed, HaveOpened}
 use Rattle.sspi_play.proofs.Lists.{head_of_two, two_are_more}
+use Rattle.sspi_play.proofs.Opened.{NoneOpened, opened_nothing, opens_proof}
 use Rattle.sspi_play.proofs.Parts.{client_more, client_skip}
 
 pub is_false : (b : Bool) → (b ≡ true → ⊥) → b ≡ false
@@ -41,13 +42,13 @@ pub some_there : (o : Option ℕ) → IsSome o → (v : ℕ) × (o ≡ Some v)
 some_there None some = absurd (cc (some))
 some_there (Some v) some = (v, refl)
 
-state_auth : (ended proved : Bool) → (if ended then Final else (if proved then AuthInfo else NegoToken)) ≡ AuthInfo → (ended ≡ false) ×
+pub state_auth : (ended proved : Bool) → (if ended then Final else (if proved then AuthInfo else NegoToken)) ≡ AuthInfo → (ended ≡ false) ×
     (proved ≡ true)
 state_auth true proved h = absurd (cc (h))
 state_auth false true h = (refl, refl)
 state_auth false false h = absurd (cc (h))
 
-state_nego : (ended proved : Bool) → (if ended then Final else (if proved then AuthInfo else NegoToken)) ≡ NegoToken → (ended ≡ false) ×
+pub state_nego : (ended proved : Bool) → (if ended then Final else (if proved then AuthInfo else NegoToken)) ≡ NegoToken → (ended ≡ false) ×
     (proved ≡ false)
 state_nego true proved h = absurd (cc (h))
 state_nego false true h = absurd (cc (h))
@@ -63,18 +64,18 @@ module _ {C : Type 0} (c : Meaning ContextSetting C) (e : ClientEnd C) where
   checked_auth : (f : ClientFrame C) (t : Turn) → ShowsClientActs (client_shown f) t → t.acts.sealed ≡ true → f.state ≡ AuthInfo
   checked_auth f t acts was = (acts.checked (acts.sealed was)).0
 
-  proved_nego : (f : ClientFrame C) (t : Turn) → ShowsClientActs (client_shown f) t → t.acts.proved ≡ true → f.state ≡ NegoToken
+  pub proved_nego : (f : ClientFrame C) (t : Turn) → ShowsClientActs (client_shown f) t → t.acts.proved ≡ true → f.state ≡ NegoToken
   proved_nego f t acts was =
       let answered : IsSome t.acts.status = rw (acts.proved was).0 refl in acts.negotiated (acts.answered answered)
 
-  reply_nego : (f : ClientFrame C) (t : Turn) (status : Option SecurityStatus) (reply : TsRequest) →
+  pub reply_nego : (f : ClientFrame C) (t : Turn) (status : Option SecurityStatus) (reply : TsRequest) →
       ShowsNego (client_shown f) t status reply → f.state ≡ NegoToken
   reply_nego f t None reply h = absurd h
   reply_nego f t (Some statuses.Ok) reply h = h.state
   reply_nego f t (Some other) reply h = h.state
 
   -- a turn that went on, and was not the last, was one of the authentication
-  went_nego : (f : ClientFrame C) (t : Turn) (out : Outcome) → ShowsReply (client_shown f) t out → GoesOn out → is_ended out ≡ false →
+  pub went_nego : (f : ClientFrame C) (t : Turn) (out : Outcome) → ShowsReply (client_shown f) t out → GoesOn out → is_ended out ≡ false →
       f.state ≡ NegoToken
   went_nego f t (outcome.Reply reply) h went un = reply_nego f t t.acts.status reply h
   went_nego f t (outcome.Final reply) h went un = absurd (cc (un))
@@ -90,19 +91,19 @@ module _ {C : Type 0} (c : Meaning ContextSetting C) (e : ClientEnd C) where
   unchecked : (f : ClientFrame C) (t : Turn) → ShowsClientActs (client_shown f) t → f.state ≡ NegoToken → t.acts.checked ≡ false
   unchecked f t acts nego = is_false t.acts.checked (λ was. let s = (acts.checked was).0 in absurd (cc (s, nego)))
 
-  unsealed : (f : ClientFrame C) (t : Turn) → ShowsClientActs (client_shown f) t → f.state ≡ NegoToken → t.acts.sealed ≡ false
+  pub unsealed : (f : ClientFrame C) (t : Turn) → ShowsClientActs (client_shown f) t → f.state ≡ NegoToken → t.acts.sealed ≡ false
   unsealed f t acts nego = is_false t.acts.sealed (λ was. let s = checked_auth f t acts was in absurd (cc (s, nego)))
 
   -- ---- the turns before one that checked, or that sealed
 
   -- before a client has ended it has opened nothing
-  pub nothing_opened : (past : List Turn) → EachClientTurn c e past → AllGoOn past → any_ended past ≡ false → opened_texts past ≡ []
-  nothing_opened [] each went un = refl
+  pub nothing_opened : (past : List Turn) → EachClientTurn c e past → AllGoOn past → any_ended past ≡ false → NoneOpened past
+  nothing_opened [] each went un = tt
   nothing_opened (t ∷ past) each went un =
       let s = or_false (is_ended t.outcome) (any_ended past) un in
       let f = client_frame_at e past t in
       let nego = went_nego f t t.outcome each.0.shown.reply went.0 s.0 in
-      rw (each.0.shown.acts.opened, unchecked f t each.0.shown.acts nego, nothing_opened past each.1 went.1 s.1) refl
+      (unchecked f t each.0.shown.acts nego, each.0.shown.acts.opened, nothing_opened past each.1 went.1 s.1)
 
   -- before it has proved it has sealed nothing
   nothing_sealed : (past : List Turn) → EachClientTurn c e past → AllGoOn past → any_ended past ≡ false → any_proved past ≡ false →
@@ -119,7 +120,7 @@ module _ {C : Type 0} (c : Meaning ContextSetting C) (e : ClientEnd C) where
         nothing_sealed past each.1 went.1 s.1 p.1,
       ) refl
 
-  proof_first : (past : List Turn) (t : Turn) → EachClientTurn c e (t ∷ past) → AllGoOn past → t.acts.proved ≡ true →
+  pub proof_first : (past : List Turn) (t : Turn) → EachClientTurn c e (t ∷ past) → AllGoOn past → t.acts.proved ≡ true →
       client_sealed e past ≡ []
   proof_first past t each went was =
       let s = state_nego (any_ended past) (any_proved past) (proved_nego (client_frame_at e past t) t each.0.shown.acts was) in
@@ -205,7 +206,7 @@ module _ {C : Type 0} (c : Meaning ContextSetting C) (e : ClientEnd C) where
     first = rw (client_skip t past is) p.first;
   }
 
-  proof_alone : (t : Turn) (past : List Turn) (version : ℕ) → t.acts.sealed ≡ false → t.acts.proved ≡ true →
+  pub proof_alone : (t : Turn) (past : List Turn) (version : ℕ) → t.acts.sealed ≡ false → t.acts.proved ≡ true →
       client_noted e.settings.least (t ∷ past) ≡ Some version → client_sealed e past ≡ [] →
       client_sealed e (t ∷ past) ≡ prescribed whose.Client version e.settings.nonce e.settings.public_key ∷ []
   proof_alone t past version un was noted nothing = rw (un, was, noted, nothing) refl
@@ -350,9 +351,13 @@ module _ {C : Type 0} (c : Meaning ContextSetting C) (e : ClientEnd C) where
 
   -- ---- a client that seals
 
-  pub seals_once_opened : (past : List Turn) (t : Turn) → EachClientTurn c e (t ∷ past) → AllGoOn past → t.acts.sealed ≡ true →
-      opened_texts (t ∷ past) ≡ behind_tag t.delivered.pub_key_auth
-  seals_once_opened past t each went was =
+  pub seals_once_opened : (past : List Turn) (t : Turn) (text : List ℕ) → EachClientTurn c e (t ∷ past) → AllGoOn past →
+      t.acts.sealed ≡ true → OpensIn c e.context (opened_in past) t.delivered.pub_key_auth text →
+      HaveOpened c e.context (t ∷ past) (text ∷ [])
+  seals_once_opened past t text each went was opens =
       let checked = each.0.shown.acts.sealed was in
-      let s = state_auth (any_ended past) (any_proved past) (checked_auth (client_frame_at e past t) t each.0.shown.acts was) in
-      rw (each.0.shown.acts.opened, checked, nothing_opened past each.1 went s.0) (append-nil (behind_tag t.delivered.pub_key_auth))
+      let s = state_auth (any_ended past) (any_proved past) (checked_auth (client_frame_at e past t) t each.0.shown.acts was) in (
+        [],
+        opened_nothing c e.context past (nothing_opened past each.1 went s.0),
+        opens_proof c e.context t (opened_in past) [] text checked each.0.shown.acts.opened opens,
+      )

@@ -12,6 +12,7 @@ pub mod Marks
 pub mod Offering
 pub mod OnMechanism
 pub mod OnNegotiation
+pub mod Opened
 pub mod Order
 pub mod OwnIdentity
 pub mod Parts

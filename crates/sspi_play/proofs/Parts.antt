@@ -132,14 +132,14 @@ module _ {C : Type 0} (c : Meaning ContextSetting C) (client : ClientEnd C) (ser
     pub client_others : OthersGoOn (client_turns turns)
     pub server_each : EachServerTurn c server (server_turns turns)
     pub server_others : OthersUnrefused (server_turns turns)
-    pub opens : OpensWhatWasSealed client server turns
+    pub opens : OpensWhatWasSealed c client server turns
 
-  client_each_before : (end : End) (t : Turn) (past : List Turn) → EachClientTurn c client (onto_client end t past) →
+  pub client_each_before : (end : End) (t : Turn) (past : List Turn) → EachClientTurn c client (onto_client end t past) →
       EachClientTurn c client past
   client_each_before Client t past each = each.1
   client_each_before Server t past each = each
 
-  server_each_before : (end : End) (t : Turn) (past : List Turn) → EachServerTurn c server (onto_server end t past) →
+  pub server_each_before : (end : End) (t : Turn) (past : List Turn) → EachServerTurn c server (onto_server end t past) →
       EachServerTurn c server past
   server_each_before Client t past each = each
   server_each_before Server t past each = each.1

@@ -1,5 +1,5 @@
 -- What the accounts of a play tell of it where both ends were fresh.
-use Rattle.std.proofs.Common.{◌≡◌, List, [], ◌∷◌, length, reverse, take, Option, Some, Result, Ok, Err, IfOk, ◌∙◌, ap}
+use Rattle.std.proofs.Common.{◌≡◌, List, [], ◌∷◌, length, reverse, take, Option, Some, Result, Ok, Err, IfOk, ◌∙◌, ap, refl}
 use Rattle.std.proofs.Common.{subst}
 use Rattle.sspi_mech.specs.Context.{IsContext}
 use Rattle.sspi_mech.specs.Meaning.{Meaning}
@@ -22,7 +22,7 @@ use Rattle.sspi_delegate.proofs.Heeding.{client_past_heeds, server_past_heeds}
 use Rattle.sspi_delegate.proofs.HistoryRuns.{client_past_ran, server_past_ran}
 use Rattle.sspi_play.specs.declared.played.Delivery.{Delivery}
 use Rattle.sspi_play.specs.declared.played.Played.{Played}
-use Rattle.sspi_play.specs.Agreement.{OpensBehindTag, AgreesIfFaithful}
+use Rattle.sspi_play.specs.Agreement.{AgreesIfFaithful}
 use Rattle.sspi_play.specs.History.{ClientPlayed, ClientPlayedChain, Gave, GaveIn, IfRefused}
 use Rattle.sspi_play.specs.Kept.{identity_of}
 use Rattle.sspi_play.specs.Played.{Both, PlaysBy, Accounts, IsPlay}
@@ -138,10 +138,10 @@ module _ {C P D : Type 0} (c : Meaning ContextSetting C) (law : IsContext c) (p 
 
   pub agrees_if_faithful : (schedule : List Delivery) (old new : Both C P D)
       (result : Result Played DelegateError) → length old.client.settings.nonce ≡ 32 →
-      IsPlay c p k schedule old result new → Accounts c p k schedule old result new → OpensBehindTag c →
-      AgreesIfFaithful (client_end new.client) (server_end new.server) new.turns (identity_of result)
-  agrees_if_faithful schedule old new result long play accounts tags = λ opens.
-      agreement c (client_end new.client) (server_end new.server) tags p old.server new.server new.turns (identity_of result)
+      IsFreshServer old.server → IsPlay c p k schedule old result new → Accounts c p k schedule old result new →
+      AgreesIfFaithful c (client_end new.client) (server_end new.server) new.turns (identity_of result)
+  agrees_if_faithful schedule old new result long fresh play accounts = λ opens.
+      agreement c (client_end new.client) (server_end new.server) law p old.server new.server new.turns (identity_of result) fresh refl
       (identity_gave schedule old new result accounts)
       (record {
         client_each = play.client_ran.each;

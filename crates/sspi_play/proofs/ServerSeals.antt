@@ -1,7 +1,6 @@
 -- What a server sealed and opened, turn by turn.
-use Rattle.std.proofs.Common.{◌≡◌, ℕ, ◌⊎◌, inl, inr, Bool, true, false, ◌&&◌, ◌||◌, List, [], ◌∷◌, ◌++◌, length, drop, Option}
+use Rattle.std.proofs.Common.{◌≡◌, ℕ, ◌⊎◌, inl, inr, Bool, true, false, ◌&&◌, ◌||◌, List, [], ◌∷◌, ◌++◌, length, Option}
 use Rattle.std.proofs.Common.{None, Some, sym, ◌∙◌, ap, subst, refl, append_assoc, if◌then◌else◌}
-use Rattle.std.proofs.lemmas.List.{append-nil}
 use Rattle.sspi_types.specs.declared.security_status.SecurityStatus.{SecurityStatus}
 use Rattle.sspi_types.specs.declared.security_status.SecurityStatus.TheVariants as statuses
 use Rattle.sspi_mech.specs.Meaning.{Meaning}
@@ -19,13 +18,14 @@ use Rattle.sspi_credssp.specs.Acts.{OpensIn}
 use Rattle.sspi_credssp.specs.Exchange.{prescribed}
 use Rattle.sspi_credssp.specs.Requests.{nonce_of, IsLong}
 use Rattle.sspi_credssp.specs.Turn.{server_shown, IsOver, MayCheck, HasNonce, ShowsServerActs, ShowsOver, ShowsNegoBack, ShowsStateBack}
-use Rattle.sspi_credssp.specs.Turn.{ShowsAnswer, ServerFrame, AtNoted}
+use Rattle.sspi_credssp.specs.Turn.{ShowsAnswer, ServerFrame, AtNoted, Proven}
 use Rattle.sspi_delegate.specs.Turns.{onto_server, server_turns, is_replied, is_finished, any_proved, any_finished, IsUnrefused}
 use Rattle.sspi_delegate.specs.Turns.{NoneRefused}
-use Rattle.sspi_delegate.specs.Turns.{ServerEnd, any_over, server_state, server_noted, server_frame_at, EachServerTurn}
-use Rattle.sspi_play.specs.Agreement.{TurnOf, OpensBehindTag}
-use Rattle.sspi_play.specs.Faithful.{behind_tag, server_texts, server_sealed, opened_texts}
+use Rattle.sspi_delegate.specs.Turns.{ServerEnd, any_over, server_state, server_noted, server_frame_at, EachServerTurn, opened_in}
+use Rattle.sspi_play.specs.Agreement.{TurnOf}
+use Rattle.sspi_play.specs.Faithful.{server_texts, server_sealed, HaveOpened}
 use Rattle.sspi_play.proofs.ClientSeals.{is_false, or_false, and_not}
+use Rattle.sspi_play.proofs.Opened.{NoneOpened, opened_nothing, opens_proof, opens_credentials}
 use Rattle.sspi_play.proofs.Parts.{server_more, server_skip}
 
 state_auth : (finished proved over : Bool) →
@@ -49,14 +49,6 @@ pub nonce_length : (old : Bool) (sent : Option (List ℕ)) → old ≡ false →
 nonce_length true sent is h = absurd (cc (is))
 nonce_length false None is h = absurd h
 nonce_length false (Some nonce) is h = h
-
-module _ {C : Type 0} (c : Meaning ContextSetting C) where
-  -- what a blob opens to is what stands behind its tag
-  pub opens_text : OpensBehindTag c → (context : Option C) (n : ℕ) (blob : Option (List ℕ)) (text : List ℕ) →
-      OpensIn c context n blob text → behind_tag blob ≡ text ∷ []
-  opens_text law None n blob text h = absurd h
-  opens_text law (Some m) n None text h = absurd h
-  opens_text law (Some m) n (Some blob) text h = ap (λ (x : List ℕ). x ∷ []) (sym (law m n blob text h))
 
 module _ {C : Type 0} (c : Meaning ContextSetting C) (s : ServerEnd C) where
   -- ---- one turn
@@ -83,11 +75,11 @@ module _ {C : Type 0} (c : Meaning ContextSetting C) (s : ServerEnd C) where
   state_proves f t AuthInfo reply may long h = absurd may
   state_proves f t Final reply may long h = absurd may
 
-  check_alone : (f : ServerFrame C) (t : Turn) → ShowsServerActs (server_shown f) t → t.acts.checked ≡ true → t.acts.opened ≡ false
+  pub check_alone : (f : ServerFrame C) (t : Turn) → ShowsServerActs (server_shown f) t → t.acts.checked ≡ true → t.acts.opened ≡ false
   check_alone f t acts was = is_false t.acts.opened (λ opened.
       subst (λ (state : CredSspState). MayCheck state t.acts.status) (acts.opened opened).0 (acts.checked was).0)
 
-  open_alone : (f : ServerFrame C) (t : Turn) → ShowsServerActs (server_shown f) t → t.acts.opened ≡ true → t.acts.checked ≡ false
+  pub open_alone : (f : ServerFrame C) (t : Turn) → ShowsServerActs (server_shown f) t → t.acts.opened ≡ true → t.acts.checked ≡ false
   open_alone f t acts was = is_false t.acts.checked (λ checked. let n = check_alone f t acts checked in absurd (cc (n, was)))
 
   -- in the state in which credentials are opened no proof is checked
@@ -112,24 +104,33 @@ module _ {C : Type 0} (c : Meaning ContextSetting C) (s : ServerEnd C) where
   -- ---- the turns before the one that proved
 
   -- they have opened nothing
-  pub nothing_opened : (past : List Turn) → EachServerTurn c s past → NoneRefused past → any_proved past ≡ false → opened_texts past ≡ []
-  nothing_opened [] each un none = refl
+  pub nothing_opened : (past : List Turn) → EachServerTurn c s past → NoneRefused past → any_proved past ≡ false → NoneOpened past
+  nothing_opened [] each un none = tt
   nothing_opened (t ∷ past) each un none =
       let p = or_false (is_replied t.outcome && t.acts.proved) (any_proved past) none in
       let f = server_frame_at s past t in
       let unopened : t.acts.opened ≡ false = is_false t.acts.opened (λ was. unauthorized past p.1 (each.0.shown.acts.opened was).0) in
-      rw (unopened, unproved_unchecked f t t.outcome each.0.shown.acts each.0.shown.reply un.0 p.0, nothing_opened past each.1 un.1 p.1)
-      refl
+      let unchecked = unproved_unchecked f t t.outcome each.0.shown.acts each.0.shown.reply un.0 p.0 in
+      (unchecked, unopened, nothing_opened past each.1 un.1 p.1)
 
   -- the turn that proved opened the client's proof, and nothing else was opened before
   pub opened_by_proof : (past : List Turn) (t : Turn) → EachServerTurn c s (t ∷ past) → NoneRefused past → any_proved past ≡ false →
-      t.acts.proved ≡ true →
-      opened_texts (t ∷ past) ≡ behind_tag t.delivered.pub_key_auth
-  opened_by_proof past t each un none was =
+      t.acts.proved ≡ true → (text : List ℕ) → OpensIn c s.context (opened_in past) t.delivered.pub_key_auth text →
+      HaveOpened c s.context (t ∷ past) (text ∷ [])
+  opened_by_proof past t each un none was text opens =
       let f = server_frame_at s past t in
-      let checked = (each.0.shown.acts.proved was).0 in
-      rw (check_alone f t each.0.shown.acts checked, checked, nothing_opened past each.1 un none)
-      (append-nil (behind_tag t.delivered.pub_key_auth))
+      let checked = (each.0.shown.acts.proved was).0 in (
+        [],
+        opened_nothing c s.context past (nothing_opened past each.1 un none),
+        opens_proof c s.context t (opened_in past) [] text checked (check_alone f t each.0.shown.acts checked) opens,
+      )
+
+  -- the text that it opened is that of a client's proof, over its own key and the delivered nonce
+  pub proven_at : (past : List Turn) (t : Turn) (version : ℕ) → EachServerTurn c s (t ∷ past) → t.acts.proved ≡ true →
+      server_noted s.settings.least (t ∷ past) ≡ Some version →
+      Proven c s.context (opened_in past) s.settings.public_key t.delivered version
+  proven_at past t version each was noted = at_version (server_noted s.settings.least (t ∷ past)) version
+      (Proven c s.context (opened_in past) s.settings.public_key t.delivered) noted (each.0.held.proved was)
 
   -- ---- the first text that a server sealed
 
@@ -184,7 +185,7 @@ module _ {C : Type 0} (c : Meaning ContextSetting C) (s : ServerEnd C) where
     first = rw (server_skip t past is) p.first;
   }
 
-  proof_alone : (t : Turn) (past : List Turn) (version : ℕ) → t.acts.proved ≡ true →
+  pub proof_alone : (t : Turn) (past : List Turn) (version : ℕ) → t.acts.proved ≡ true →
       server_noted s.settings.least (t ∷ past) ≡ Some version →
       server_sealed s past ≡ [] →
       server_sealed s (t ∷ past) ≡ prescribed whose.Server version (nonce_of t.delivered.client_nonce) s.settings.public_key ∷ []
@@ -250,26 +251,28 @@ module _ {C : Type 0} (c : Meaning ContextSetting C) (s : ServerEnd C) where
   and_proved true false rest h none = absurd (cc (h, none))
   and_proved false proved rest h none = absurd (cc (h, none))
 
-  long_text : (field : Option (List ℕ)) → IsLong field → (y : List ℕ) × (behind_tag field ≡ y ∷ [])
-  long_text None long = absurd long
-  long_text (Some blob) long = (drop 16 blob, refl)
-
-  -- it opened one text, the client's proof
-  pub one_opened : (past : List Turn) → EachServerTurn c s past → NoneRefused past → server_state past ≡ AuthInfo → (y : List ℕ) ×
-      (opened_texts past ≡ y ∷ [])
-  one_opened [] each un auth = absurd (cc (auth))
-  one_opened (t ∷ past) each un auth =
+  pub proved_newest : (past : List Turn) (t : Turn) → EachServerTurn c s (t ∷ past) → NoneRefused (t ∷ past) →
+      server_state (t ∷ past) ≡ AuthInfo → (any_proved past ≡ false) × (t.acts.proved ≡ true)
+  proved_newest past t each un auth =
       let k = state_auth (any_finished (t ∷ past)) (any_proved (t ∷ past)) (any_over (t ∷ past)) auth in
       let fin = or_false (is_finished t.outcome) (any_finished past) k.0 in
       let none = before_reply past t t.outcome each.0.shown.reply un.0 fin.0 fin.1 in
-      let was = and_proved (is_replied t.outcome) t.acts.proved (any_proved past) k.1 none in
-      let opened = opened_by_proof past t each un.1 none was in
-      let long = (each.0.shown.acts.checked (each.0.shown.acts.proved was).0).1 in
-      let there = long_text t.delivered.pub_key_auth long in (there.0, opened ∙ there.1)
+      (none, and_proved (is_replied t.outcome) t.acts.proved (any_proved past) k.1 none)
+
+  -- it opened one text, the client's proof
+  pub one_opened : (past : List Turn) → EachServerTurn c s past → NoneRefused past → server_state past ≡ AuthInfo → (y : List ℕ) ×
+      HaveOpened c s.context past (y ∷ [])
+  one_opened [] each un auth = absurd (cc (auth))
+  one_opened (t ∷ past) each un auth =
+      let newest = proved_newest past t each un auth in
+      let was = newest.1 in
+      let v = at_some (server_noted s.settings.least (t ∷ past)) _ (each.0.shown.acts.proved was).1 in
+      let text = prescribed whose.Client v.0 (nonce_of t.delivered.client_nonce) s.settings.public_key in
+      (text, opened_by_proof past t each un.1 newest.0 was text (proven_at past t v.0 each was v.1).opens)
 
   -- and then the credentials
-  pub opened_at_end : (past : List Turn) (t : Turn) → EachServerTurn c s (t ∷ past) → t.acts.opened ≡ true →
-      opened_texts (t ∷ past) ≡ behind_tag t.delivered.auth_info ++ opened_texts past
-  opened_at_end past t each was =
-      rw (was, open_alone (server_frame_at s past t) t each.0.shown.acts was)
-      (ap (λ (l : List (List ℕ)). l ++ opened_texts past) (append-nil (behind_tag t.delivered.auth_info)))
+  pub opened_at_end : (past : List Turn) (t : Turn) (before : List (List ℕ)) (text : List ℕ) → t.acts.checked ≡ false →
+      t.acts.opened ≡ true → HaveOpened c s.context past before → OpensIn c s.context (opened_in past) t.delivered.auth_info text →
+      HaveOpened c s.context (t ∷ past) (text ∷ before)
+  opened_at_end past t before text unchecked was so_far opens =
+      (before, so_far, opens_credentials c s.context t (opened_in past) before text unchecked was opens)

@@ -2,13 +2,14 @@
 --
 -- Whatever is delivered to whom: a client that sealed its credentials sealed them for a server that had checked this client's proof
 -- over the same key, and what a finishing server holds is what this client sealed.
-use Rattle.std.specs.Prelude.{◌≡◌, ◌<◌, ◌≤◌, ℕ, List, ◌∷◌, ◌++◌, drop, length, Option, None, Some, Ok, true, nat_lt}
+use Rattle.std.specs.Prelude.{◌≡◌, ◌<◌, ◌≤◌, ℕ, List, ◌∷◌, ◌++◌, length, Option, None, Some, Ok, true, nat_lt}
 use Rattle.sspi_mech.specs.Meaning.{Meaning}
 use Rattle.sspi_names.specs.declared.credentials.Credentials.TheVariants as credentials
 use Rattle.sspi_names.specs.declared.identity.AuthIdentity.{AuthIdentity}
 use Rattle.sspi_names.specs.Identity.{IsIdentity}
 use Rattle.sspi_credssp.specs.declared.turn.End.TheVariants.{Client, Server}
 use Rattle.sspi_credssp.specs.declared.turn.Turn.{Turn}
+use Rattle.sspi_credssp.specs.Context.{ContextSetting}
 use Rattle.sspi_credssp.specs.Exchange.{delegated_as, delegated_text, delegated_identity}
 use Rattle.sspi_credssp.specs.Requests.{nonce_of}
 use Rattle.sspi_delegate.specs.Log.{IsFinished}
@@ -24,10 +25,6 @@ pub record TurnOf (turns : List Turn) : Type 0 where
   pub parts : turns ≡ later ++ (turn ∷ before)
 
 -- ---- the premises
-
--- what a blob opens to stands behind its tag of 16 octets
-abbrev pub OpensBehindTag : {S C : Type 0} → Meaning S C → Type 0
-OpensBehindTag {S} {C} c = (m : C) (n : ℕ) (blob text : List ℕ) → c.opens m n blob text → text ≡ drop 16 blob
 
 -- no hash, which has 32 octets, is taken for the echo of a key, which is what a peer below version 5 proves with
 pub data NoEcho {C : Type 0} (client : ClientEnd C) (server : ServerEnd C) : Type 0 where
@@ -93,6 +90,7 @@ module _ {C : Type 0} (client : ClientEnd C) (server : ServerEnd C) where
         at.turn.acts.sealed ≡ true → Agrees turns at.before
     pub a_server_that_finished : (given : AuthIdentity) → identity ≡ Some given → HoldsSealed turns given
 
--- The theorem, of the ends as the play left them, whose context opens what stands behind a tag.
-abbrev pub AgreesIfFaithful : {C : Type 0} → ClientEnd C → ServerEnd C → List Turn → Option AuthIdentity → Type 0
-AgreesIfFaithful client server turns identity = OpensWhatWasSealed client server turns → Agreement client server turns identity
+-- The theorem, of the ends as the play left them.
+abbrev pub AgreesIfFaithful : {C : Type 0} → Meaning ContextSetting C → ClientEnd C → ServerEnd C → List Turn → Option AuthIdentity →
+    Type 0
+AgreesIfFaithful c client server turns identity = OpensWhatWasSealed c client server turns → Agreement client server turns identity

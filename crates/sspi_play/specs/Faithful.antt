@@ -1,6 +1,7 @@
 -- What agreement rests on: that in this play the mechanism under both ends is faithful, in what it seals and in what it signs; and that
--- no two texts have one hash. Lists are the newest first.
-use Rattle.std.specs.Prelude.{◌≡◌, ◌≤◌, ℕ, List, [], ◌∷◌, ◌++◌, drop, Option, None, Some, Result, Ok, Err, Bool, true, false}
+-- no two texts have one hash. A text that was opened is told by the meaning of the context that opened it, so all this is said of a
+-- mechanism that encrypts as of one that does not. Lists are the newest first.
+use Rattle.std.specs.Prelude.{◌≡◌, ◌≤◌, ◌+◌, ℕ, List, [], ◌∷◌, ◌++◌, Option, None, Some, Result, Ok, Err, Bool, true, false}
 use Rattle.sha2.specs.Sha256.{sha256}
 use Rattle.sspi_types.specs.declared.error.Error.{Error}
 use Rattle.sspi_mech.specs.Meaning.{Meaning}
@@ -8,14 +9,15 @@ use Rattle.sspi_credssp.specs.declared.context.SspiContext.{SspiContext}
 use Rattle.sspi_credssp.specs.declared.public_key.EndpointType.{EndpointType}
 use Rattle.sspi_credssp.specs.declared.public_key.EndpointType.TheVariants as whose
 use Rattle.sspi_credssp.specs.declared.turn.Turn.{Turn}
+use Rattle.sspi_credssp.specs.Acts.{OpensIn, count_of}
 use Rattle.sspi_credssp.specs.Context.{ContextSetting}
 use Rattle.sspi_credssp.specs.Exchange.{delegated_text, magic, prescribed}
 use Rattle.sspi_credssp.specs.Requests.{nonce_of}
 use Rattle.sspi_delegate.specs.Turns.{ClientEnd, ServerEnd, client_noted, server_noted}
-use Rattle.sspi_delegate.specs.Turns.{client_turns, server_turns}
+use Rattle.sspi_delegate.specs.Turns.{client_turns, server_turns, opened_in}
 use Rattle.sspi_play.specs.Kept.{kept_list}
 
--- ---- the texts that an end sealed and opened
+-- ---- the texts that an end sealed
 
 abbrev pub where_done : Bool → List (List ℕ) → List (List ℕ)
 where_done true texts = texts
@@ -29,11 +31,6 @@ proof_text end (Some version) nonce key = prescribed end version nonce key ∷ [
 abbrev pub text_in : Result (List ℕ) Error → List (List ℕ)
 text_in (Ok text) = text ∷ []
 text_in (Err error) = []
-
--- what lies behind the tag of 16 octets
-abbrev pub behind_tag : Option (List ℕ) → List (List ℕ)
-behind_tag None = []
-behind_tag (Some blob) = drop 16 blob ∷ []
 
 module _ {C : Type 0} where
   -- a client seals its proof, and then its credentials; the turns before this one say which version it had noted
@@ -57,14 +54,26 @@ module _ {C : Type 0} where
   server_sealed e [] = []
   server_sealed e (t ∷ past) = server_texts e past t ++ server_sealed e past
 
--- an end opens the proof of its peer, and a server the credentials
-abbrev pub texts_opened : Turn → List (List ℕ)
-texts_opened t = where_done t.acts.opened (behind_tag t.delivered.auth_info) ++ where_done t.acts.checked
-    (behind_tag t.delivered.pub_key_auth)
+-- ---- the texts that an end opened, by its context
 
-abbrev pub opened_texts : List Turn → List (List ℕ)
-opened_texts [] = []
-opened_texts (t ∷ past) = texts_opened t ++ opened_texts past
+module _ {C : Type 0} (c : Meaning ContextSetting C) (context : Option C) where
+  -- the text of this field, which has this number among the messages that the context opened; no text where it was not opened
+  abbrev pub IsOpened : Bool → ℕ → Option (List ℕ) → List (List ℕ) → Type 0
+  IsOpened true n field texts = (text : List ℕ) × OpensIn c context n field text × (texts ≡ text ∷ [])
+  IsOpened false n field texts = texts ≡ []
+
+  -- a turn behind which n messages were opened opens the proof of its peer, or a server's the credentials
+  pub record OpensMore (t : Turn) (n : ℕ) (before texts : List (List ℕ)) : Type 0 where
+    pub proof : List (List ℕ)
+    pub credentials : List (List ℕ)
+    pub proof_is : IsOpened t.acts.checked n t.delivered.pub_key_auth proof
+    pub credentials_are : IsOpened t.acts.opened (n + count_of t.acts.checked) t.delivered.auth_info credentials
+    pub all : texts ≡ credentials ++ proof ++ before
+
+  -- The texts that an end has opened in these turns. There is one such list at most, since a blob opens to one text.
+  abbrev pub HaveOpened : List Turn → List (List ℕ) → Type 0
+  HaveOpened [] texts = texts ≡ []
+  HaveOpened (t ∷ past) texts = (before : List (List ℕ)) × HaveOpened past before × OpensMore t (opened_in past) before texts
 
 -- ---- faithful in what is sealed
 
@@ -72,14 +81,19 @@ opened_texts (t ∷ past) = texts_opened t ++ opened_texts past
 abbrev pub AreFirstOf : List (List ℕ) → List (List ℕ) → Type 0
 AreFirstOf texts all = (later : List (List ℕ)) × (all ≡ later ++ texts)
 
-module _ {C : Type 0} (client : ClientEnd C) (server : ServerEnd C) where
-  -- after each turn what an end has opened so far is what its peer sealed first
-  abbrev pub OpensWhatWasSealed : List Turn → Type 0
-  OpensWhatWasSealed [] = Unit {0}
-  OpensWhatWasSealed (t ∷ past) =
-      AreFirstOf (opened_texts (client_turns (t ∷ past))) (server_sealed server (server_turns (t ∷ past)))
-      × AreFirstOf (opened_texts (server_turns (t ∷ past))) (client_sealed client (client_turns (t ∷ past)))
-      × OpensWhatWasSealed past
+module _ {C : Type 0} (c : Meaning ContextSetting C) where
+  -- what a context has opened in these turns is what was sealed first
+  abbrev pub OpensFirstOf : Option C → List Turn → List (List ℕ) → Type 0
+  OpensFirstOf context turns sealed = (texts : List (List ℕ)) → HaveOpened c context turns texts → AreFirstOf texts sealed
+
+  module _ (client : ClientEnd C) (server : ServerEnd C) where
+    -- after each turn what an end has opened so far is what its peer sealed first
+    abbrev pub OpensWhatWasSealed : List Turn → Type 0
+    OpensWhatWasSealed [] = Unit {0}
+    OpensWhatWasSealed (t ∷ past) =
+        OpensFirstOf client.context (client_turns (t ∷ past)) (server_sealed server (server_turns (t ∷ past)))
+        × OpensFirstOf server.context (server_turns (t ∷ past)) (client_sealed client (client_turns (t ∷ past)))
+        × OpensWhatWasSealed past
 
 -- ---- faithful in what is signed
 

@@ -1,4 +1,5 @@
 pub mod Agreement
+pub mod Clear
 pub mod Faithful
 pub mod Hands
 pub mod History

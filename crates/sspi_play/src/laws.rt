@@ -1,11 +1,11 @@
-//! Which contexts open a blob to what stands behind its tag, as agreement on the key and the credentials supposes. Each law is the
-//! contract of a call that does nothing.
+//! Which contexts open a blob to what stands behind its tag, so that their turns show the texts that they opened. Each law is
+//! the contract of a call that does nothing.
 
 ghost use Rattle.std.specs.Prelude.{ℕ};
 ghost use Rattle.sspi_mech.specs.Kerberos.{kerberos_meaning};
 ghost use Rattle.sspi_mech.specs.Ntlm.{ntlm_meaning};
 ghost use Rattle.sspi_credssp.specs.Context.{either};
-ghost use Rattle.sspi_play.specs.Agreement.{OpensBehindTag};
+ghost use Rattle.sspi_play.specs.Clear.{OpensBehindTag, OpensWhatIsShown};
 
 use sspi_mech::Mechanism;
 
@@ -18,4 +18,10 @@ pub fn a_context_opens_as_its_mechanisms<N: Mechanism, K: Mechanism>()
 #[tactic(auto, using(crate::proofs::BehindTags::plain_opens))]
 pub fn a_plain_context_opens_behind_the_tag()
     ensures { (requests : ℕ) → OpensBehindTag (either requests ntlm_meaning kerberos_meaning) }
+{}
+
+/// What the turns of such an end have opened is what they show. So with mechanisms that do not encrypt the premise of agreement is
+/// one on recorded turns.
+pub fn recorded_turns_show_what_is_opened<N: Mechanism, K: Mechanism>()
+    ensures { OpensBehindTag (either N.REQUESTS N.meaning K.meaning) → OpensWhatIsShown (either N.REQUESTS N.meaning K.meaning) }
 {}

@@ -6,8 +6,8 @@
 //! - `specs/Plays.antt`: which turns a schedule makes, what each was given, and how each end stands after it.
 //! - `specs/Played.antt`: what holds of every play, whatever is delivered.
 //! - `specs/History.antt`: whose identity a play gives.
-//! - `specs/Agreement.antt`, `specs/Negotiated.antt`: what both ends agree on, by the premises of `specs/Faithful.antt`, and `laws`:
-//!   which contexts open what stands behind a tag.
+//! - `specs/Agreement.antt`, `specs/Negotiated.antt`: what both ends agree on, by the premises of `specs/Faithful.antt`.
+//! - `specs/Clear.antt` and `laws`: with mechanisms that do not encrypt, recorded turns show what was opened.
 #![tactic(auto)]
 
 mod hand;

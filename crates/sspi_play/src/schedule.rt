@@ -4,7 +4,7 @@ ghost use Rattle.sspi_delegate.specs.Chain.{kdc_calls};
 ghost use Rattle.sspi_delegate.specs.Headline.{IsFresh};
 ghost use Rattle.sspi_delegate.specs.History.{KdcStays, ProxyStays};
 ghost use Rattle.sspi_delegate.specs.Turns.{client_end, server_end};
-ghost use Rattle.sspi_play.specs.Agreement.{OpensBehindTag, AgreesIfFaithful};
+ghost use Rattle.sspi_play.specs.Agreement.{AgreesIfFaithful};
 ghost use Rattle.sspi_play.specs.Kept.{identity_of};
 ghost use Rattle.sspi_play.specs.Negotiated.{NegotiatesIfFaithful, VerifiesFirst};
 ghost use Rattle.sspi_play.specs.Played.{both, Accounts, IsPlay};
@@ -48,8 +48,8 @@ pub fn play<N: Mechanism, K: Mechanism, C: CredentialsProxy, D: Kdc>(
     ensures plays { IsFresh client.old server.old → IsPlay (either N.REQUESTS N.meaning K.meaning) C.meaning
         (kdc_calls D.told D.asked D.faults) schedule.now (both client.old server.old kdc.old []) result
         (both client.new server.new kdc.new transcript.new.turns) }
-    ensures agrees { IsFresh client.old server.old → OpensBehindTag (either N.REQUESTS N.meaning K.meaning) →
-        AgreesIfFaithful (client_end client.new) (server_end server.new) transcript.new.turns (identity_of result) }
+    ensures agrees { IsFresh client.old server.old → AgreesIfFaithful (either N.REQUESTS N.meaning K.meaning)
+        (client_end client.new) (server_end server.new) transcript.new.turns (identity_of result) }
     ensures negotiates { IsFresh client.old server.old → NegotiatesIfFaithful N.REQUESTS N.meaning K.meaning
         (client_end client.new) (server_end server.new) server.old.settings.mode transcript.new.turns }
     ensures verifies { IsFresh client.old server.old → VerifiesFirst N.REQUESTS N.meaning K.meaning C.meaning

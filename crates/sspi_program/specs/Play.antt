@@ -47,8 +47,8 @@ pub record HasPlay (r : Record) : Type 0 where
       (both client server (kdc_in r.scenario) []) answer (both r.client.value r.server.value r.kdc r.transcript.turns)
   pub plays : IsPlay plain_meaning table_meaning (calls_of_kdc around) r.scenario.deliver
       (both client server (kdc_in r.scenario) []) answer (both r.client.value r.server.value r.kdc r.transcript.turns)
-  -- the plain mechanisms open what stands behind a tag, so that is no premise
-  pub agrees : AgreesIfFaithful (client_end r.client.value) (server_end r.server.value) r.transcript.turns (identity_of answer)
+  pub agrees : AgreesIfFaithful plain_meaning (client_end r.client.value) (server_end r.server.value) r.transcript.turns
+      (identity_of answer)
   pub negotiates : NegotiatesIfFaithful 0 ntlm_meaning kerberos_meaning (client_end r.client.value) (server_end r.server.value)
       server.settings.mode r.transcript.turns
   pub kdc : KdcStays told_replies kdc_faults (kdc_in r.scenario) r.kdc

@@ -13,14 +13,14 @@ returns-clause-plays g c fresh =
     fresh.client_is fresh.server_is (c.hand_all.ensures.accounts c.clear.ensures)
 
 pub returns-clause-agrees : goal.returns-clause-agrees
-returns-clause-agrees g c fresh tags =
+returns-clause-agrees g c fresh =
     let m = either g.N.Mechanism.REQUESTS g.N.Mechanism.meaning g.K.Mechanism.meaning in
     let law = lawful _ _ g.N.Mechanism.meaning g.K.Mechanism.meaning g.met.N.Mechanism.laws g.met.K.Mechanism.laws in
     let accounts = c.hand_all.ensures.accounts c.clear.ensures in
     agrees_if_faithful m law g.C.CredentialsProxy.meaning (kdc_calls g.D.Kdc.told g.D.Kdc.asked g.D.Kdc.faults) _ _ _
-    c.hand_all.result c.client_nonce-nonce.ensures.size
+    c.hand_all.result c.client_nonce-nonce.ensures.size fresh.server_is
     (is_play m law g.C.CredentialsProxy.meaning (kdc_calls g.D.Kdc.told g.D.Kdc.asked g.D.Kdc.faults) _ _ _ c.hand_all.result
-    fresh.client_is fresh.server_is accounts) accounts tags
+    fresh.client_is fresh.server_is accounts) accounts
 
 pub returns-clause-negotiates : goal.returns-clause-negotiates
 returns-clause-negotiates g c fresh =

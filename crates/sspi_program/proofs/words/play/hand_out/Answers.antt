@@ -2,7 +2,6 @@ use Rattle.std.proofs.Common.{refl, subst, sym}
 use Rattle.sspi_credssp.specs.Ends.{ClientView, IsFreshClient, ServerView, IsFreshServer}
 use Rattle.sspi_credssp.specs.Table.{TableView}
 use Rattle.sspi_delegate.specs.Headline.{IsFresh}
-use Rattle.sspi_play.proofs.BehindTags.{plain_opens}
 use Rattle.sspi_program.specs.Ends.{PlainContext, IsClientOf, IsServerOf}
 use Rattle.sspi_program.proofs.words.play.hand_out.Goals as goal
 
@@ -31,7 +30,7 @@ returns-clause-play c ends =
       outcome_is = refl;
       accounts = rw (ends.kdc, c.as_slice.ensures) at ensures.accounts;
       plays = rw (ends.kdc, c.as_slice.ensures) at (ensures.plays fresh);
-      agrees = ensures.agrees fresh (plain_opens 0);
+      agrees = ensures.agrees fresh;
       negotiates = ensures.negotiates fresh;
       kdc = rw ends.kdc at ensures.kdc;
       proxy = ensures.proxy;
