@@ -5,6 +5,8 @@ pub mod ClientOffers
 pub mod ClientSeals
 pub mod ClientVerifies
 pub mod Contexts
+pub mod Earlier
+pub mod Exchanged
 pub mod Gives
 pub mod Histories
 pub mod Lists
@@ -17,6 +19,7 @@ pub mod Order
 pub mod OwnIdentity
 pub mod Parts
 pub mod Picking
+pub mod PlainSeals
 pub mod Refusals
 pub mod Runs
 pub mod SameTexts
@@ -27,3 +30,4 @@ pub mod ServerPicks
 pub mod ServerSeals
 pub mod ServerVerifies
 pub mod Steps
+pub mod Undisturbed

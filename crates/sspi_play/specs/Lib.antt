@@ -7,3 +7,4 @@ pub mod Kept
 pub mod Negotiated
 pub mod Played
 pub mod Plays
+pub mod Undisturbed

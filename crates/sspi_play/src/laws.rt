@@ -1,11 +1,18 @@
-//! Which contexts open a blob to what stands behind its tag, so that their turns show the texts that they opened. Each law is
-//! the contract of a call that does nothing.
+//! Which contexts open a blob to what stands behind its tag, so that their turns show the texts that they opened; and that an
+//! undisturbed exchange is faithful, as agreement supposes. Each law is the contract of a call that does nothing.
 
-ghost use Rattle.std.specs.Prelude.{ℕ};
+ghost use Rattle.std.specs.Prelude.{ℕ, List, Option};
 ghost use Rattle.sspi_mech.specs.Kerberos.{kerberos_meaning};
+ghost use Rattle.sspi_mech.specs.KerberosStage.{KerberosState};
 ghost use Rattle.sspi_mech.specs.Ntlm.{ntlm_meaning};
+ghost use Rattle.sspi_mech.specs.NtlmStage.{NtlmState};
+ghost use Rattle.sspi_credssp.specs.declared.context.SspiContext.{SspiContext};
+ghost use Rattle.sspi_credssp.specs.declared.turn.Turn.{Turn};
 ghost use Rattle.sspi_credssp.specs.Context.{either};
+ghost use Rattle.sspi_delegate.specs.Turns.{ClientEnd, ServerEnd};
 ghost use Rattle.sspi_play.specs.Clear.{OpensBehindTag, OpensWhatIsShown};
+ghost use Rattle.sspi_play.specs.Faithful.{OpensWhatWasSealed};
+ghost use Rattle.sspi_play.specs.Undisturbed.{IsUndisturbedExchange, ReadsSeals};
 
 use sspi_mech::Mechanism;
 
@@ -24,4 +31,18 @@ pub fn a_plain_context_opens_behind_the_tag()
 /// one on recorded turns.
 pub fn recorded_turns_show_what_is_opened<N: Mechanism, K: Mechanism>()
     ensures { OpensBehindTag (either N.REQUESTS N.meaning K.meaning) → OpensWhatIsShown (either N.REQUESTS N.meaning K.meaning) }
+{}
+
+/// An exchange that the server finished, in which each turn is given the message of the turn before it, is faithful, if each
+/// context opens what the other sealed to that text. So the premise of agreement can be met, also by mechanisms that encrypt.
+pub fn an_undisturbed_exchange_is_faithful<N: Mechanism, K: Mechanism>()
+    ensures { let c = either N.REQUESTS N.meaning K.meaning in
+        (client : ClientEnd (SspiContext N K)) → (server : ServerEnd (SspiContext N K)) → (turns : List Turn) →
+        IsUndisturbedExchange c client server turns → OpensWhatWasSealed c client server turns }
+{}
+
+/// Two plain contexts read each other so, whatever their keys: a text that opens stands behind its tag, where it was sealed.
+pub fn plain_contexts_read_each_other()
+    ensures { (requests : ℕ) → (own peer : Option (SspiContext NtlmState KerberosState)) →
+        ReadsSeals (either requests ntlm_meaning kerberos_meaning) own peer }
 {}
