@@ -1,5 +1,5 @@
 -- What a turn adds to the texts that its end has opened; and a text that a server opened when it finished, by the context that is left.
-use Rattle.std.proofs.Common.{◌≡◌, ℕ, ◌+◌, ◌-◌, Bool, true, false, List, [], ◌∷◌, ◌++◌, Option, None, Some, Ok, sym, ◌∙◌, subst, refl, arith}
+use Rattle.std.proofs.Common.{◌≡◌, ℕ, ◌+◌, ◌-◌, Bool, true, false, List, [], ◌∷◌, ◌++◌, Option, None, Some, Ok, sym, ap, ◌∙◌, subst, refl, arith}
 use Rattle.sspi_mech.specs.Context.{IsContext}
 use Rattle.sspi_mech.specs.Meaning.{Meaning}
 use Rattle.sspi_names.specs.declared.identity.AuthIdentity.{AuthIdentity}
@@ -116,6 +116,38 @@ module _ {C : Type 0} (c : Meaning ContextSetting C) (context : Option C) where
   nothing_there [] texts none h = h
   nothing_there (t ∷ past) texts none h =
       added_nothing t (opened_in past) h.0 texts none.0 none.1 h.2 ∙ nothing_there past h.0 none.2 h.1
+
+-- ---- one list at most
+
+module _ {C : Type 0} (c : Meaning ContextSetting C) (law : IsContext c) where
+  one_text_in : (context : Option C) (n : ℕ) (field : Option (List ℕ)) (text other : List ℕ) → OpensIn c context n field text →
+      OpensIn c context n field other → text ≡ other
+  one_text_in None n field text other opens again = absurd opens
+  one_text_in (Some m) n None text other opens again = absurd opens
+  one_text_in (Some m) n (Some blob) text other opens again = law.one_text m n blob text other opens again
+
+  one_opened : (context : Option C) (was : Bool) (n : ℕ) (field : Option (List ℕ)) (texts others : List (List ℕ)) →
+      IsOpened c context was n field texts → IsOpened c context was n field others → texts ≡ others
+  one_opened context false n field texts others h again = h ∙ sym again
+  one_opened context true n field texts others h again =
+      h.2 ∙ ap (λ (x : List ℕ). x ∷ []) (one_text_in context n field h.0 again.0 h.1 again.1) ∙ sym again.2
+
+  joined : (a b d x y z : List (List ℕ)) → a ≡ x → b ≡ y → d ≡ z → a ++ b ++ d ≡ x ++ y ++ z
+  joined a b d x y z first second third = rw (first, second, third) refl
+
+  pub one_list : (context : Option C) (turns : List Turn) (texts others : List (List ℕ)) → HaveOpened c context turns texts →
+      HaveOpened c context turns others → texts ≡ others
+  one_list context [] texts others h again = h ∙ sym again
+  one_list context (t ∷ past) texts others h again =
+      let more = h.2 in
+      let other = again.2 in
+      more.all
+      ∙ joined more.credentials more.proof h.0 other.credentials other.proof again.0
+      (one_opened context t.acts.opened _ t.delivered.auth_info more.credentials other.credentials more.credentials_are
+      other.credentials_are)
+      (one_opened context t.acts.checked _ t.delivered.pub_key_auth more.proof other.proof more.proof_is other.proof_is)
+      (one_list context past h.0 again.0 h.1 again.1)
+      ∙ sym other.all
 
 -- ---- a server that finished
 

@@ -62,7 +62,7 @@ module _ {C : Type 0} (c : Meaning ContextSetting C) (context : Option C) where
   IsOpened true n field texts = (text : List ℕ) × OpensIn c context n field text × (texts ≡ text ∷ [])
   IsOpened false n field texts = texts ≡ []
 
-  -- a turn behind which n messages were opened opens the proof of its peer, or a server's the credentials
+  -- a turn before which n messages were opened opens the proof of its peer, or a server's the credentials
   pub record OpensMore (t : Turn) (n : ℕ) (before texts : List (List ℕ)) : Type 0 where
     pub proof : List (List ℕ)
     pub credentials : List (List ℕ)
@@ -70,7 +70,7 @@ module _ {C : Type 0} (c : Meaning ContextSetting C) (context : Option C) where
     pub credentials_are : IsOpened t.acts.opened (n + count_of t.acts.checked) t.delivered.auth_info credentials
     pub all : texts ≡ credentials ++ proof ++ before
 
-  -- The texts that an end has opened in these turns. There is one such list at most, since a blob opens to one text.
+  -- the texts that an end has opened in these turns; there is one such list at most
   abbrev pub HaveOpened : List Turn → List (List ℕ) → Type 0
   HaveOpened [] texts = texts ≡ []
   HaveOpened (t ∷ past) texts = (before : List (List ℕ)) × HaveOpened past before × OpensMore t (opened_in past) before texts

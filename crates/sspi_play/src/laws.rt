@@ -1,7 +1,7 @@
 //! Which contexts open a blob to what stands behind its tag, so that their turns show the texts that they opened; and that an
 //! undisturbed exchange is faithful, as agreement supposes. Each law is the contract of a call that does nothing.
 
-ghost use Rattle.std.specs.Prelude.{ℕ, List, Option};
+ghost use Rattle.std.specs.Prelude.{◌≡◌, ℕ, List, Option};
 ghost use Rattle.sspi_mech.specs.Kerberos.{kerberos_meaning};
 ghost use Rattle.sspi_mech.specs.KerberosStage.{KerberosState};
 ghost use Rattle.sspi_mech.specs.Ntlm.{ntlm_meaning};
@@ -11,7 +11,7 @@ ghost use Rattle.sspi_credssp.specs.declared.turn.Turn.{Turn};
 ghost use Rattle.sspi_credssp.specs.Context.{either};
 ghost use Rattle.sspi_delegate.specs.Turns.{ClientEnd, ServerEnd};
 ghost use Rattle.sspi_play.specs.Clear.{OpensBehindTag, OpensWhatIsShown};
-ghost use Rattle.sspi_play.specs.Faithful.{OpensWhatWasSealed};
+ghost use Rattle.sspi_play.specs.Faithful.{HaveOpened, OpensWhatWasSealed};
 ghost use Rattle.sspi_play.specs.Undisturbed.{IsUndisturbedExchange, ReadsSeals};
 
 use sspi_mech::Mechanism;
@@ -27,7 +27,14 @@ pub fn a_plain_context_opens_behind_the_tag()
     ensures { (requests : ℕ) → OpensBehindTag (either requests ntlm_meaning kerberos_meaning) }
 {}
 
-/// What the turns of such an end have opened is what they show. So with mechanisms that do not encrypt the premise of agreement is
+/// There is at most one list of the texts that an end has opened in its turns.
+pub fn one_list_was_opened<N: Mechanism, K: Mechanism>()
+    ensures { let c = either N.REQUESTS N.meaning K.meaning in
+        (context : Option (SspiContext N K)) → (turns : List Turn) → (texts others : List (List ℕ)) →
+        HaveOpened c context turns texts → HaveOpened c context turns others → texts ≡ others }
+{}
+
+/// What the turns of an end that opens behind a tag have opened is what they show. So with mechanisms that do not encrypt the premise of agreement is
 /// one on recorded turns.
 pub fn recorded_turns_show_what_is_opened<N: Mechanism, K: Mechanism>()
     ensures { OpensBehindTag (either N.REQUESTS N.meaning K.meaning) → OpensWhatIsShown (either N.REQUESTS N.meaning K.meaning) }
