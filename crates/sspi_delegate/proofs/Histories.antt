@@ -20,10 +20,10 @@ use Rattle.sspi_credssp.specs.declared.turn.Outcome.{Outcome}
 use Rattle.sspi_credssp.specs.declared.turn.Outcome.TheVariants as outcome
 use Rattle.sspi_credssp.specs.declared.turn.Turn.{Turn}
 use Rattle.sspi_delegate.specs.Chain.{KdcCalls}
-use Rattle.sspi_delegate.specs.Turns.{client_turns, server_turns}
+use Rattle.sspi_delegate.specs.Turns.{client_turns, server_turns, AllGoOn}
 use Rattle.sspi_delegate.specs.History.{ClientTakes, ClientMakes, ClientHistory, ClientStopped, ClientLeft, between, waiting, ClientPast}
 use Rattle.sspi_delegate.specs.History.{ServerMakes, ServerHistory, ServerGave, ServerStopped, ServerPast}
-use Rattle.sspi_delegate.specs.Rounds.{newest_alone}
+use Rattle.sspi_delegate.specs.Rounds.{newest_alone, ClientLost, unmoved, suspended}
 use Rattle.sspi_delegate.specs.LogKeeping.{recorded}
 
 module _ {C D : Type 0} (c : Meaning ContextSetting C) (k : KdcCalls D) where
@@ -66,6 +66,12 @@ module _ {C D : Type 0} (c : Meaning ContextSetting C) (k : KdcCalls D) where
       ClientStopped c k old kdc error (client_turns (newest_alone turns2)) new kdc2
   client_stopped_alone old mid new kdc kdc2 d error turns turns2 takes rest is =
       client_stopped old old mid new kdc kdc kdc2 d error [] (newest_alone turns2) (refl, refl) takes rest (ap newest_alone is)
+
+  -- a turn for which there was no memory, behind turns that all went on
+  pub left_lost : (request : TsRequest) (first now : ClientView C) (kdc kdc2 : D) (turns : List Turn) → AllGoOn turns →
+      ClientLost c k request first kdc turns now kdc2 → ClientLeft c k (λ d. d ≡ request) first kdc turns now kdc2
+  left_lost request first now kdc kdc2 turns going (unmoved history) = between history
+  left_lost request first now kdc kdc2 turns going (suspended old kdc1 history way) = waiting old kdc1 request refl going history way
 
   -- a turn that was refused is one of the history
   pub client_stopped_history : (first now : ClientView C) (kdc kdc2 : D) (error : Error) (turns : List Turn) →

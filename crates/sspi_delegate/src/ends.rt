@@ -2,7 +2,7 @@ ghost use Rattle.std.specs.Prelude.{◌≡◌, ◌<◌, [], ◌∷◌, None, IfS
 ghost use Rattle.sspi_credssp.specs.Ends.{ClientView, ServerView};
 ghost use Rattle.sspi_credssp.specs.Context.{either};
 ghost use Rattle.sspi_delegate.specs.Chain.{HasReplied, HasNoReply, kdc_calls};
-ghost use Rattle.sspi_delegate.specs.Turns.{client_turns, server_turns, AllGoOn};
+ghost use Rattle.sspi_delegate.specs.Turns.{client_turns, server_turns};
 ghost use Rattle.sspi_delegate.specs.LogKeeping.{recorded};
 ghost use Rattle.sspi_delegate.specs.History.{ClientHistory, ServerHistory, KdcStays, ProxyStays};
 ghost use Rattle.sspi_delegate.specs.Recorded.{ClientPushed, ServerPushed};
@@ -90,7 +90,7 @@ pub fn client_round<N: Mechanism, K: Mechanism, D: Kdc>(
     ensures made { ClientRoundPast (either N.REQUESTS N.meaning K.meaning) (kdc_calls D.told D.asked D.faults) request
         client.old kdc.old result (client_turns (added_by_client result transcript.new.turns)) client.new kdc.new }
     ensures client_history { let c = either N.REQUESTS N.meaning K.meaning in let k = kdc_calls D.told D.asked D.faults in
-        (first : ClientView (SspiContext N K)) (kdc_first : D) → AllGoOn (client_turns transcript.old.turns) →
+        (first : ClientView (SspiContext N K)) (kdc_first : D) →
         ClientHistory c k first kdc_first (client_turns transcript.old.turns) client.old kdc.old →
         ClientRoundPast c k request first kdc_first result (client_turns transcript.new.turns) client.new kdc.new }
     // What stays.

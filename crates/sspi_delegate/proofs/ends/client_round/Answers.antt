@@ -2,12 +2,12 @@ use Rattle.std.proofs.Common.{refl}
 use Rattle.sspi_credssp.specs.Context.{either}
 use Rattle.sspi_delegate.specs.Chain.{kdc_calls}
 use Rattle.sspi_credssp.specs.declared.turn.Outcome.TheVariants as outcome
-use Rattle.sspi_delegate.specs.History.{waiting}
+use Rattle.sspi_delegate.specs.Rounds.{suspended}
 use Rattle.sspi_delegate.proofs.Histories.{client_made, client_stopped, client_alone, client_stopped_alone}
 use Rattle.sspi_delegate.proofs.ends.client_round.Goals as goal
 
 pub returns-in-Answered-ReplyNeeded-clause-client_history : goal.returns-in-Answered-ReplyNeeded-clause-client_history
-returns-in-Answered-ReplyNeeded-clause-client_history g c first kdc_first went history =
+returns-in-Answered-ReplyNeeded-clause-client_history g c first kdc_first history =
     client_made (either g.N.Mechanism.REQUESTS g.N.Mechanism.meaning g.K.Mechanism.meaning)
     (kdc_calls g.D.Kdc.told g.D.Kdc.asked g.D.Kdc.faults)
     first c.args.client.now c.finish_turn.new.client c.record_client.new.client kdc_first c.args.kdc.now c.finish_turn.new.kdc
@@ -16,7 +16,7 @@ returns-in-Answered-ReplyNeeded-clause-client_history g c first kdc_first went h
     (rw (← c.in-Ok.ensures.turns, ← c.in-Ok-clone.ensures) c.record_client.ensures.turn)
 
 pub returns-in-Answered-FinalMessage-clause-client_history : goal.returns-in-Answered-FinalMessage-clause-client_history
-returns-in-Answered-FinalMessage-clause-client_history g c first kdc_first went history =
+returns-in-Answered-FinalMessage-clause-client_history g c first kdc_first history =
     client_made (either g.N.Mechanism.REQUESTS g.N.Mechanism.meaning g.K.Mechanism.meaning)
     (kdc_calls g.D.Kdc.told g.D.Kdc.asked g.D.Kdc.faults)
     first c.args.client.now c.finish_turn.new.client c.record_client-in-Answered-FinalMessage.new.client
@@ -28,7 +28,7 @@ returns-in-Answered-FinalMessage-clause-client_history g c first kdc_first went 
     (rw (← c.in-Ok.ensures.turns, ← c.in-Ok-clone.ensures) c.record_client-in-Answered-FinalMessage.ensures.turn)
 
 pub returns-in-Refused-clause-client_history : goal.returns-in-Refused-clause-client_history
-returns-in-Refused-clause-client_history g c first kdc_first went history =
+returns-in-Refused-clause-client_history g c first kdc_first history =
     client_stopped (either g.N.Mechanism.REQUESTS g.N.Mechanism.meaning g.K.Mechanism.meaning)
     (kdc_calls g.D.Kdc.told g.D.Kdc.asked g.D.Kdc.faults)
     first c.args.client.now c.finish_turn.new.client c.record_client-in-Refused.new.client
@@ -37,8 +37,8 @@ returns-in-Refused-clause-client_history g c first kdc_first went history =
     (rw (← c.in-Ok.ensures.turns, ← c.in-Ok-clone.ensures) c.record_client-in-Refused.ensures.turn)
 
 pub returns-in-Lost-clause-client_history : goal.returns-in-Lost-clause-client_history
-returns-in-Lost-clause-client_history g c first kdc_first went history =
-    rw c.in-Ok.ensures.turns (waiting c.args.client.now c.args.kdc.now c.args.request refl went history c.in-Lost.ensures.turn)
+returns-in-Lost-clause-client_history g c first kdc_first history =
+    rw c.in-Ok.ensures.turns (suspended c.args.client.now c.args.kdc.now history c.in-Lost.ensures.turn)
 
 pub returns-in-Answered-ReplyNeeded-clause-made : goal.returns-in-Answered-ReplyNeeded-clause-made
 returns-in-Answered-ReplyNeeded-clause-made g c =
@@ -70,4 +70,4 @@ returns-in-Refused-clause-made g c =
     (rw (← c.in-Ok.ensures.turns, ← c.in-Ok-clone.ensures) c.record_client-in-Refused.ensures.turn)
 
 pub returns-in-Lost-clause-made : goal.returns-in-Lost-clause-made
-returns-in-Lost-clause-made g c = waiting c.args.client.now c.args.kdc.now c.args.request refl tt (refl, refl) c.in-Lost.ensures.turn
+returns-in-Lost-clause-made g c = suspended c.args.client.now c.args.kdc.now (refl, refl) c.in-Lost.ensures.turn

@@ -4,9 +4,10 @@ use Rattle.sspi_credssp.specs.declared.turn.End.TheVariants.{Client}
 use Rattle.sspi_credssp.specs.Context.{either}
 use Rattle.sspi_delegate.proofs.Alternating.{clients_go}
 use Rattle.sspi_delegate.proofs.Halves.{client_half_stopped, client_half_refused}
-use Rattle.sspi_delegate.proofs.Histories.{left_due}
+use Rattle.sspi_delegate.proofs.Histories.{left_due, left_lost}
 use Rattle.sspi_delegate.proofs.LogSteps.{turned, lost, client_refused}
 use Rattle.sspi_delegate.specs.Chain.{kdc_calls}
+use Rattle.sspi_delegate.specs.Turns.{client_turns}
 use Rattle.sspi_delegate.proofs.exchange.client_half.Goals as goal
 
 pub returns-in_ok-give-in-Answered-clause-half : goal.returns-in_ok-give-in-Answered-clause-half
@@ -32,7 +33,7 @@ returns-in-Lost-clause-half g c base start limit next left w =
 
 pub returns-in_ok-give-in-Answered-clause-client_history : goal.returns-in_ok-give-in-Answered-clause-client_history
 returns-in_ok-give-in-Answered-clause-client_history g c base start first kdc_first next w history =
-    c.in-Answered.ensures.client_history first kdc_first (clients_go _ w.going) history
+    c.in-Answered.ensures.client_history first kdc_first history
 
 pub returns-in_err-give-in-Answered-clause-client_history : goal.returns-in_err-give-in-Answered-clause-client_history
 returns-in_err-give-in-Answered-clause-client_history g c base start first kdc_first next w history =
@@ -41,14 +42,14 @@ returns-in_err-give-in-Answered-clause-client_history g c base start first kdc_f
     (client_half_stopped (either g.N.Mechanism.REQUESTS g.N.Mechanism.meaning g.K.Mechanism.meaning)
     (kdc_calls g.D.Kdc.told g.D.Kdc.asked g.D.Kdc.faults) _ first c.client_round.new.client kdc_first
     c.client_round.new.kdc _ c.in_err-give-in-Answered.field-0.0 c.in_err-give-in-Answered.ensures.link
-    (c.in-Answered.ensures.client_history first kdc_first (clients_go _ w.going) history))
+    (c.in-Answered.ensures.client_history first kdc_first history))
 
 pub returns-in-Refused-clause-client_history : goal.returns-in-Refused-clause-client_history
 returns-in-Refused-clause-client_history g c base start first kdc_first next w history =
     client_half_refused (either g.N.Mechanism.REQUESTS g.N.Mechanism.meaning g.K.Mechanism.meaning)
     (kdc_calls g.D.Kdc.told g.D.Kdc.asked g.D.Kdc.faults) _ first c.client_round.new.client kdc_first
     c.client_round.new.kdc _ c.in-Refused.error c.client_error.result c.client_error.ensures
-    (c.in-Refused.ensures.client_history first kdc_first (clients_go _ w.going) history)
+    (c.in-Refused.ensures.client_history first kdc_first history)
 
 pub returns-in-Lost-clause-client_history : goal.returns-in-Lost-clause-client_history
 returns-in-Lost-clause-client_history g c base start first kdc_first next w history =
@@ -57,7 +58,10 @@ returns-in-Lost-clause-client_history g c base start first kdc_first next w hist
     (kdc_calls g.D.Kdc.told g.D.Kdc.asked g.D.Kdc.faults) (λ d. d ≡ c.in_ok-request.request) _ first c.client_round.new.client kdc_first
     c.client_round.new.kdc _ (λ d is. rw (is, c.in-Lost.ensures.turn)
     (asked.going, next, asked.entries, asked.delivered))
-    (c.in-Lost.ensures.client_history first kdc_first (clients_go _ w.going) history)
+    (left_lost (either g.N.Mechanism.REQUESTS g.N.Mechanism.meaning g.K.Mechanism.meaning)
+    (kdc_calls g.D.Kdc.told g.D.Kdc.asked g.D.Kdc.faults) c.in_ok-request.request first c.client_round.new.client kdc_first
+    c.client_round.new.kdc (client_turns c.client_round.new.transcript.turns) (rw c.in-Lost.ensures.turn (clients_go _ w.going))
+    (c.in-Lost.ensures.client_history first kdc_first history))
 
 pub returns-in_err-request-clause-client_history : goal.returns-in_err-request-clause-client_history
 returns-in_err-request-clause-client_history g c base start first kdc_first next w history =
