@@ -23,12 +23,13 @@ use Rattle.sspi_gate.specs.declared.answer.GateFault.{GateFault}
 use Rattle.sspi_gate.specs.declared.answer.GateFault.TheVariants.{Bad, Version, ReadFault, WriteFault, TurnsSpent, InsufficientMemory}
 use Rattle.sspi_gate.specs.declared.answer.Relayed.{Relayed}
 use Rattle.sspi_gate.specs.Decided.{IsDecided, IsOfRequests}
-use Rattle.sspi_gate.specs.Front.{AreCalm, AreRequests, GivesFirst, IsText, HaveOneVersion, MaySend, first_version, refusal}
-use Rattle.sspi_gate.specs.Next.{IsBad}
-use Rattle.sspi_gate.specs.Step.{HasFault}
+use Rattle.sspi_framing.specs.Front.{AreRequests, GivesFirst, IsText}
+use Rattle.sspi_gate.specs.Front.{AreCalm, HaveOneVersion, MaySend, first_version, refusal}
+use Rattle.sspi_framing.specs.Taking.{IsBad}
+use Rattle.sspi_framing.specs.Parts.{HasFault}
 use Rattle.sspi_gate.specs.Relay.{Closes, GivesUp, GoesOn, IsRefused, IsRelay, IsSpent, Stops, of}
 use Rattle.sspi_gate.specs.Way.{HandsOn, Way}
-use Rattle.sspi_gate.proofs.Fronts.{given_first, one_front}
+use Rattle.sspi_framing.proofs.Fronts.{given_first, one_front}
 
 -- ---- a relay on told streams
 

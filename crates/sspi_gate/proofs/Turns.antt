@@ -1,6 +1,6 @@
 -- A relay, step by step.
 use Rattle.std.proofs.Common.{◌≡◌, ℕ, ◌+◌, ◌<◌, List, [], ◌∷◌, ◌++◌, length, Option, None}
-use Rattle.std.proofs.Common.{Some, Ok, Err, refl, sym, ap, ◌∙◌, subst, append_assoc, arith}
+use Rattle.std.proofs.Common.{Some, Ok, Err, refl, sym, ap, ◌∙◌, subst, arith}
 use Rattle.std.proofs.lemmas.List.{append-nil, length_push}
 use Rattle.std.proofs.lemmas.List.Elements.{All-nil, All-push}
 use Rattle.std.proofs.KnownBytes.{Appends-nil, Appends-trans, Consumes-nil, Consumes-trans}
@@ -12,23 +12,13 @@ use Rattle.sspi_gate.specs.declared.answer.GateFault.TheVariants.{Bad, Version, 
 use Rattle.sspi_gate.specs.declared.passing.Seen.{Seen}
 use Rattle.sspi_gate.specs.declared.passing.Step.TheVariants as steps
 use Rattle.sspi_tsreq.specs.declared.request.TsRequest.{TsRequest}
-use Rattle.sspi_gate.specs.Front.{AreCalm, AreRequests, HaveOneVersion, MaySend, first_version, refusal}
+use Rattle.sspi_framing.proofs.Fronts.{joined}
+use Rattle.sspi_gate.specs.Front.{AreCalm, HaveOneVersion, MaySend, first_version, refusal}
 use Rattle.sspi_gate.specs.Relay.{GivesUp, IsBroken, IsRelay, Passed}
 use Rattle.sspi_gate.specs.Step.{IsStep}
 use Rattle.sspi_gate.specs.Way.{HandsOn, Way}
 
--- ---- requests one behind the other
-
-pub joined : (front more : List ℕ) (requests others : List TsRequest) → AreRequests front requests → AreRequests more others →
-    AreRequests (front ++ more) (requests ++ others)
-joined front more [] others e others_are = rw e others_are
-joined front more (r ∷ later) others (text, rest, parts, is, later_are) others_are = (
-  text,
-  rest ++ more,
-  ap (λ (l : List ℕ). l ++ more) parts ∙ append_assoc text rest more,
-  is,
-  joined rest more later others later_are others_are,
-)
+-- ---- requests handed on
 
 pub nothing_handed : (way : Way) → HandsOn way way []
 nothing_handed way = record {

@@ -1,7 +1,6 @@
 pub mod Front
 pub mod Way
 pub mod Next
-pub mod Taking
 pub mod Step
 pub mod Relay
 pub mod Decided

@@ -1,19 +1,17 @@
 -- What comes of the request that is due from an end.
-use Rattle.std.specs.Prelude.{◌≡◌, ℕ, List, [], ◌∷◌, Option, Result, Ok, Err, Some}
+use Rattle.std.specs.Prelude.{◌≡◌, ℕ, List, [], ◌∷◌, Option, Result, Ok, Err}
 use Rattle.std.specs.Io.KnownBytes.{IsAtEnd}
-use Rattle.sspi_ber.specs.Pieces.{Ended, Invalid}
-use Rattle.sspi_ber.specs.declared.wire_kind.WireKind.{WireKind}
-use Rattle.sspi_ber.specs.declared.wire_kind.WireKind.TheVariants as kinds
 use Rattle.sspi_tsreq.specs.declared.request.TsRequest.{TsRequest}
 use Rattle.sspi_tsreq.specs.Quiet.{HasOctets}
-use Rattle.sspi_tsreq.specs.Reading.{fault}
 use Rattle.sspi_credssp.specs.declared.turn.End.{End}
 use Rattle.sspi_gate.specs.declared.answer.GateFault.TheVariants.{Bad, Version, ReadFault, WriteFault, TurnsSpent, InsufficientMemory}
 use Rattle.sspi_gate.specs.declared.answer.GateFault.{GateFault}
 use Rattle.sspi_gate.specs.declared.passing.Seen.{Seen}
 use Rattle.sspi_gate.specs.declared.passing.Step.{Step}
 use Rattle.sspi_gate.specs.declared.passing.Step.TheVariants.{Passed, Ended, Stopped}
-use Rattle.sspi_gate.specs.Front.{IsText, MaySend, refusal}
+use Rattle.sspi_framing.specs.Front.{IsText}
+use Rattle.sspi_framing.specs.Parts.{HasFault}
+use Rattle.sspi_gate.specs.Front.{MaySend, refusal}
 use Rattle.sspi_gate.specs.Way.{Way, HandsOn}
 use Rattle.sspi_gate.specs.Next.{Fails}
 
@@ -27,14 +25,6 @@ abbrev pub IsStep : End → Option ℕ → Way → Way → Step → Type 0
 IsStep end first before after (Passed seen) = (r : TsRequest) × HandsOn before after (r ∷ []) × IsSeen seen r × MaySend first r.version
 IsStep end first before after Ended = IsAtEnd after.left × HandsOn before after []
 IsStep end first before after (Stopped why) = Fails end first before after why
-
--- the bytes begin with no request, for this reason
-abbrev pub HasFault : List ℕ → WireKind → Type 0
-HasFault bytes kinds.UnexpectedEof = fault bytes ≡ Some Ended
-HasFault bytes kinds.InvalidData = fault bytes ≡ Some Invalid
-HasFault bytes kinds.ReadFault = ⊥
-HasFault bytes kinds.WriteFault = ⊥
-HasFault bytes kinds.InsufficientMemory = ⊥
 
 -- What is made of the bytes of a request before they are written. Memory is wanted only where they are one, for its OCTET STRINGs.
 abbrev pub Judges : End → Option ℕ → List ℕ → Result Seen GateFault → Type 0

@@ -2,7 +2,7 @@
 use Rattle.std.specs.Prelude.{◌≡◌, ℕ, List, Option}
 use Rattle.std.specs.Io.KnownBytes.{Appends, Consumes}
 use Rattle.sspi_tsreq.specs.declared.request.TsRequest.{TsRequest}
-use Rattle.sspi_gate.specs.Front.{AreRequests}
+use Rattle.sspi_framing.specs.Front.{AreRequests}
 
 -- the bytes that are left and that were written, where they are told, and the counts of faults
 pub record Way : Type 0 where

@@ -6,7 +6,7 @@ ghost use Rattle.sspi_gate.specs.declared.answer.Relayed.{Relayed};
 ghost use Rattle.sspi_gate.specs.Decided.{IsDecided};
 ghost use Rattle.sspi_gate.specs.Relay.{IsRelay};
 ghost use Rattle.sspi_gate.specs.Way.{Way};
-ghost use Rattle.sspi_gate.specs.Front.{AreRequests, GivesFirst};
+ghost use Rattle.sspi_framing.specs.Front.{AreRequests, GivesFirst};
 ghost use Rattle.sspi_tsreq.specs.declared.request.TsRequest.{TsRequest};
 
 /// Bytes that are requests are what a reader takes first, one request behind the other, of each stream that begins with them;

@@ -4,16 +4,14 @@
 //! - `relay`: the requests of two streams, handed on in turn, each as the bytes that came.
 //! - `laws.rt`: what the requests at the front of a stream are, and that the streams decide the answer.
 //!
-//! `specs/Front.antt` has the requests that stand at the front of a stream, `specs/Way.antt` one direction of a relay,
-//! `specs/Next.antt` why a request is not handed on, and `specs/Relay.antt` what a relay did and when each answer comes.
+//! `specs/Front.antt` has the versions and codes of requests, `specs/Way.antt` one direction of a relay, `specs/Next.antt` why a
+//! request is not handed on, and `specs/Relay.antt` what a relay did and when each answer comes.
 #![tactic(auto)]
 
 pub mod answer;
-mod header;
 pub mod laws;
 mod passing;
 pub mod relaying;
-mod taking;
 
 pub use answer::{Close, GateError, GateFault, Relayed};
 pub use relaying::relay;

@@ -1,13 +1,14 @@
 ghost use Rattle.std.specs.Prelude.{◌≡◌, MatchBool};
 ghost use Rattle.sspi_gate.specs.Front.{MaySend, refusing_code};
-ghost use Rattle.sspi_gate.specs.Next.{IsWhole, other_end};
+ghost use Rattle.sspi_framing.specs.Taking.{IsWhole};
+ghost use Rattle.sspi_gate.specs.Next.{other_end};
 ghost use Rattle.sspi_gate.specs.Step.{IsStep, Judges};
 ghost use Rattle.sspi_gate.specs.Way.{way};
 
 use crate::answer::GateFault;
-use crate::taking::take_request;
 use sspi_ber::{Sink, Source, WireKind, write_all};
 use sspi_credssp::End;
+use sspi_framing::take_request;
 use sspi_tsreq::TsRequest;
 use sspi_types::NStatusCode;
 use std::alloc::Global;

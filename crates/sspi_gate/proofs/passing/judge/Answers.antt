@@ -1,5 +1,6 @@
 use Rattle.std.proofs.Common.{refl}
-use Rattle.sspi_gate.proofs.Judged.{is_text, lacks_memory}
+use Rattle.sspi_framing.proofs.Whole.{is_text}
+use Rattle.sspi_gate.proofs.Judged.{lacks_memory}
 use Rattle.sspi_gate.proofs.passing.judge.Goals as goal
 
 pub returns-then-not-may_send : goal.returns-then-not-may_send

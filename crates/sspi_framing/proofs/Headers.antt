@@ -13,9 +13,9 @@ use Rattle.sspi_ber.proofs.PiecesMatch.{chosen, header_match}
 use Rattle.sspi_ber.proofs.Steady.{header_steady}
 use Rattle.sspi_tsreq.specs.Reading.{fault}
 use Rattle.sspi_tsreq.specs.Reading.{request_at}
-use Rattle.sspi_gate.specs.Next.{AreWanted, IsBad, TakesToFault, TakesWanted}
-use Rattle.sspi_gate.specs.Taking.{Announces, IsHeaderOf, TakesHeader}
-use Rattle.sspi_gate.proofs.Wanted.{header_shown, header_unfinished, pushed_wanted, wanted_all}
+use Rattle.sspi_framing.specs.Taking.{AreWanted, IsBad, TakesToFault, TakesWanted}
+use Rattle.sspi_framing.specs.Parts.{Announces, IsHeaderOf, TakesHeader}
+use Rattle.sspi_framing.proofs.Wanted.{header_shown, header_unfinished, pushed_wanted, wanted_all}
 
 -- ---- when a header is whole
 

@@ -1,8 +1,8 @@
 use Rattle.std.proofs.Common.{arith}
 use Rattle.std.proofs.lemmas.List.{length-take}
 use Rattle.std.proofs.lemmas.Result.{err_from_is_err_and}
-use Rattle.sspi_gate.proofs.Contents.{body_rest}
-use Rattle.sspi_gate.proofs.taking.take_body.Goals as goal
+use Rattle.sspi_framing.proofs.Contents.{body_rest}
+use Rattle.sspi_framing.proofs.taking.take_body.Goals as goal
 
 pub returns-in_err-extend_from_slice-clause-takes : goal.returns-in_err-extend_from_slice-clause-takes
 returns-in_err-extend_from_slice-clause-takes g c =

@@ -1,6 +1,6 @@
 ghost use Rattle.std.specs.Prelude.{◌≡◌, []};
 ghost use Rattle.sspi_ber.specs.Outside.{CopyCause};
-ghost use Rattle.sspi_gate.specs.Taking.{Announces, TakesHeader};
+ghost use Rattle.sspi_framing.specs.Parts.{Announces, TakesHeader};
 
 use sspi_ber::{MAX_LENGTH_OCTETS, SliceSource, Source, WireKind, read_sequence_tag};
 

@@ -1,7 +1,7 @@
 use Rattle.std.proofs.Common.{◌≡◌, ℕ, List, Ok, Err, Option, refl}
 use Rattle.sspi_ber.specs.Pieces.{Read, header_at}
 use Rattle.sspi_ber.specs.Outside.{Answers}
-use Rattle.sspi_gate.proofs.header.announced.Goals as goal
+use Rattle.sspi_framing.proofs.header.announced.Goals as goal
 
 rest_of : (size : ℕ) (after : Option (List ℕ)) (read : Read ℕ) → Answers {X = ℕ} {A = ℕ} (λ n. n) after (Ok size) read →
     (x : List ℕ) × (read ≡ Ok (size, x))

@@ -7,8 +7,8 @@ use Rattle.sspi_ber.specs.Forms.{IsLength}
 use Rattle.sspi_ber.proofs.Match.{both_are}
 use Rattle.sspi_ber.proofs.PiecesMatch.{element_match}
 use Rattle.sspi_ber.proofs.Steady.{element_steady}
-use Rattle.sspi_gate.specs.Next.{AreWanted, IsUnfinished, IsWhole}
-use Rattle.sspi_gate.specs.Taking.{IsHeaderOf}
+use Rattle.sspi_framing.specs.Taking.{AreWanted, IsUnfinished, IsWhole}
+use Rattle.sspi_framing.specs.Parts.{IsHeaderOf}
 
 -- ---- bytes that are unfinished
 

@@ -1,7 +1,7 @@
 use Rattle.std.proofs.Common.{ℕ, Global, Vec}
 use Rattle.std.proofs.lemmas.Result.{err_from_is_err_and}
-use Rattle.sspi_gate.proofs.Contents.{refused_content}
-use Rattle.sspi_gate.proofs.taking.take_request.Goals as goal
+use Rattle.sspi_framing.proofs.Contents.{refused_content}
+use Rattle.sspi_framing.proofs.taking.take_request.Goals as goal
 
 pub returns-in_err-take_body-clause-takes : goal.returns-in_err-take_body-clause-takes
 returns-in_err-take_body-clause-takes g c =

@@ -1,11 +1,14 @@
--- How the bytes of one request are taken from a source: its header byte by byte, and then its content.
+-- How the header and the content of one request are taken, and how its bytes are read.
 use Rattle.std.specs.Prelude.{◌≡◌, ◌<◌, ◌≤◌, ℕ, List, [], ◌∷◌, ◌++◌, length, Option, None, Some, Result, Ok, Err}
 use Rattle.std.specs.Io.KnownBytes.{Consumes, IsAtEnd}
 use Rattle.sspi_ber.specs.Pieces.{Ended, Invalid, header_at}
 use Rattle.sspi_ber.specs.Forms.{IsLength}
 use Rattle.sspi_ber.specs.declared.wire_kind.WireKind.{WireKind}
 use Rattle.sspi_ber.specs.declared.wire_kind.WireKind.TheVariants.{UnexpectedEof, InvalidData, ReadFault, WriteFault, InsufficientMemory}
-use Rattle.sspi_gate.specs.Next.{IsBad, IsWhole, TakesToFault, TakesWanted}
+use Rattle.sspi_tsreq.specs.declared.request.TsRequest.{TsRequest}
+use Rattle.sspi_tsreq.specs.Reading.{fault}
+use Rattle.sspi_framing.specs.Front.{IsText}
+use Rattle.sspi_framing.specs.Taking.{IsBad, TakesToFault, TakesWanted}
 
 -- the length that a header announces, or that bytes of it are missing
 abbrev pub Announces : List ℕ → Result (Option ℕ) WireKind → Type 0
@@ -64,12 +67,21 @@ TakesBody size before after old new (Err ReadFault) = TakesPart size before afte
 TakesBody size before after old new (Err WriteFault) = ⊥
 TakesBody size before after old new (Err InsufficientMemory) = TakesPart size before after
 
--- header and content
-abbrev pub TakesRequest : {X : Type 0} → (X → List ℕ) → Option (List ℕ) → Option (List ℕ) → Result (Option X) WireKind → Type 0
-TakesRequest view before after (Ok (Some x)) = Consumes before after (view x) × IsWhole (view x)
-TakesRequest view before after (Ok None) = IsAtEnd after × Consumes before after []
-TakesRequest view before after (Err UnexpectedEof) = IsBad before UnexpectedEof × TakesToFault UnexpectedEof before after
-TakesRequest view before after (Err InvalidData) = ⊥
-TakesRequest view before after (Err ReadFault) = TakesWanted before after
-TakesRequest view before after (Err WriteFault) = ⊥
-TakesRequest view before after (Err InsufficientMemory) = TakesWanted before after
+-- ---- what the bytes of a request are read as
+
+-- the bytes begin with no request, for this reason
+abbrev pub HasFault : List ℕ → WireKind → Type 0
+HasFault bytes UnexpectedEof = fault bytes ≡ Some Ended
+HasFault bytes InvalidData = fault bytes ≡ Some Invalid
+HasFault bytes ReadFault = ⊥
+HasFault bytes WriteFault = ⊥
+HasFault bytes InsufficientMemory = ⊥
+
+-- bytes that a header bounds are all of a request, or begin with none
+abbrev pub IsReadAs : List ℕ → Result TsRequest WireKind → Type 0
+IsReadAs bytes (Ok r) = IsText bytes r
+IsReadAs bytes (Err UnexpectedEof) = HasFault bytes UnexpectedEof
+IsReadAs bytes (Err InvalidData) = HasFault bytes InvalidData
+IsReadAs bytes (Err ReadFault) = ⊥
+IsReadAs bytes (Err WriteFault) = ⊥
+IsReadAs bytes (Err InsufficientMemory) = Unit {0}

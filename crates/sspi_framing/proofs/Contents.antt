@@ -11,9 +11,9 @@ use Rattle.sspi_ber.specs.declared.wire_kind.WireKind.TheVariants.{UnexpectedEof
 use Rattle.sspi_ber.proofs.PiecesMatch.{header_match}
 use Rattle.sspi_tsreq.specs.Reading.{fault}
 use Rattle.sspi_tsreq.specs.Reading.{request_at}
-use Rattle.sspi_gate.specs.Next.{IsBad, IsWhole, TakesToFault, TakesWanted}
-use Rattle.sspi_gate.specs.Taking.{IsHeaderOf, TakesBytes, TakesBody, TakesCut, TakesPart, TakesRequest}
-use Rattle.sspi_gate.proofs.Wanted.{part_wanted}
+use Rattle.sspi_framing.specs.Taking.{IsBad, IsWhole, TakesToFault, TakesWanted, TakesRequest}
+use Rattle.sspi_framing.specs.Parts.{IsHeaderOf, TakesBytes, TakesBody, TakesCut, TakesPart}
+use Rattle.sspi_framing.proofs.Wanted.{part_wanted}
 
 -- so much of the content was taken, and so many bytes are missing
 pub record BodySoFar (size missing : ℕ) (before now : Option (List ℕ)) (old new : List ℕ) : Type 0 where

@@ -1,11 +1,11 @@
--- What is read one behind the other, and the bytes that it takes.
+-- Requests one behind the other, and the bytes that they take.
 use Rattle.std.proofs.Common.{◌≡◌, ℕ, ◌≤◌, List, [], ◌∷◌, ◌++◌, length, take, drop, refl, sym, ap, ◌∙◌, subst, append_assoc, arith}
 use Rattle.std.proofs.lemmas.List.{drop_at, length-append, length-take-le, take-append-drop}
 use Rattle.sspi_tsreq.specs.declared.request.TsRequest.{TsRequest}
 use Rattle.sspi_tsreq.specs.Grammar.{IsRequest}
 use Rattle.sspi_tsreq.proofs.Fronts.{alone_request}
 use Rattle.sspi_tsreq.proofs.RoundTrip.{more_request, one_request}
-use Rattle.sspi_gate.specs.Front.{AreRequests, GivesFirst, IsText}
+use Rattle.sspi_framing.specs.Front.{AreRequests, GivesFirst, IsText}
 
 -- a request takes no more bytes than there are
 within : (bytes : List ℕ) (r : TsRequest) (count : ℕ) → IsRequest bytes r count → count ≤ length bytes
@@ -60,3 +60,14 @@ each_takes_bytes front (r ∷ later) (text, rest, parts, is, later_are) =
     let more = each_takes_bytes rest later later_are in
     let some = some_bytes text r is in
     omega (arith, more, some, ap length parts, length-append text rest)
+
+pub joined : (front more : List ℕ) (requests others : List TsRequest) → AreRequests front requests → AreRequests more others →
+    AreRequests (front ++ more) (requests ++ others)
+joined front more [] others e others_are = rw e others_are
+joined front more (r ∷ later) others (text, rest, parts, is, later_are) others_are = (
+  text,
+  rest ++ more,
+  ap (λ (l : List ℕ). l ++ more) parts ∙ append_assoc text rest more,
+  is,
+  joined rest more later others later_are others_are,
+)

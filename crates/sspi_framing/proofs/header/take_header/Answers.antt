@@ -1,9 +1,8 @@
 use Rattle.std.proofs.Common.{ap, arith, length, refl}
 use Rattle.std.proofs.lemmas.Result.{err_from_is_err_and}
-use Rattle.sspi_gate.proofs.Headers.{byte_rest, byte_taken, cut_header, five_decide, found_header, header_so_far}
-use Rattle.sspi_gate.proofs.Headers.{no_bytes, none_taken, not_empty, pushed_some, refused_header}
-use Rattle.sspi_gate.proofs.Wanted.{pushed_wanted}
-use Rattle.sspi_gate.proofs.header.take_header.Goals as goal
+use Rattle.sspi_framing.proofs.Headers.{byte_rest, byte_taken, cut_header, five_decide, found_header, header_so_far, no_bytes, none_taken, not_empty, pushed_some, refused_header}
+use Rattle.sspi_framing.proofs.Wanted.{pushed_wanted}
+use Rattle.sspi_framing.proofs.header.take_header.Goals as goal
 
 pub loop-size-init : goal.loop-size-init
 loop-size-init g c = record {

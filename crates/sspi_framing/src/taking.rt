@@ -1,5 +1,6 @@
 ghost use Rattle.sspi_ber.specs.Outside.{CopyCause};
-ghost use Rattle.sspi_gate.specs.Taking.{TakesBody, TakesRequest};
+ghost use Rattle.sspi_framing.specs.Parts.{TakesBody};
+ghost use Rattle.sspi_framing.specs.Taking.{TakesRequest};
 
 use crate::header::take_header;
 use sspi_ber::{Source, WireKind};
@@ -28,10 +29,7 @@ fn take_body<S: Source>(source: &mut S, bytes: &mut Vec<u8>, size: usize) -> Res
 
 /// The bytes of the next request, as its header bounds them, and no byte behind them; `None` where the source is at its end.
 /// `UnexpectedEof` where the header is at fault or the source ends too early.
-pub(crate) fn take_request<S: Source>(
-    alloc: Global,
-    source: &mut S,
-) -> Result<Option<Vec<u8>>, WireKind>
+pub fn take_request<S: Source>(alloc: Global, source: &mut S) -> Result<Option<Vec<u8>>, WireKind>
     ensures takes { TakesRequest (λ bytes. bytes.items) (S.left source.old) (S.left source.new) result }
     ensures cause { CopyCause (S.faults source.old) (S.faults source.new) result }
 {

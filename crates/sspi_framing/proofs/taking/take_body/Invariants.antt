@@ -1,7 +1,7 @@
 use Rattle.std.proofs.Common.{◌≡◌, length}
-use Rattle.sspi_gate.specs.declared.taking.TheConstants.{PIECE_LENGTH}
-use Rattle.sspi_gate.proofs.Contents.{BodySoFar}
-use Rattle.sspi_gate.proofs.taking.take_body.Given as goal
+use Rattle.sspi_framing.specs.declared.taking.TheConstants.{PIECE_LENGTH}
+use Rattle.sspi_framing.proofs.Contents.{BodySoFar}
+use Rattle.sspi_framing.proofs.taking.take_body.Given as goal
 
 abbrev pub invariant-loop-missing : goal.invariant-loop-missing
 invariant-loop-missing g l = record {

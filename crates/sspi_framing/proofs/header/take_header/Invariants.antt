@@ -1,7 +1,7 @@
 use Rattle.std.proofs.Common.{◌≡◌, length, Err}
 use Rattle.std.specs.Io.KnownBytes.{Consumes}
 use Rattle.sspi_ber.specs.Pieces.{Ended, header_at}
-use Rattle.sspi_gate.proofs.header.take_header.Given as goal
+use Rattle.sspi_framing.proofs.header.take_header.Given as goal
 
 abbrev pub invariant-loop-size : goal.invariant-loop-size
 invariant-loop-size g l = record {
