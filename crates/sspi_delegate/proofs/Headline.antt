@@ -50,6 +50,11 @@ sealed_split (t ∷ past) =
     ap (λ (n : ℕ). n + count_of t.acts.sealed) (sealed_split past)
     ∙ sym (split_by t.end t (client_turns past) (server_turns past))
 
+sealed_same : (turns : List Turn) → sealed_turns turns ≡ sealed_of turns
+unfolding sealed_of
+sealed_same [] = refl
+sealed_same (t ∷ past) = ap (λ (n : ℕ). n + count_of t.acts.sealed) (sealed_same past)
+
 abbrev NeverSeals : List Turn → Type 0
 NeverSeals [] = Unit {0}
 NeverSeals (t ∷ past) = (t.acts.sealed ≡ false) × NeverSeals past
@@ -98,6 +103,10 @@ module _ {C : Type 0} (c : Meaning ContextSetting C) where
   client_once e [] each went = omega arith
   client_once e (t ∷ past) each went =
       sealed_last e t past t.acts.sealed refl each went (client_once e past each.1 (others_go past went))
+
+  -- the same of the turns of a client alone
+  pub client_sealed_once : (e : ClientEnd C) (past : List Turn) → EachClientTurn c e past → OthersGoOn past → sealed_turns past ≤ 1
+  client_sealed_once e past each went = rw (sealed_same past) (client_once e past each went)
 
   pub sealed_once : (e : ClientEnd C) (e2 : ServerEnd C) (turns : List Turn) → EachClientTurn c e (client_turns turns) →
       OthersGoOn (client_turns turns) →

@@ -6,7 +6,7 @@ mod ClientSteps
 pub mod Edits
 mod EndSteps
 mod Exactness
-mod Halves
+pub mod Halves
 pub mod Headline
 pub mod Histories
 pub mod Heeding
