@@ -1,0 +1,5 @@
+pub mod Carrying
+pub mod Stepping
+pub mod Stopping
+pub mod Calling
+pub mod Newly

@@ -1,0 +1,19 @@
+ghost use Rattle.sspi_live.specs.Steps.{refusal_by};
+ghost use Rattle.sspi_delegate.specs.Halves.{IsAnswerTo};
+
+use sspi_credssp::End;
+use sspi_delegate::DelegateError;
+use sspi_types::{Error, ErrorKind};
+
+/// The answer to a refusal of this end: want of memory is no refusal.
+pub(crate) fn refusal_of(end: End, error: Error) -> DelegateError
+    ensures { IsAnswerTo error.error_type (refusal_by end error) result }
+{
+    if error.error_type == ErrorKind::InsufficientMemory {
+        return DelegateError::InsufficientMemory;
+    }
+    match end {
+        End::Client => DelegateError::Client(error),
+        End::Server => DelegateError::Server(error),
+    }
+}
