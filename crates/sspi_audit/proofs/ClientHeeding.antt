@@ -19,7 +19,7 @@ use Rattle.sspi_credssp.specs.declared.turn.Outcome.TheVariants as outcome
 use Rattle.sspi_credssp.specs.declared.turn.Turn.{Turn}
 use Rattle.sspi_credssp.specs.Acts.{no_acts, is_waiting_in}
 use Rattle.sspi_credssp.specs.ClientCall.{ClientKeeps}
-use Rattle.sspi_credssp.specs.ClientCause.{ClientCause, NegoCause, ProveCause, StateCause}
+use Rattle.sspi_credssp.specs.ClientCause.{ClientCause, ClientExact, NegoCause, ProveCause, StateCause, StateExact}
 use Rattle.sspi_credssp.specs.ClientTurn.{ClientMoves, ClientTurn, client_turn, noted_after}
 use Rattle.sspi_credssp.specs.Context.{BeginCause, ContextSetting, ForClient, MadeOr}
 use Rattle.sspi_credssp.specs.Ends.{ClientView, IsFreshClient}
@@ -32,7 +32,7 @@ use Rattle.sspi_delegate.specs.Chain.{KdcCalls}
 use Rattle.sspi_delegate.specs.History.{ClientTakes, ClientMakes, ClientHistory}
 use Rattle.sspi_delegate.specs.Turns.{AllGoOn, ClientEnd, ClientFollows, EachClientTurn, GoesOn, OthersGoOn, client_end, client_noted}
 use Rattle.sspi_delegate.proofs.HistoryRuns.{client_turn_of, history_follows}
-use Rattle.sspi_audit.specs.Refusals.{ClientRefuses, ClientStateRefuses, FindsOldServer, TokenRefused}
+use Rattle.sspi_audit.specs.Refusals.{ClientRefuses, ClientStateRefuses, ClientStops, FindsOldServer, TokenRefused}
 use Rattle.sspi_audit.specs.Run.{ClientHeeds, IfRefused}
 use Rattle.sspi_audit.specs.Frames.{client_before}
 use Rattle.sspi_audit.proofs.Runs.{client_any}
@@ -43,6 +43,11 @@ pub stops_on : (stops : Bool) (here kind : ErrorKind) (A B : Type 0) → (stops 
     StopsIf stops here kind B
 stops_on true here kind A B on is = is
 stops_on false here kind A B on later = on refl later
+
+pub both_on : (stops : Bool) (here kind : ErrorKind) (A B D : Type 0) → (stops ≡ false → A → B → D) → StopsIf stops here kind A →
+    StopsIf stops here kind B → StopsIf stops here kind D
+both_on true here kind A B D on is too = is
+both_on false here kind A B D on is too = on refl is too
 
 pub blob_on : (blob : Option (List ℕ)) (kind : ErrorKind) (A B : List ℕ → Type 0) → ((bytes : List ℕ) → A bytes → B bytes) →
     BlobStops blob kind A → BlobStops blob kind B
@@ -133,39 +138,44 @@ module _ {C : Type 0} (c : Meaning ContextSetting C) where
   token_refused f mid (Some statuses.NoLsaContext) kind noted cause = cause
 
   state_refused : (f : ShownFrame) (mid : ClientView C) (d : TsRequest) (out : Outcome) (at : CredSspState) (kind : ErrorKind) →
-      (f.looks ≡ false → mid.noted ≡ None) → StateCause c at d mid kind → ClientStateRefuses f (client_turn c d out mid) at kind
-  state_refused f mid d out state.NegoToken kind noted cause = token_refused f mid mid.acts.status kind noted cause
-  state_refused f mid d out state.PubKeyInfo kind noted cause = cause
-  state_refused f mid d out state.AuthInfo kind noted cause = blob_on d.pub_key_auth kind _ (λ blob. Unit {0}) (λ bytes later. tt) cause
-  state_refused f mid d out state.Final kind noted cause = cause
+      (f.looks ≡ false → mid.noted ≡ None) → OrMemory kind (StateCause c at d mid kind) → StateExact c at d mid kind →
+      ClientStateRefuses f (client_turn c d out mid) at kind
+  state_refused f mid d out state.NegoToken kind noted cause exact =
+      λ memory. token_refused f mid mid.acts.status kind noted (cause memory)
+  state_refused f mid d out state.PubKeyInfo kind noted cause exact = exact
+  state_refused f mid d out state.AuthInfo kind noted cause exact =
+      blob_on d.pub_key_auth kind _ (λ blob. Unit {0}) (λ bytes later. tt) exact
+  state_refused f mid d out state.Final kind noted cause exact = exact
 
   -- in the first turn: no context was made, or one that took its first step
   first_refused : (f : ShownFrame) (old mid : ClientView C) (d : TsRequest) (out : Outcome) (result : Result Progress Error)
       (context : Option C) (kind : ErrorKind) (Unbegun : Type 0) → f.looks ≡ false → mid.context ≡ context → old.context ≡ None →
       mid.noted ≡ None → ClientKeeps c old d result mid →
-      MadeOr {C = C} None context Unbegun (StateCause c state.NegoToken d mid kind) →
+      OrMemory kind (MadeOr {C = C} None context Unbegun (StateCause c state.NegoToken d mid kind)) →
       ClientStateRefuses f (client_turn c d out mid) state.NegoToken kind
   first_refused f old mid d out result None kind Unbegun looks none was noted keeps cause =
       let none : mid.acts ≡ no_acts = ap (λ (v : ClientView C). v.acts) (keeps.unmade none) in
-      subst (λ (acts : Acts). TokenRefused f acts acts.status kind) (sym none) (λ unstepped. looks)
+      λ memory. subst (λ (acts : Acts). TokenRefused f acts acts.status kind) (sym none) (λ unstepped. looks)
   first_refused f old mid d out result (Some m) kind Unbegun looks is was noted keeps cause =
-      state_refused f mid d out state.NegoToken kind (λ first. noted) cause
+      state_refused f mid d out state.NegoToken kind (λ first. noted) cause tt
 
   module _ {D : Type 0} (k : KdcCalls D) where
     -- in a later turn: the version is too old in the second, or what the state wants is refused
-    old_refused : (f : ShownFrame) (old mid : ClientView C) (d : TsRequest) (out : Outcome) (result : Result Progress Error)
-        (noted : Option ℕ) (old_one : Bool) (kind : ErrorKind) → f.looks ≡ true → f.noted ≡ noted →
-        is_old old.settings.least noted d.version ≡ old_one → (noted ≡ None → old_one ≡ true → mid.acts ≡ no_acts) →
+    old_refused : (f : ShownFrame) (old mid : ClientView C) (d : TsRequest) (out : Outcome) (noted : Option ℕ) (old_one : Bool)
+        (kind : ErrorKind) → f.looks ≡ true → f.noted ≡ noted → is_old old.settings.least noted d.version ≡ old_one →
+        (noted ≡ None → old_one ≡ true → mid.acts ≡ no_acts) →
         StopsIf old_one DowngradeDetected kind (StopsIf (differs noted d.version) MessageAltered kind
         (OrMemory kind (StateCause c f.state d mid kind))) →
+        StopsIf old_one DowngradeDetected kind (StopsIf (differs noted d.version) MessageAltered kind
+        (StateExact c f.state d mid kind)) →
         StopsIf (differs noted d.version) MessageAltered kind
-        (OrMemory kind (FindsOldServer f (client_turn c d out mid) kind ⊎ ClientStateRefuses f (client_turn c d out mid) f.state kind))
-    old_refused f old mid d out result None true kind looks noted is nothing stops =
-        λ memory. inl (record { looks = looks; unnoted = noted; acts = nothing refl refl; downgrade = stops })
-    old_refused f old mid d out result (Some version) true kind looks noted is nothing stops = absurd (cc (is))
-    old_refused f old mid d out result noted false kind looks is not nothing stops =
-        stops_on (differs noted d.version) MessageAltered kind _ _
-        (λ same later memory. inr (state_refused f mid d out f.state kind (λ first. absurd (cc (first, looks))) (later memory))) stops
+        (FindsOldServer f (client_turn c d out mid) kind ⊎ ClientStateRefuses f (client_turn c d out mid) f.state kind)
+    old_refused f old mid d out None true kind looks noted is nothing stops exact =
+        inl (record { looks = looks; unnoted = noted; acts = nothing refl refl; downgrade = stops })
+    old_refused f old mid d out (Some version) true kind looks noted is nothing stops exact = absurd (cc (is))
+    old_refused f old mid d out noted false kind looks is not_old nothing stops exact =
+        both_on (differs noted d.version) MessageAltered kind _ _ _
+        (λ same cause too. inr (state_refused f mid d out f.state kind (λ first. absurd (cc (first, looks))) cause too)) stops exact
 
     -- past the look at a reported error
     abbrev AfterCode : ClientView C → ClientView C → TsRequest → Option C → Option ℕ → CredSspState → ErrorKind → Type 0
@@ -174,12 +184,23 @@ module _ {C : Type 0} (c : Meaning ContextSetting C) where
         (MadeOr context mid.context (BeginCause c (ForClient old.settings.mode) Outbound (Some old.settings.credentials) kind)
         (StateCause c at d mid kind)))
 
+    abbrev AfterExact : ClientView C → ClientView C → TsRequest → Option C → Option ℕ → CredSspState → ErrorKind → Type 0
+    AfterExact old mid d context noted at kind =
+        VersionStopsIn context old.settings.least noted d.version kind (MadeOr context mid.context (Unit {0}) (StateExact c at d mid kind))
+
     cause_after : (old mid : ClientView C) (d : TsRequest) (kind : ErrorKind) → is_waiting_in c old.context ≡ false →
         ClientCause c old d mid kind →
         StopsIf (is_code d.error_code) InvalidToken kind (AfterCode old mid d old.context old.noted old.state kind)
     cause_after old mid d kind idle cause =
         subst (λ (b : Bool). StopsIf b OutOfSequence kind
         (StopsIf (is_code d.error_code) InvalidToken kind (AfterCode old mid d old.context old.noted old.state kind))) idle cause
+
+    exact_after : (old mid : ClientView C) (d : TsRequest) (kind : ErrorKind) → is_waiting_in c old.context ≡ false →
+        ClientExact c old d mid kind →
+        StopsIf (is_code d.error_code) InvalidToken kind (AfterExact old mid d old.context old.noted old.state kind)
+    exact_after old mid d kind idle exact =
+        subst (λ (b : Bool). StopsIf b OutOfSequence kind
+        (StopsIf (is_code d.error_code) InvalidToken kind (AfterExact old mid d old.context old.noted old.state kind))) idle exact
 
     nothing_old : (old mid : ClientView C) (d : TsRequest) (result : Result Progress Error) (m : C) → old.context ≡ Some m →
         is_waiting_in c old.context ≡ false → is_code d.error_code ≡ false → HeedsVersion c old d result mid →
@@ -194,35 +215,38 @@ module _ {C : Type 0} (c : Meaning ContextSetting C) where
     later_refused : (f : ShownFrame) (old mid : ClientView C) (d : TsRequest) (out : Outcome) (result : Result Progress Error)
         (context : Option C) (kind : ErrorKind) → f.looks ≡ true → old.noted ≡ f.noted → old.state ≡ f.state → old.context ≡ context →
         IsSome context → is_waiting_in c old.context ≡ false → is_code d.error_code ≡ false → HeedsVersion c old d result mid →
-        AfterCode old mid d context old.noted old.state kind →
+        AfterCode old mid d context old.noted old.state kind → AfterExact old mid d context old.noted old.state kind →
         StopsIf (differs f.noted d.version) MessageAltered kind
-        (OrMemory kind (FindsOldServer f (client_turn c d out mid) kind ⊎ ClientStateRefuses f (client_turn c d out mid) f.state kind))
-    later_refused f old mid d out result None kind looks noted at is some idle code heeds after = absurd (cc (some))
-    later_refused f old mid d out result (Some m) kind looks noted at is some idle code heeds after =
-        old_refused f old mid d out result f.noted (is_old old.settings.least f.noted d.version) kind looks refl refl
+        (FindsOldServer f (client_turn c d out mid) kind ⊎ ClientStateRefuses f (client_turn c d out mid) f.state kind)
+    later_refused f old mid d out result None kind looks noted at is some idle code heeds after exact = absurd (cc (some))
+    later_refused f old mid d out result (Some m) kind looks noted at is some idle code heeds after exact =
+        old_refused f old mid d out f.noted (is_old old.settings.least f.noted d.version) kind looks refl refl
         (λ none old_one. nothing_old old mid d result m is idle code heeds
         (subst (λ (n : Option ℕ). is_old old.settings.least n d.version ≡ true) (sym noted) old_one))
         (subst (λ (n : Option ℕ). AfterCode old mid d (Some m) n f.state kind) noted
         (subst (λ (st : CredSspState). AfterCode old mid d (Some m) old.noted st kind) at after))
+        (subst (λ (n : Option ℕ). AfterExact old mid d (Some m) n f.state kind) noted
+        (subst (λ (st : CredSspState). AfterExact old mid d (Some m) old.noted st kind) at exact))
 
     -- in the order in which a client looks
     refused_by : (first old mid : ClientView C) (kdc kdc2 : D) (past : List Turn) (d : TsRequest) (out : Outcome) (error : Error) →
         ClientFollows c first old past → mid.noted ≡ noted_after c old d → ClientTakes c k old kdc d (Err error) mid kdc2 →
-        ClientRefuses (client_before past) (client_turn c d out mid) error.error_type
+        ClientStops (client_before past) (client_turn c d out mid) error.error_type
     refused_by first old mid kdc kdc2 [] d out error follows noted takes =
         stops_on (is_code d.error_code) InvalidToken error.error_type _ _
-        (λ code after memory. inr (first_refused (client_before []) old mid d out (Err error) mid.context error.error_type _ refl refl
+        (λ code after. inr (first_refused (client_before []) old mid d out (Err error) mid.context error.error_type _ refl refl
         follows.begun (unnoted old mid d follows.begun follows.noted noted) takes.kept
-        (subst (λ (st : CredSspState). MadeOr {C = C} None mid.context
+        (λ memory. subst (λ (st : CredSspState). MadeOr {C = C} None mid.context
         (BeginCause c (ForClient old.settings.mode) Outbound (Some old.settings.credentials) error.error_type)
         (StateCause c st d mid error.error_type)) follows.state
         (subst (λ (o : Option C). AfterCode old mid d o old.noted old.state error.error_type) follows.begun after memory))))
         (cause_after old mid d error.error_type follows.idle takes.cause.kind)
     refused_by first old mid kdc kdc2 (t ∷ past) d out error follows noted takes =
-        stops_on (is_code d.error_code) InvalidToken error.error_type _ _
-        (λ code after. later_refused (client_before (t ∷ past)) old mid d out (Err error) old.context error.error_type refl
-        (old_noted first old (t ∷ past) follows) follows.state refl follows.begun follows.idle code takes.heeded after)
+        both_on (is_code d.error_code) InvalidToken error.error_type _ _ _
+        (λ code after exact. later_refused (client_before (t ∷ past)) old mid d out (Err error) old.context error.error_type refl
+        (old_noted first old (t ∷ past) follows) follows.state refl follows.begun follows.idle code takes.heeded after exact)
         (cause_after old mid d error.error_type follows.idle takes.cause.kind)
+        (exact_after old mid d error.error_type follows.idle takes.cause.exact)
 
     -- ---- each turn
 
@@ -247,9 +271,11 @@ module _ {C : Type 0} (c : Meaning ContextSetting C) where
         heeds_by first old mid past d (outcome.Final reply) _ follows makes.kept turn.moves tt
     made_heeds first old mid kdc kdc2 past d outcome.Finished follows turn makes = absurd makes
     made_heeds first old mid kdc kdc2 past d (outcome.Refused kind None) follows turn makes =
-        heeds_by first old mid past d (outcome.Refused kind None) _ follows makes.2.kept turn.moves
-        (subst (λ (e : ErrorKind). ClientRefuses (client_before past) (client_turn c d (outcome.Refused kind None) mid) e) makes.1
-        (refused_by first old mid kdc kdc2 past d (outcome.Refused kind None) makes.0 follows turn.moves.noted makes.2))
+        heeds_by first old mid past d (outcome.Refused kind None) _ follows makes.2.kept turn.moves (
+          turn.moves.ended,
+          subst (λ (e : ErrorKind). ClientStops (client_before past) (client_turn c d (outcome.Refused kind None) mid) e) makes.1
+              (refused_by first old mid kdc kdc2 past d (outcome.Refused kind None) makes.0 follows turn.moves.noted makes.2),
+        )
     made_heeds first old mid kdc kdc2 past d (outcome.Refused kind (Some reply)) follows turn makes = absurd makes
 
     pub each_client_heeds : (law : IsContext c) (first now : ClientView C) (kdc kdc2 : D) (turns : List Turn) → IsFreshClient first →

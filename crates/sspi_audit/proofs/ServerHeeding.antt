@@ -1,5 +1,5 @@
 -- What a server of a run heeds, and how it refuses, by its calls.
-use Rattle.std.proofs.Common.{◌≡◌, ◌≢◌, ℕ, ◌==◌, inl, inr, List, [], ◌∷◌, Option, None, Some, IsSome, Bool, true, false, nat_lt}
+use Rattle.std.proofs.Common.{◌≡◌, ◌≢◌, ℕ, ◌==◌, inl, inr, List, [], ◌∷◌, length, Option, None, Some, IsSome, Bool, true, false, nat_lt}
 use Rattle.std.proofs.Common.{Result, Err, if◌then◌else◌, not, sym, ◌∙◌, ap, subst, refl}
 use Rattle.sspi_types.specs.declared.error.Error.{Error}
 use Rattle.sspi_types.specs.declared.error_kind.ErrorKind.{ErrorKind}
@@ -25,7 +25,7 @@ use Rattle.sspi_credssp.specs.Noted.{OrMemory, ServerHeeds as HeedsVersion, Stop
 use Rattle.sspi_credssp.specs.Proxy.{ProxyMeaning}
 use Rattle.sspi_credssp.specs.Requests.{version_back}
 use Rattle.sspi_credssp.specs.ServerCall.{ServerCall, ServerKeeps}
-use Rattle.sspi_credssp.specs.ServerCause.{BlobCause, ExchangeCause, MakeCause, NegoCause, OpenedCause, StateCause, UnreadCause, unread}
+use Rattle.sspi_credssp.specs.ServerCause.{BlobExact, ExchangeExact, StateExact, MakeCause, NegoCause, OpenedCause, StateCause, UnreadCause, unread}
 use Rattle.sspi_credssp.specs.ServerCause.{lacks_nonce}
 use Rattle.sspi_credssp.specs.ServerTurn.{ServerMoves, ServerTurn, server_turn}
 use Rattle.sspi_credssp.specs.Turn.{AtNoted, ShownFrame, UnlessRefused}
@@ -34,9 +34,9 @@ use Rattle.sspi_delegate.specs.Turns.{EachServerTurn, IsUnrefused, NoneRefused, 
 use Rattle.sspi_delegate.specs.Turns.{server_noted}
 use Rattle.sspi_delegate.proofs.HistoryRuns.{server_history_follows, server_turn_of}
 use Rattle.sspi_audit.specs.Frames.{own_version, server_before, server_note}
-use Rattle.sspi_audit.specs.Refusals.{AreUnreadable, OpenedRefused, ProofRefusedBack, ServerRefuses, ServerStateRefuses, TokenRefusedBack}
+use Rattle.sspi_audit.specs.Refusals.{AreUnreadable, OpenedRefused, ProofRefusedBack, ServerRefuses, ServerStateRefuses, ServerStops, TokenRefusedBack}
 use Rattle.sspi_audit.specs.Run.{ErrorTells, IfRefused, ServerHeeds, TellsVersion}
-use Rattle.sspi_audit.proofs.ClientHeeding.{at_some, blob_on, stops_on}
+use Rattle.sspi_audit.proofs.ClientHeeding.{at_some, blob_on, both_on, stops_on}
 use Rattle.sspi_audit.proofs.Runs.{noted_by, server_any, server_told}
 use Rattle.sspi_audit.proofs.Unreadable.{unreadable}
 
@@ -112,42 +112,57 @@ module _ {C : Type 0} (c : Meaning ContextSetting C) where
     token_refused f (Some statuses.NoLsaContext) old d mid kind cause = cause
 
     proof_refused : (field : Option (List ℕ)) (noted : ℕ) (d : TsRequest) (mid : ServerView C P) (kind : ErrorKind) →
-        ExchangeCause c field (Some noted) d.client_nonce mid kind →
+        ExchangeExact c field (Some noted) d.client_nonce mid kind →
         StopsIf (lacks_nonce (nat_lt noted 5) d.client_nonce) InvalidToken kind (BlobStops field kind (λ blob. Unit {0}))
     proof_refused None noted d mid kind cause = proof_stops (lacks_nonce (nat_lt noted 5) d.client_nonce) kind cause
     proof_refused (Some blob) noted d mid kind cause =
         stops_on (lacks_nonce (nat_lt noted 5) d.client_nonce) InvalidToken kind _ _
-        (λ there later. blob_on (Some blob) kind (λ bytes. BlobCause c noted mid.context d.client_nonce bytes mid kind)
+        (λ there later. blob_on (Some blob) kind (λ bytes. BlobExact c noted mid.context d.client_nonce bytes mid kind)
         (λ bytes. Unit {0}) (λ bytes more. tt) later) cause
 
     unread_refused : (m : C) (blob : List ℕ) (kind : ErrorKind) → kind ≢ InsufficientMemory → UnreadCause c m blob kind →
-        OpenedRefused true kind
+        AreUnreadable kind
     unread_refused m blob kind memory (unread text error opened refused is) =
         subst (λ (e : ErrorKind). AreUnreadable e) (sym is) (unreadable text error refused (λ none. memory (is ∙ none)))
 
-    opened_refused : (opened : Bool) (context : Option C) (blob : List ℕ) (kind : ErrorKind) → kind ≢ InsufficientMemory →
-        OpenedCause c opened context blob kind → OpenedRefused opened kind
-    opened_refused false context blob kind memory cause = tt
-    opened_refused true None blob kind memory cause = absurd cause
-    opened_refused true (Some m) blob kind memory cause = unread_refused m blob kind memory cause
+    opened_refused : (opened : Bool) (context : Option C) (blob : List ℕ) (kind : ErrorKind) →
+        OrMemory kind (OpenedCause c opened context blob kind) → OpenedRefused opened kind
+    opened_refused false context blob kind cause = tt
+    opened_refused true None blob kind cause = λ memory. absurd (cause memory)
+    opened_refused true (Some m) blob kind cause = λ memory. unread_refused m blob kind memory (cause memory)
+
+    short_refused : (short opened : Bool) (context : Option C) (blob : List ℕ) (kind : ErrorKind) (Exact : Type 0) →
+        OrMemory kind (StopsIf short InvalidToken kind (OpenedCause c opened context blob kind)) → StopsIf short InvalidToken kind Exact →
+        StopsIf short InvalidToken kind (OpenedRefused opened kind)
+    short_refused true opened context blob kind Exact cause exact = exact
+    short_refused false opened context blob kind Exact cause exact = opened_refused opened context blob kind cause
+
+    -- where a field is too short memory is not asked for
+    field_refused : (field : Option (List ℕ)) (opened : Bool) (context : Option C) (kind : ErrorKind) (Exact : List ℕ → Type 0) →
+        OrMemory kind (BlobStops field kind (λ blob. OpenedCause c opened context blob kind)) → BlobStops field kind Exact →
+        BlobStops field kind (λ blob. OpenedRefused opened kind)
+    field_refused None opened context kind Exact cause exact = exact
+    field_refused (Some blob) opened context kind Exact cause exact =
+        short_refused (nat_lt (length blob) 16) opened context blob kind (Exact blob) cause exact
 
     state_refused : (f : ShownFrame) (noted : ℕ) (old mid : ServerView C P) (d : TsRequest) (out : Outcome) (at : CredSspState)
-        (kind : ErrorKind) → f.noted ≡ Some noted → mid.noted ≡ Some noted → kind ≢ InsufficientMemory →
-        StateCause c p at old d mid kind → ServerStateRefuses f (server_turn c d out mid) at kind
-    state_refused f noted old mid d out state.NegoToken kind is now memory cause = token_refused f mid.acts.status old d mid kind cause
-    state_refused f noted old mid d out state.PubKeyInfo kind is now memory cause =
+        (kind : ErrorKind) → f.noted ≡ Some noted → mid.noted ≡ Some noted →
+        OrMemory kind (StateCause c p at old d mid kind) → StateExact c at d mid kind →
+        ServerStateRefuses f (server_turn c d out mid) at kind
+    state_refused f noted old mid d out state.NegoToken kind is now cause exact =
+        λ memory. token_refused f mid.acts.status old d mid kind (cause memory)
+    state_refused f noted old mid d out state.PubKeyInfo kind is now cause exact =
         subst (λ (n : Option ℕ). ProofRefusedBack n d kind) (sym is) (proof_refused d.pub_key_auth noted d mid kind
-        (subst (λ (n : Option ℕ). ExchangeCause c d.pub_key_auth n d.client_nonce mid kind) now cause))
-    state_refused f noted old mid d out state.AuthInfo kind is now memory cause =
-        blob_on d.auth_info kind _ (λ blob. OpenedRefused mid.acts.opened kind)
-        (λ blob later. opened_refused mid.acts.opened mid.context blob kind memory later) cause
-    state_refused f noted old mid d out state.Final kind is now memory cause = cause
+        (subst (λ (n : Option ℕ). ExchangeExact c d.pub_key_auth n d.client_nonce mid kind) now exact))
+    state_refused f noted old mid d out state.AuthInfo kind is now cause exact =
+        field_refused d.auth_info mid.acts.opened mid.context kind _ cause exact
+    state_refused f noted old mid d out state.Final kind is now cause exact = exact
 
     -- in the first turn, once there is a context
     first_looked : (f : ShownFrame) (old mid : ServerView C P) (d : TsRequest) (out : Outcome) (kind : ErrorKind) (least : ℕ)
         (old_one : Bool) → is_old least None d.version ≡ old_one → f.noted ≡ None → (old_one ≡ true → mid.acts ≡ no_acts) →
         StopsIf old_one DowngradeDetected kind (OrMemory kind (StateCause c p state.NegoToken old d mid kind)) →
-        OrMemory kind (ServerStateRefuses f (server_turn c d out mid) state.NegoToken kind)
+        ServerStateRefuses f (server_turn c d out mid) state.NegoToken kind
     first_looked f old mid d out kind least true is noted nothing cause = λ memory.
         subst (λ (acts : Acts). TokenRefusedBack f acts acts.status kind) (sym (nothing refl)) (λ unstepped. noted)
     first_looked f old mid d out kind least false is noted nothing cause = λ memory.
@@ -160,7 +175,7 @@ module _ {C : Type 0} (c : Meaning ContextSetting C) where
         (IsSome mid.context → is_old least None d.version ≡ true → mid.acts ≡ no_acts) →
         MadeOr {C = C} None context Unmade (VersionStops least None d.version error.error_type
         (OrMemory error.error_type (StateCause c p state.NegoToken old d mid error.error_type))) →
-        OrMemory error.error_type (ServerStateRefuses f (server_turn c d out mid) state.NegoToken error.error_type)
+        ServerStateRefuses f (server_turn c d out mid) state.NegoToken error.error_type
     first_refused f old mid d out error reply None least Unmade noted none keeps nothing cause =
         let none : mid.acts ≡ no_acts = ap (λ (v : ServerView C P). v.acts) (keeps.unmade none) in
         λ memory. subst (λ (acts : Acts). TokenRefusedBack f acts acts.status error.error_type) (sym none) (λ unstepped. noted)
@@ -173,6 +188,10 @@ module _ {C : Type 0} (c : Meaning ContextSetting C) where
         MadeOr context mid.context (OrMemory kind (MakeCause c p old.settings.mode old.proxy mid.proxy kind))
         (VersionStops old.settings.least noted d.version kind (OrMemory kind (StateCause c p at old d mid kind)))
 
+    abbrev AtExact : ServerView C P → ServerView C P → TsRequest → Option C → Option ℕ → CredSspState → ErrorKind → Type 0
+    AtExact old mid d context noted at kind =
+        MadeOr context mid.context (Unit {0}) (VersionStops old.settings.least noted d.version kind (StateExact c at d mid kind))
+
     nothing_old : (old mid : ServerView C P) (d : TsRequest) (result : Result ServerState ServerError) → HeedsVersion c old d result mid →
         IsSome mid.context → is_old old.settings.least old.noted d.version ≡ true → mid.acts ≡ no_acts
     nothing_old old mid d result heeds begun old_one =
@@ -180,21 +199,24 @@ module _ {C : Type 0} (c : Meaning ContextSetting C) where
 
     later_refused : (f : ShownFrame) (noted : ℕ) (old mid : ServerView C P) (d : TsRequest) (out : Outcome) (context : Option C)
         (kind : ErrorKind) → f.noted ≡ Some noted → old.noted ≡ Some noted → mid.noted ≡ Some noted → old.state ≡ f.state →
-        IsSome context → AtContext old mid d context old.noted old.state kind → ServerRefuses f (server_turn c d out mid) kind
-    later_refused f noted old mid d out None kind is was now at some cause = absurd (cc (some))
-    later_refused f noted old mid d out (Some m) kind is was now at some cause =
+        IsSome context → AtContext old mid d context old.noted old.state kind →
+        AtExact old mid d context old.noted old.state kind → ServerStops f (server_turn c d out mid) kind
+    later_refused f noted old mid d out None kind is was now at some cause exact = absurd (cc (some))
+    later_refused f noted old mid d out (Some m) kind is was now at some cause exact =
         subst (λ (n : Option ℕ). StopsIf (differs n d.version) MessageAltered kind
-        (OrMemory kind (ServerStateRefuses f (server_turn c d out mid) f.state kind))) (sym is)
-        (stops_on (differs (Some noted) d.version) MessageAltered kind _ _
-        (λ same later memory. state_refused f noted old mid d out f.state kind is now memory (later memory))
+        (ServerStateRefuses f (server_turn c d out mid) f.state kind)) (sym is)
+        (both_on (differs (Some noted) d.version) MessageAltered kind _ _ _
+        (λ same later too. state_refused f noted old mid d out f.state kind is now later too)
         (subst (λ (n : Option ℕ). AtContext old mid d (Some m) n f.state kind) was
-        (subst (λ (st : CredSspState). AtContext old mid d (Some m) old.noted st kind) at cause)))
+        (subst (λ (st : CredSspState). AtContext old mid d (Some m) old.noted st kind) at cause))
+        (subst (λ (n : Option ℕ). AtExact old mid d (Some m) n f.state kind) was
+        (subst (λ (st : CredSspState). AtExact old mid d (Some m) old.noted st kind) at exact)))
 
     -- in the order in which a server looks
     refused_by : (first old mid : ServerView C P) (past : List Turn) (d : TsRequest) (out : Outcome) (error : Error)
         (reply : Option TsRequest) → ServerFollows c first old past → Has old.context past → ServerMoves c old d out mid →
         ServerCall c p old d (Err (record { ts_request = reply; error = error })) mid →
-        ServerRefuses (server_before past) (server_turn c d out mid) error.error_type
+        ServerStops (server_before past) (server_turn c d out mid) error.error_type
     refused_by first old mid [] d out error reply follows begun moves call =
         first_refused (server_before []) old mid d out error reply mid.context old.settings.least _ refl refl call.kept
         (λ there old_one. nothing_old old mid d _ call.heeded there
@@ -206,7 +228,7 @@ module _ {C : Type 0} (c : Meaning ContextSetting C) where
         let noted = noted_same (server_end old) t past follows.ran.each follows.unrefused in
         let was : old.noted ≡ Some noted.0 = follows.noted ∙ noted.1 in
         later_refused (server_before (t ∷ past)) noted.0 old mid d out old.context error.error_type noted.2 was
-        (moves.noted (moves.handle begun).1 ∙ ap (λ (n : Option ℕ). noted_with old.settings.least n d.version) was) follows.state begun call.cause.kind
+        (moves.noted (moves.handle begun).1 ∙ ap (λ (n : Option ℕ). noted_with old.settings.least n d.version) was) follows.state begun call.cause.kind call.exact
 
     -- ---- the version of an error request
 
@@ -265,13 +287,17 @@ module _ {C : Type 0} (c : Meaning ContextSetting C) where
     made_heeds law first old mid past d outcome.Finished follows begun turn makes =
         heeds_by first old mid past d outcome.Finished _ follows turn makes.1.kept tt tt
     made_heeds law first old mid past d (outcome.Refused kind None) follows begun turn makes =
-        heeds_by first old mid past d (outcome.Refused kind None) _ follows turn makes.2.kept
-        (subst (λ (e : ErrorKind). ServerRefuses (server_before past) (server_turn c d (outcome.Refused kind None) mid) e) makes.1
-        (refused_by first old mid past d (outcome.Refused kind None) makes.0 None follows begun turn.moves makes.2)) tt
+        heeds_by first old mid past d (outcome.Refused kind None) _ follows turn makes.2.kept (
+          turn.moves.ended,
+          subst (λ (e : ErrorKind). ServerStops (server_before past) (server_turn c d (outcome.Refused kind None) mid) e) makes.1
+              (refused_by first old mid past d (outcome.Refused kind None) makes.0 None follows begun turn.moves makes.2),
+        ) tt
     made_heeds law first old mid past d (outcome.Refused kind (Some reply)) follows begun turn makes =
-        heeds_by first old mid past d (outcome.Refused kind (Some reply)) _ follows turn makes.2.kept
-        (subst (λ (e : ErrorKind). ServerRefuses (server_before past) (server_turn c d (outcome.Refused kind (Some reply)) mid) e) makes.1
-        (refused_by first old mid past d (outcome.Refused kind (Some reply)) makes.0 (Some reply) follows begun turn.moves makes.2))
+        heeds_by first old mid past d (outcome.Refused kind (Some reply)) _ follows turn makes.2.kept (
+          turn.moves.ended,
+          subst (λ (e : ErrorKind). ServerStops (server_before past) (server_turn c d (outcome.Refused kind (Some reply)) mid) e) makes.1
+              (refused_by first old mid past d (outcome.Refused kind (Some reply)) makes.0 (Some reply) follows begun turn.moves makes.2),
+        )
         (tells_by law first old mid past d kind reply follows begun turn)
 
     begun_by : (law : IsContext c) (first now : ServerView C P) (turns : List Turn) → IsFreshServer first → NoneRefused turns →

@@ -1,7 +1,7 @@
 -- With which kinds a turn that did these acts can have been refused, as far as recorded bytes show
 -- it (MS-CSSP 3.1.5). An end looks at a request in a fixed order: the reported error, the version,
 -- and what its state wants. What it looks at before it takes memory or asks its context has one
--- kind; a context may refuse with any, and from the version on memory may be wanting.
+-- kind; a context may refuse with any. Once an end has sealed what it owes its turn is not refused.
 use Rattle.std.specs.Prelude.{◌≡◌, ◌⊎◌, ℕ, Option, None, Some, Bool, true, false, nat_lt}
 use Rattle.sspi_types.specs.declared.error_kind.ErrorKind.{ErrorKind}
 use Rattle.sspi_types.specs.declared.error_kind.ErrorKind.TheVariants.{DowngradeDetected, InternalError, InvalidParameter, InvalidToken}
@@ -43,16 +43,19 @@ TokenRefused f acts (Some other) kind = ⊥
 
 -- past it: the server's proof is absent, too short, or refused; or the client has said its last
 abbrev pub ClientStateRefuses : ShownFrame → Turn → CredSspState → ErrorKind → Type 0
-ClientStateRefuses f t NegoToken kind = TokenRefused f t.acts t.acts.status kind
+ClientStateRefuses f t NegoToken kind = OrMemory kind (TokenRefused f t.acts t.acts.status kind)
 ClientStateRefuses f t PubKeyInfo kind = kind ≡ OutOfSequence
 ClientStateRefuses f t AuthInfo kind = BlobStops t.delivered.pub_key_auth kind (λ blob. Unit {0})
 ClientStateRefuses f t Final kind = kind ≡ OutOfSequence
 
-abbrev pub ClientRefuses : ShownFrame → Turn → ErrorKind → Type 0
-ClientRefuses f t kind =
+abbrev pub ClientStops : ShownFrame → Turn → ErrorKind → Type 0
+ClientStops f t kind =
     StopsIf (is_code t.delivered.error_code) InvalidToken kind
     (StopsIf (differs f.noted t.delivered.version) MessageAltered kind
-    (OrMemory kind (FindsOldServer f t kind ⊎ ClientStateRefuses f t f.state kind)))
+    (FindsOldServer f t kind ⊎ ClientStateRefuses f t f.state kind))
+
+abbrev pub ClientRefuses : ShownFrame → Turn → ErrorKind → Type 0
+ClientRefuses f t kind = (t.acts.sealed ≡ false) × ClientStops f t kind
 
 -- ---- a server (MS-CSSP 3.1.5.2)
 
@@ -79,14 +82,16 @@ AreUnreadable kind = (kind ≡ InvalidToken) ⊎ ((kind ≡ UnsupportedFunction)
 
 abbrev pub OpenedRefused : Bool → ErrorKind → Type 0
 OpenedRefused false kind = Unit {0}
-OpenedRefused true kind = AreUnreadable kind
+OpenedRefused true kind = OrMemory kind (AreUnreadable kind)
 
 abbrev pub ServerStateRefuses : ShownFrame → Turn → CredSspState → ErrorKind → Type 0
-ServerStateRefuses f t NegoToken kind = TokenRefusedBack f t.acts t.acts.status kind
+ServerStateRefuses f t NegoToken kind = OrMemory kind (TokenRefusedBack f t.acts t.acts.status kind)
 ServerStateRefuses f t PubKeyInfo kind = ProofRefusedBack f.noted t.delivered kind
 ServerStateRefuses f t AuthInfo kind = BlobStops t.delivered.auth_info kind (λ blob. OpenedRefused t.acts.opened kind)
 ServerStateRefuses f t Final kind = kind ≡ UnsupportedFunction
 
+abbrev pub ServerStops : ShownFrame → Turn → ErrorKind → Type 0
+ServerStops f t kind = StopsIf (differs f.noted t.delivered.version) MessageAltered kind (ServerStateRefuses f t f.state kind)
+
 abbrev pub ServerRefuses : ShownFrame → Turn → ErrorKind → Type 0
-ServerRefuses f t kind =
-    StopsIf (differs f.noted t.delivered.version) MessageAltered kind (OrMemory kind (ServerStateRefuses f t f.state kind))
+ServerRefuses f t kind = (t.acts.proved ≡ false) × ServerStops f t kind

@@ -2,10 +2,10 @@
 ghost use Rattle.std.specs.Prelude.{◌≡◌, ◌⊎◌, ◌↔◌, None, false, IsTrue, nat_lt};
 ghost use Rattle.sspi_credssp.specs.Acts.{no_acts};
 ghost use Rattle.sspi_credssp.specs.Exchange.{BlobStops};
-ghost use Rattle.sspi_credssp.specs.Noted.{differs};
+ghost use Rattle.sspi_credssp.specs.Noted.{differs, OrMemory};
 ghost use Rattle.sspi_credssp.specs.ServerCause.{lacks_nonce};
-ghost use Rattle.sspi_audit.specs.Refusals.{AreUnreadable, ClientRefuses, ClientStateRefuses, FindsOldServer, OpenedRefused};
-ghost use Rattle.sspi_audit.specs.Refusals.{ProofRefusedBack, ServerRefuses, ServerStateRefuses, TokenRefused, TokenRefusedBack};
+ghost use Rattle.sspi_audit.specs.Refusals.{AreUnreadable, ClientRefuses, ClientStateRefuses, ClientStops, FindsOldServer, OpenedRefused};
+ghost use Rattle.sspi_audit.specs.Refusals.{ProofRefusedBack, ServerRefuses, ServerStateRefuses, ServerStops, TokenRefused, TokenRefusedBack};
 
 use crate::fields::{has_code, is_long};
 use crate::frame::Frame;
@@ -52,9 +52,10 @@ fn finds_old_server(frame: &Frame, turn: &Turn, kind: ErrorKind) -> bool
 }
 
 fn token_refused(frame: &Frame, acts: Acts, kind: ErrorKind) -> bool
-    ensures { IsTrue result ↔ TokenRefused frame.now acts acts.status kind }
+    ensures { IsTrue result ↔ OrMemory kind (TokenRefused frame.now acts acts.status kind) }
 {
     match acts.status {
+        _ if kind == ErrorKind::InsufficientMemory => true,
         None => acts.negotiated || !frame.looks,
         Some(SecurityStatus::Ok) => frame.looks || kind == ErrorKind::InternalError,
         Some(_) => false,
@@ -72,25 +73,30 @@ fn client_state_refuses(frame: &Frame, turn: &Turn, kind: ErrorKind) -> bool
     }
 }
 
-/// A client's refusal of this kind.
+/// A client's refusal of this kind, before it has sealed its credentials.
 pub(crate) fn client_refuses(frame: &Frame, turn: &Turn, kind: ErrorKind) -> bool
     ensures { IsTrue result ↔ ClientRefuses frame.now turn.now kind }
+{
+    !turn.acts.sealed && client_stops(frame, turn, kind)
+}
+
+fn client_stops(frame: &Frame, turn: &Turn, kind: ErrorKind) -> bool
+    ensures { IsTrue result ↔ ClientStops frame.now turn.now kind }
 {
     if has_code(&turn.delivered.error_code) {
         kind == ErrorKind::InvalidToken
     } else if differs(frame.noted, turn.delivered.version) {
         kind == ErrorKind::MessageAltered
     } else {
-        kind == ErrorKind::InsufficientMemory
-            || finds_old_server(frame, turn, kind)
-            || client_state_refuses(frame, turn, kind)
+        finds_old_server(frame, turn, kind) || client_state_refuses(frame, turn, kind)
     }
 }
 
 fn token_refused_back(frame: &Frame, acts: Acts, kind: ErrorKind) -> bool
-    ensures { IsTrue result ↔ TokenRefusedBack frame.now acts acts.status kind }
+    ensures { IsTrue result ↔ OrMemory kind (TokenRefusedBack frame.now acts acts.status kind) }
 {
     match acts.status {
+        _ if kind == ErrorKind::InsufficientMemory => true,
         None => acts.negotiated || frame.noted.is_none(),
         Some(SecurityStatus::ContinueNeeded) => false,
         Some(SecurityStatus::CompleteNeeded) => true,
@@ -128,7 +134,7 @@ fn opened_refused(turn: &Turn, kind: ErrorKind) -> bool
     ensures { IsTrue result ↔ BlobStops turn.now.delivered.auth_info kind (λ blob. OpenedRefused turn.now.acts.opened kind) }
 {
     if is_long(&turn.delivered.auth_info) {
-        !turn.acts.opened || are_unreadable(kind)
+        !turn.acts.opened || kind == ErrorKind::InsufficientMemory || are_unreadable(kind)
     } else {
         kind == ErrorKind::InvalidToken
     }
@@ -145,13 +151,19 @@ fn server_state_refuses(frame: &Frame, turn: &Turn, kind: ErrorKind) -> bool
     }
 }
 
-/// A server's refusal of this kind.
+/// A server's refusal of this kind, before it has sealed its proof.
 pub(crate) fn server_refuses(frame: &Frame, turn: &Turn, kind: ErrorKind) -> bool
     ensures { IsTrue result ↔ ServerRefuses frame.now turn.now kind }
+{
+    !turn.acts.proved && server_stops(frame, turn, kind)
+}
+
+fn server_stops(frame: &Frame, turn: &Turn, kind: ErrorKind) -> bool
+    ensures { IsTrue result ↔ ServerStops frame.now turn.now kind }
 {
     if differs(frame.noted, turn.delivered.version) {
         kind == ErrorKind::MessageAltered
     } else {
-        kind == ErrorKind::InsufficientMemory || server_state_refuses(frame, turn, kind)
+        server_state_refuses(frame, turn, kind)
     }
 }

@@ -22,7 +22,8 @@ use std::alloc::Global;
 ///
 /// - A turn that was told an error or another version than the noted one did nothing, and was
 ///   refused for that.
-/// - A refused turn has a kind with which a turn of its acts can end.
+/// - A refused turn has a kind with which a turn of its acts can end. It is none in which a client
+///   sealed its credentials, or a server its proof.
 /// - A turn in which no step answered has no token.
 /// - A server opened a proof from version 5 on only with a nonce; its error request has the version
 ///   that it then owes.

@@ -7,12 +7,14 @@ use crate::tests::ntlm::EXCHANGE;
 use crate::tests::records::are_judged_by_both;
 
 /// Records that no exchange leaves, of which `audit` does not ask: a client that was told an error, or another version, and opened the
-/// proof and sealed its credentials all the same; a token without a step; and a last delivery of
+/// proof and sealed its credentials all the same; one that sealed them and was refused; a token without a step; and a last delivery of
 /// which 1048582 bytes were taken, ended or not.
 const LEFT_BY_NONE: &str = "\
 yes4 no4 01234 abcd 4.given=U 4.outcome=InvalidToken 4.message=- d.delivered=U
 yes4 no4 01234 abcd 4.given=U 4.outcome=LogonDenied 4.message=- d.delivered=U
 yes4 no4 01234 abcd 4.given=V 4.outcome=MessageAltered 4.message=- d.delivered=V
+yes4 no4 01234 abcd 4.outcome=LogonDenied 4.message=-
+yes4 no4 01234 abcd 4.outcome=InsufficientMemory 4.message=-
 yes4 no4 012345 abcde 4.output=00
 yes4 no5 01234 abcde e.delivered=E+00*1048478
 yes4 no5 01234 abcde e.delivered=E+00*1048478 e.ended=no";
@@ -74,6 +76,7 @@ yes- yes- 0123 abcd 3.acts=step,complete,checked 3.outcome=MessageAltered 3.mess
 yes- no4 0123 abcd 3.acts=step,complete,checked 3.outcome=MessageAltered 3.message=C;nego=-;code=c007030f d.sent=Y d.delivered=Y
 yes- no4 0123 abcd 3.acts=step,complete,checked 3.outcome=MessageAltered 3.message=C;nego=-;code=c007030f d.sent=Y d.delivered=
 yes- no3 0123 abc 3.acts=- 3.output= 3.outcome=LogonDenied 3.message=C;nego=-;code=c007030c
+yes- no3 0123 abc 3.outcome=LogonDenied 3.message=C;nego=-;code=c007030c
 yes- yes- 0123 abc 3.acts=step,complete 3.outcome=LogonDenied 3.message=C;nego=-;code=c007030c
 yes- no3 0123 abc 3.acts=step,continue 3.outcome=LogonDenied 3.message=C;nego=-;code=c007030c
 yes- no3 0123 abc 3.given=W 3.acts=step,complete,checked 3.outcome=MessageAltered 3.message=C;nonce=-;nego=-;code=c007030f c.delivered=W
@@ -90,6 +93,7 @@ const NEGOTIATED: &str = "\
 yes6 yes6 01234567 abcdefg
 yes- yes- 012345 abcdef
 yes- yes- 012345 abcde
+yes6 no6 0123456 abcdef 6.outcome=LogonDenied 6.message=-
 yes- no4 01234 abcd 4.acts=- 4.outcome=LogonDenied 4.message=-
 yes- yes- 012345 abcde 5.acts=- 5.outcome=LogonDenied 5.message=E;code=c007030c;proof=-";
 
