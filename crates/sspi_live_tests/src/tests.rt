@@ -1,0 +1,6 @@
+mod connecting;
+mod pieces;
+mod pipes;
+mod recorded;
+mod serving;
+mod stage;
