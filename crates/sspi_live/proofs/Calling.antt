@@ -17,8 +17,8 @@ use Rattle.sspi_delegate.specs.Chain.{KdcCalls}
 use Rattle.sspi_delegate.specs.Halves.{ClientHalfStops, IsNoRefusal}
 use Rattle.sspi_delegate.specs.History.{ClientHistory, ServerHistory}
 use Rattle.sspi_delegate.specs.Rounds.{ClientRoundPast, ServerRoundPast}
-use Rattle.sspi_delegate.specs.Turns.{client_turns, server_turns}
-use Rattle.sspi_delegate.proofs.Histories.{left_due}
+use Rattle.sspi_delegate.specs.Turns.{AllGoOn, client_turns, server_turns}
+use Rattle.sspi_delegate.proofs.Histories.{left_due, left_lost}
 use Rattle.sspi_live.specs.Reading.{Reads}
 use Rattle.sspi_live.specs.Answers.{IsDue, IsOwn, SoFar}
 use Rattle.sspi_live.specs.Channel.{Carries, Channel}
@@ -88,5 +88,6 @@ module _ {C D : Type 0} (c : Meaning ContextSetting C) (k : KdcCalls D) where
       left_due c k (λ (x : TsRequest). x ≡ d) (IsDue Client new begun b) first now kdc kdc2 new
       (λ x is. subst (λ (y : TsRequest). IsDue Client new begun b y) (sym is)
       (subst (λ (l : List Turn). IsDue Client l begun b d) (sym same) (is_due Client d old begun a b so read own)))
+      (left_lost c k d first now kdc kdc2 new (subst (λ (l : List Turn). AllGoOn l) (sym same) so.going)
       (client_calls d first was now kdc kdc1 kdc2 old new round.Lost whose
-      (subst (λ (l : List Turn). AreOf Client l) (sym same) whose) history calls)
+      (subst (λ (l : List Turn). AreOf Client l) (sym same) whose) history calls))

@@ -8,7 +8,6 @@ use Rattle.sspi_delegate.specs.Chain.{kdc_calls}
 use Rattle.sspi_delegate.specs.Link.{newest_message}
 use Rattle.sspi_delegate.specs.Log.{IsClientRefusal}
 use Rattle.sspi_delegate.specs.Turns.{GoesOn}
-use Rattle.sspi_delegate.proofs.Alternating.{clients_go}
 use Rattle.sspi_delegate.proofs.Halves.{client_half_refused, client_half_stopped}
 use Rattle.sspi_live.specs.Channel.{channel}
 use Rattle.sspi_live.proofs.Calling.{client_calls, lost_past, write_is_no_refusal}
@@ -82,7 +81,7 @@ returns-in_ok-write_newest-in-Answered-clause-history g c first begun kdc_begun 
     (kdc_calls g.D.Kdc.told g.D.Kdc.asked g.D.Kdc.faults) c.in_ok-request.request begun c.args.client.now c.client_round.new.client
     kdc_begun c.args.kdc.now c.client_round.new.kdc old new (round.Answered tt) whose
     (pushed_whose Client c.in_ok-request.request GoesOn old new c.in-Answered.ensures.turn whose) history
-    (λ h. c.in-Answered.ensures.client_history begun kdc_begun (clients_go old so.going) h)
+    (λ h. c.in-Answered.ensures.client_history begun kdc_begun h)
 
 pub returns-in_err-write_newest-in-Answered-clause-history : goal.returns-in_err-write_newest-in-Answered-clause-history
 returns-in_err-write_newest-in-Answered-clause-history g c first begun kdc_begun whose so history =
@@ -99,7 +98,7 @@ returns-in_err-write_newest-in-Answered-clause-history g c first begun kdc_begun
     (kdc_calls g.D.Kdc.told g.D.Kdc.asked g.D.Kdc.faults) c.in_ok-request.request begun c.args.client.now c.client_round.new.client
     kdc_begun c.args.kdc.now c.client_round.new.kdc old new (round.Answered tt) whose
     (pushed_whose Client c.in_ok-request.request GoesOn old new c.in-Answered.ensures.turn whose) history
-    (λ h. c.in-Answered.ensures.client_history begun kdc_begun (clients_go old so.going) h)))
+    (λ h. c.in-Answered.ensures.client_history begun kdc_begun h)))
 
 pub returns-in-Refused-clause-history : goal.returns-in-Refused-clause-history
 returns-in-Refused-clause-history g c first begun kdc_begun whose so history =
@@ -113,7 +112,7 @@ returns-in-Refused-clause-history g c first begun kdc_begun whose so history =
     (kdc_calls g.D.Kdc.told g.D.Kdc.asked g.D.Kdc.faults) c.in_ok-request.request begun c.args.client.now c.client_round.new.client
     kdc_begun c.args.kdc.now c.client_round.new.kdc old new (round.Refused error) whose
     (pushed_whose Client c.in_ok-request.request (IsClientRefusal error.error_type) old new c.in-Refused.ensures.turn whose) history
-    (λ h. c.in-Refused.ensures.client_history begun kdc_begun (clients_go old so.going) h))
+    (λ h. c.in-Refused.ensures.client_history begun kdc_begun h))
 
 pub returns-in-Lost-clause-history : goal.returns-in-Lost-clause-history
 returns-in-Lost-clause-history g c first begun kdc_begun whose so history =
@@ -127,4 +126,4 @@ returns-in-Lost-clause-history g c first begun kdc_begun whose so history =
     c.args.kdc.now c.client_round.new.kdc old new first a b whose so
     (client_read old a b d c.in_ok-request.ensures (Keeps-refl _) refl) (read_own old _ _ _ _ d c.in_ok-request.ensures)
     c.in-Lost.ensures.turn history
-    (λ h. c.in-Lost.ensures.client_history begun kdc_begun (clients_go old so.going) h)
+    (λ h. c.in-Lost.ensures.client_history begun kdc_begun h)
