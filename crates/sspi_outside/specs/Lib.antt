@@ -1,0 +1,4 @@
+pub mod Envelope
+pub mod Outside
+pub mod OutsideLaws
+pub mod Seen
