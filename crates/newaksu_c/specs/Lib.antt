@@ -1,0 +1,5 @@
+pub mod Giving
+pub mod Held
+pub mod Owned
+pub mod Requests
+pub mod Status

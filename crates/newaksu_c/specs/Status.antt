@@ -1,0 +1,35 @@
+-- The numbers that calls answer.
+use Rattle.std.specs.Prelude.{ℕ, ◌==◌, if◌then◌else◌}
+use Rattle.sspi_ber.specs.declared.wire_kind.WireKind.{WireKind}
+use Rattle.sspi_ber.specs.declared.wire_kind.WireKind.TheVariants.{UnexpectedEof, InvalidData, ReadFault, WriteFault, InsufficientMemory}
+
+abbrev pub ok : ℕ
+ok = 0
+
+abbrev pub absent : ℕ
+absent = 6
+
+-- SEC_E_INVALID_HANDLE, SEC_E_BUFFER_TOO_SMALL, SEC_E_INVALID_PARAMETER and SEC_E_INSUFFICIENT_MEMORY of winerror.h
+abbrev pub invalid_handle : ℕ
+invalid_handle = 0x80090301
+
+abbrev pub buffer_too_small : ℕ
+buffer_too_small = 0x80090321
+
+abbrev pub invalid_parameter : ℕ
+invalid_parameter = 0x8009035d
+
+abbrev pub insufficient_memory : ℕ
+insufficient_memory = 0x80090300
+
+-- what the codec of TSRequest refuses by
+abbrev pub wire_status : WireKind → ℕ
+wire_status UnexpectedEof = 1
+wire_status InvalidData = 2
+wire_status ReadFault = 3
+wire_status WriteFault = 4
+wire_status InsufficientMemory = 5
+
+-- of letting go an object of this kind; 0 is none
+abbrev pub released : ℕ → ℕ
+released kind = if kind == 0 then invalid_handle else ok

@@ -1,0 +1,30 @@
+//! How bytes are given to the caller.
+ghost use Rattle.std.specs.Prelude.{◌≡◌};
+ghost use Rattle.newaksu_c.specs.Giving.{Answers, Gives, told};
+
+use crate::status::{BUFFER_TOO_SMALL, OK};
+
+/// Gives the bytes where the buffer has the room for them, and says in any case how many there are.
+pub(crate) fn give(bytes: &[u8], out: &mut [u8], written: &mut usize) -> u32
+    ensures { Gives bytes.now out.old out.new written.new result }
+{
+    *written = bytes.len();
+    if out.len() < bytes.len() {
+        return BUFFER_TOO_SMALL;
+    }
+    out[..bytes.len()].copy_from_slice(bytes);
+    OK
+}
+
+/// Gives the bytes that there are, or answers why there are none.
+pub(crate) fn answer(bytes: Result<&[u8], u32>, out: &mut [u8], written: &mut usize) -> u32
+    ensures { Answers (told bytes.entry) out.old out.new written.new result }
+{
+    match bytes {
+        Ok(bytes) => give(bytes, out, written),
+        Err(status) => {
+            *written = 0;
+            status
+        }
+    }
+}

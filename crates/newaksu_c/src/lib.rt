@@ -1,0 +1,19 @@
+//! The library for C: every call of `ffi/include/newaksu.h`, over the proved crates.
+//!
+//! What a call made stands behind a `Handle`, a word that C keeps, and each call says by its status whether it did what it
+//! was asked for. A handle that is empty, or holds another kind of object, is answered by a status. No call has a `requires`.
+//!
+//! - `handle`, `object`: what C keeps, and what stands behind it.
+//! - `giving`: how bytes are given out, and `status` which numbers are answered.
+//! - `request`, `reader`, `credentials`, `early`: the messages of CredSSP.
+//! - `init`, `targ`, `oid`: the tokens of SPNEGO.
+//! - `identities`, `client`, `server`, `end`: both ends.
+#![tactic(auto)]
+
+pub mod general;
+pub mod giving;
+pub mod handle;
+mod loose;
+pub mod object;
+pub mod request;
+pub mod status;

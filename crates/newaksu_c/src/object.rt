@@ -1,0 +1,51 @@
+//! What can stand behind a handle.
+ghost use Rattle.std.specs.Prelude.{◌≡◌, option_copied, option_map};
+ghost use Rattle.newaksu_c.specs.Held.{request_in, kind_in};
+
+use sspi_names::{AuthIdentity, AuthIdentityBuffers};
+use sspi_tokens::{NegTokenInit, NegTokenTarg};
+use sspi_tsreq::{TsReader, TsRequest};
+
+/// An object that C keeps by a handle.
+#[derive(Drop)]
+pub enum Object {
+    /// A TSRequest.
+    Request(TsRequest),
+    /// A reader of a TSRequest in pieces.
+    Reader(TsReader),
+    /// The first token of a client.
+    Init(NegTokenInit),
+    /// A later token.
+    Targ(NegTokenTarg),
+    /// The texts of TSCredentials.
+    Credentials(AuthIdentityBuffers),
+    /// The identities that a server knows.
+    Identities(Vec<AuthIdentity>),
+}
+
+/// The number of the kind of object that stands behind a handle.
+pub(crate) fn kind_of(object: &Option<Box<Object>>) -> u32
+    ensures { result ≡ kind_in (option_map (λ b. b.value) object.now) }
+{
+    let Some(object) = object else {
+        return 0;
+    };
+    match &**object {
+        Object::Request(_) => 1,
+        Object::Reader(_) => 2,
+        Object::Init(_) => 3,
+        Object::Targ(_) => 4,
+        Object::Credentials(_) => 5,
+        Object::Identities(_) => 6,
+    }
+}
+
+/// The request, if one stands there.
+pub(crate) fn request_of(object: &Option<Box<Object>>) -> Option<&TsRequest>
+    ensures { option_copied result ≡ request_in (option_map (λ b. b.value) object.now) }
+{
+    match &**object.as_ref()? {
+        Object::Request(request) => Some(request),
+        _ => None,
+    }
+}

@@ -1,0 +1,36 @@
+//! The numbers that calls answer.
+ghost use Rattle.std.specs.Prelude.{◌≡◌};
+ghost use Rattle.newaksu_c.specs.Status.{wire_status};
+
+use sspi_ber::WireKind;
+
+/// The call did what it was asked for.
+pub const OK: u32 = 0;
+
+/// There is nothing of what was asked for.
+pub const ABSENT: u32 = 6;
+
+/// The handle is empty, or holds another kind of object (SEC_E_INVALID_HANDLE).
+pub const INVALID_HANDLE: u32 = 0x80090301;
+
+/// The buffer is too small for what there is to give (SEC_E_BUFFER_TOO_SMALL).
+pub const BUFFER_TOO_SMALL: u32 = 0x80090321;
+
+/// An argument is none that the call takes (SEC_E_INVALID_PARAMETER).
+pub const INVALID_PARAMETER: u32 = 0x8009035d;
+
+/// There was no memory (SEC_E_INSUFFICIENT_MEMORY).
+pub const INSUFFICIENT_MEMORY: u32 = 0x80090300;
+
+/// The number of what the codec of TSRequest refused by.
+pub(crate) fn wire_status(kind: WireKind) -> u32
+    ensures { result ≡ wire_status kind }
+{
+    match kind {
+        WireKind::UnexpectedEof => 1,
+        WireKind::InvalidData => 2,
+        WireKind::ReadFault => 3,
+        WireKind::WriteFault => 4,
+        WireKind::InsufficientMemory => 5,
+    }
+}
