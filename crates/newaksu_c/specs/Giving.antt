@@ -1,4 +1,5 @@
 -- What a caller is given, and what its buffer and its count then hold.
+use Rattle.std.specs.Global.{Vec}
 use Rattle.std.specs.Prelude.{◌≡◌, ℕ, ◌++◌, List, drop, length, nat_lt, Bool, true, false, Result, Ok, Err}
 use Rattle.std.specs.Borrow.{Bor}
 use Rattle.newaksu_c.specs.Status.{ok, buffer_too_small}
@@ -7,6 +8,10 @@ use Rattle.newaksu_c.specs.Status.{ok, buffer_too_small}
 abbrev pub told : Result (Bor (List ℕ)) ℕ → Result (List ℕ) ℕ
 told (Ok bytes) = Ok bytes.now
 told (Err status) = Err status
+
+abbrev pub items_of : Result (Vec ℕ) ℕ → Result (List ℕ) ℕ
+items_of (Ok bytes) = Ok bytes.items
+items_of (Err status) = Err status
 
 -- by whether the buffer is too small: the bytes at its front, or nothing
 abbrev pub Fills : Bool → List ℕ → List ℕ → List ℕ → ℕ → Type 0

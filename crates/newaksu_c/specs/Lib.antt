@@ -1,5 +1,6 @@
 pub mod Giving
 pub mod Held
 pub mod Owned
+pub mod Putting
 pub mod Requests
 pub mod Status

@@ -9,7 +9,7 @@ ok = 0
 abbrev pub absent : ℕ
 absent = 6
 
--- SEC_E_INVALID_HANDLE, SEC_E_BUFFER_TOO_SMALL, SEC_E_INVALID_PARAMETER and SEC_E_INSUFFICIENT_MEMORY of winerror.h
+-- SEC_E_INVALID_HANDLE, SEC_E_BUFFER_TOO_SMALL, SEC_E_INVALID_PARAMETER, SEC_E_INSUFFICIENT_MEMORY and SEC_E_INTERNAL_ERROR of winerror.h
 abbrev pub invalid_handle : ℕ
 invalid_handle = 0x80090301
 
@@ -22,13 +22,16 @@ invalid_parameter = 0x8009035d
 abbrev pub insufficient_memory : ℕ
 insufficient_memory = 0x80090300
 
+abbrev pub internal_error : ℕ
+internal_error = 0x80090304
+
 -- what the codec of TSRequest refuses by
 abbrev pub wire_status : WireKind → ℕ
 wire_status UnexpectedEof = 1
 wire_status InvalidData = 2
 wire_status ReadFault = 3
 wire_status WriteFault = 4
-wire_status InsufficientMemory = 5
+wire_status InsufficientMemory = insufficient_memory
 
 -- of letting go an object of this kind; 0 is none
 abbrev pub released : ℕ → ℕ

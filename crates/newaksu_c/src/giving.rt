@@ -1,6 +1,6 @@
 //! How bytes are given to the caller.
 ghost use Rattle.std.specs.Prelude.{◌≡◌};
-ghost use Rattle.newaksu_c.specs.Giving.{Answers, Gives, told};
+ghost use Rattle.newaksu_c.specs.Giving.{Answers, Gives, items_of, told};
 
 use crate::status::{BUFFER_TOO_SMALL, OK};
 
@@ -22,6 +22,19 @@ pub(crate) fn answer(bytes: Result<&[u8], u32>, out: &mut [u8], written: &mut us
 {
     match bytes {
         Ok(bytes) => give(bytes, out, written),
+        Err(status) => {
+            *written = 0;
+            status
+        }
+    }
+}
+
+/// The same of bytes in memory of their own.
+pub(crate) fn give_all(bytes: Result<Vec<u8>, u32>, out: &mut [u8], written: &mut usize) -> u32
+    ensures { Answers (items_of bytes) out.old out.new written.new result }
+{
+    match bytes {
+        Ok(bytes) => give(&bytes, out, written),
         Err(status) => {
             *written = 0;
             status

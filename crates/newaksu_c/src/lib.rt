@@ -15,5 +15,7 @@ pub mod giving;
 pub mod handle;
 mod loose;
 pub mod object;
+mod putting;
 pub mod request;
+pub mod request_setting;
 pub mod status;

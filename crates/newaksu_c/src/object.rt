@@ -1,6 +1,6 @@
 //! What can stand behind a handle.
 ghost use Rattle.std.specs.Prelude.{◌≡◌, option_copied, option_map};
-ghost use Rattle.newaksu_c.specs.Held.{request_in, kind_in};
+ghost use Rattle.newaksu_c.specs.Held.{kind_in, request_in, init_in, targ_in, credentials_in, identities_in};
 
 use sspi_names::{AuthIdentity, AuthIdentityBuffers};
 use sspi_tokens::{NegTokenInit, NegTokenTarg};
@@ -40,12 +40,52 @@ pub(crate) fn kind_of(object: &Option<Box<Object>>) -> u32
     }
 }
 
-/// The request, if one stands there.
+/// The request behind the handle, if such an object stands there.
 pub(crate) fn request_of(object: &Option<Box<Object>>) -> Option<&TsRequest>
     ensures { option_copied result ≡ request_in (option_map (λ b. b.value) object.now) }
 {
     match &**object.as_ref()? {
         Object::Request(request) => Some(request),
+        _ => None,
+    }
+}
+
+/// The init behind the handle, if such an object stands there.
+pub(crate) fn init_of(object: &Option<Box<Object>>) -> Option<&NegTokenInit>
+    ensures { option_copied result ≡ init_in (option_map (λ b. b.value) object.now) }
+{
+    match &**object.as_ref()? {
+        Object::Init(init) => Some(init),
+        _ => None,
+    }
+}
+
+/// The targ behind the handle, if such an object stands there.
+pub(crate) fn targ_of(object: &Option<Box<Object>>) -> Option<&NegTokenTarg>
+    ensures { option_copied result ≡ targ_in (option_map (λ b. b.value) object.now) }
+{
+    match &**object.as_ref()? {
+        Object::Targ(targ) => Some(targ),
+        _ => None,
+    }
+}
+
+/// The credentials behind the handle, if such an object stands there.
+pub(crate) fn credentials_of(object: &Option<Box<Object>>) -> Option<&AuthIdentityBuffers>
+    ensures { option_copied result ≡ credentials_in (option_map (λ b. b.value) object.now) }
+{
+    match &**object.as_ref()? {
+        Object::Credentials(credentials) => Some(credentials),
+        _ => None,
+    }
+}
+
+/// The identities behind the handle, if such an object stands there.
+pub(crate) fn identities_of(object: &Option<Box<Object>>) -> Option<&Vec<AuthIdentity>>
+    ensures { option_copied result ≡ identities_in (option_map (λ b. b.value) object.now) }
+{
+    match &**object.as_ref()? {
+        Object::Identities(identities) => Some(identities),
         _ => None,
     }
 }

@@ -1,16 +1,169 @@
 //! TSRequest (MS-CSSP 2.2.1).
-ghost use Rattle.std.specs.Prelude.{◌≡◌, option_map};
-ghost use Rattle.newaksu_c.specs.Giving.{Answers, told};
+ghost use Rattle.std.specs.Prelude.{◌≡◌, ℕ, List, true, Ok, Some, option_map, Result};
+ghost use Rattle.sspi_ber.specs.declared.wire_kind.WireKind.{WireKind as Kind};
+ghost use Rattle.sspi_tsreq.specs.Answer.{IsAnswer};
+ghost use Rattle.sspi_tsreq.specs.Grammar.{bare};
+ghost use Rattle.sspi_tsreq.specs.Header.{request_size_at};
+ghost use Rattle.sspi_tsreq.specs.Spelling.{fits};
+ghost use Rattle.sspi_tsreq.specs.declared.request.TsRequest.{TsRequest as Message};
+ghost use Rattle.newaksu_c.specs.declared.object.Object.TheVariants as objects;
+ghost use Rattle.newaksu_c.specs.Giving.{Answers, told, items_of};
 ghost use Rattle.newaksu_c.specs.Held.{request_in};
-ghost use Rattle.newaksu_c.specs.Requests.{field_at, field_in, present};
+ghost use Rattle.newaksu_c.specs.Putting.{Puts};
+ghost use Rattle.newaksu_c.specs.Requests.{code_in, code_of, field_at, field_in, present, request_made, version_in, IsEncoded, Sized, Tells};
 
-use crate::giving::answer;
+use crate::giving::{answer, give_all};
 use crate::handle::Handle;
 use crate::object::{Object, request_of};
-use crate::status::{ABSENT, INVALID_HANDLE, INVALID_PARAMETER};
+use crate::putting::put;
+use crate::status::{
+    ABSENT, INSUFFICIENT_MEMORY, INVALID_HANDLE, INVALID_PARAMETER, OK, wire_status,
+};
+use sspi_ber::{SliceSource, VecSink};
 use sspi_tsreq::TsRequest;
-use sspi_types::Bytes;
+use sspi_types::{Bytes, NStatusCode};
 use std::alloc::Global;
+
+#[tactic(auto, unfolding(sspi_tsreq::specs::Header::request_size_at))]
+/// How many bytes the request takes that the bytes begin with, by its header alone.
+#[unsafe(no_mangle)]
+pub extern "C" fn newaksu_request_size(bytes: &[u8], size: &mut usize) -> u32
+    ensures { Sized (request_size_at bytes.now) size.old size.new result }
+{
+    match TsRequest::read_length(&mut SliceSource::new(bytes)) {
+        Ok(length) => {
+            *size = length;
+            OK
+        }
+        Err(kind) => wire_status(kind),
+    }
+}
+
+/// A request of this version, without other fields.
+#[unsafe(no_mangle)]
+pub extern "C" fn newaksu_request_new(alloc: Global, handle: &mut Handle, version: u32) -> u32
+    ensures { Puts handle.old.held handle.new.held (Ok (objects.Request (bare version))) result }
+{
+    put(
+        alloc,
+        handle,
+        Object::Request(TsRequest {
+            version,
+            nego_tokens: None,
+            auth_info: None,
+            pub_key_auth: None,
+            error_code: None,
+            client_nonce: None,
+        }),
+    )
+}
+
+/// The request that the bytes begin with.
+#[unsafe(no_mangle)]
+pub extern "C" fn newaksu_request_decode(alloc: Global, handle: &mut Handle, bytes: &[u8]) -> u32
+    ensures { (read : Result Message Kind) × IsAnswer bytes.now read × Puts handle.old.held handle.new.held (request_made read) result }
+{
+    match TsRequest::from_buffer(alloc, bytes) {
+        Ok(request) => put(alloc, handle, Object::Request(request)),
+        Err(kind) => wire_status(kind),
+    }
+}
+
+fn encoded(alloc: Global, object: &Option<Box<Object>>) -> Result<Vec<u8>, u32>
+    ensures { IsEncoded (request_in (option_map (λ b. b.value) object.now)) (items_of result) }
+{
+    let Some(request) = request_of(object) else {
+        return Err(INVALID_HANDLE);
+    };
+    match request.buffer_len() {
+        Ok(size) => encoded_request(alloc, request, size as usize),
+        Err(kind) => Err(wire_status(kind)),
+    }
+}
+
+fn encoded_request(alloc: Global, request: &TsRequest, size: usize) -> Result<Vec<u8>, u32>
+    requires { fits request.now ≡ true }
+    ensures { IsEncoded (Some request.now) (items_of result) }
+{
+    let Ok(mut sink) = VecSink::with_capacity(alloc, size) else {
+        return Err(INSUFFICIENT_MEMORY);
+    };
+    match request.encode_ts_request(&mut sink) {
+        Ok(()) => Ok(sink.into_inner()),
+        Err(kind) => Err(wire_status(kind)),
+    }
+}
+
+/// The request in its shortest spelling.
+#[unsafe(no_mangle)]
+pub extern "C" fn newaksu_request_encode(
+    alloc: Global,
+    handle: &mut Handle,
+    out: &mut [u8],
+    written: &mut usize,
+) -> u32
+    ensures kept { handle.new.held ≡ handle.old.held }
+    ensures gives { (text : Result (List ℕ) ℕ) × IsEncoded (request_in handle.old.held) text × Answers text out.old out.new written.new
+        result }
+{
+    let object = handle.take(alloc);
+    let text = encoded(alloc, &object);
+    handle.keep(object);
+    give_all(text, out, written)
+}
+
+/// The version.
+#[unsafe(no_mangle)]
+pub extern "C" fn newaksu_request_version(
+    alloc: Global,
+    handle: &mut Handle,
+    version: &mut u32,
+) -> u32
+    ensures kept { handle.new.held ≡ handle.old.held }
+    ensures tells { Tells (version_in (request_in handle.old.held)) version.old version.new result }
+{
+    let object = handle.take(alloc);
+    let status = match request_of(&object) {
+        Some(request) => {
+            *version = request.version;
+            OK
+        }
+        None => INVALID_HANDLE,
+    };
+    handle.keep(object);
+    status
+}
+
+/// The error code.
+#[unsafe(no_mangle)]
+pub extern "C" fn newaksu_request_error_code(
+    alloc: Global,
+    handle: &mut Handle,
+    code: &mut u32,
+) -> u32
+    ensures kept { handle.new.held ≡ handle.old.held }
+    ensures tells { Tells (code_in (request_in handle.old.held)) code.old code.new result }
+{
+    let object = handle.take(alloc);
+    let status = match request_of(&object) {
+        Some(request) => tell_code(request.error_code, code),
+        None => INVALID_HANDLE,
+    };
+    handle.keep(object);
+    status
+}
+
+fn tell_code(found: Option<NStatusCode>, code: &mut u32) -> u32
+    ensures { Tells (code_of found) code.old code.new result }
+{
+    match found {
+        Some(found) => {
+            *code = found.0;
+            OK
+        }
+        None => ABSENT,
+    }
+}
 
 fn present(bytes: &Option<Bytes>) -> Result<&[u8], u32>
     ensures { told result ≡ present bytes.now }

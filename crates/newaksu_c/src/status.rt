@@ -1,8 +1,10 @@
 //! The numbers that calls answer.
 ghost use Rattle.std.specs.Prelude.{◌≡◌};
+ghost use Rattle.newaksu_c.specs.Putting.{kind_status};
 ghost use Rattle.newaksu_c.specs.Status.{wire_status};
 
 use sspi_ber::WireKind;
+use sspi_types::ErrorKind;
 
 /// The call did what it was asked for.
 pub const OK: u32 = 0;
@@ -22,6 +24,19 @@ pub const INVALID_PARAMETER: u32 = 0x8009035d;
 /// There was no memory (SEC_E_INSUFFICIENT_MEMORY).
 pub const INSUFFICIENT_MEMORY: u32 = 0x80090300;
 
+/// A fault that is nobody's input (SEC_E_INTERNAL_ERROR).
+pub const INTERNAL_ERROR: u32 = 0x80090304;
+
+/// The code of a refusal; `Unknown` has that of `OK`, and is told as `INTERNAL_ERROR`.
+pub(crate) fn kind_status(kind: ErrorKind) -> u32
+    ensures { result ≡ kind_status kind }
+{
+    match kind.to_u32() {
+        OK => INTERNAL_ERROR,
+        code => code,
+    }
+}
+
 /// The number of what the codec of TSRequest refused by.
 pub(crate) fn wire_status(kind: WireKind) -> u32
     ensures { result ≡ wire_status kind }
@@ -31,6 +46,6 @@ pub(crate) fn wire_status(kind: WireKind) -> u32
         WireKind::InvalidData => 2,
         WireKind::ReadFault => 3,
         WireKind::WriteFault => 4,
-        WireKind::InsufficientMemory => 5,
+        WireKind::InsufficientMemory => INSUFFICIENT_MEMORY,
     }
 }
