@@ -9,6 +9,10 @@ abbrev pub told : Result (Bor (List ℕ)) ℕ → Result (List ℕ) ℕ
 told (Ok bytes) = Ok bytes.now
 told (Err status) = Err status
 
+abbrev pub told_list : Result (Bor (List (List ℕ))) ℕ → Result (List (List ℕ)) ℕ
+told_list (Ok list) = Ok list.now
+told_list (Err status) = Err status
+
 abbrev pub items_of : Result (Vec ℕ) ℕ → Result (List ℕ) ℕ
 items_of (Ok bytes) = Ok bytes.items
 items_of (Err status) = Err status

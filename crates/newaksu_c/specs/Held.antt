@@ -2,7 +2,7 @@
 use Rattle.std.specs.Global.{Vec}
 use Rattle.std.specs.Prelude.{ℕ, List, Option, None, Some}
 use Rattle.sspi_names.specs.declared.identity.AuthIdentity.{AuthIdentity}
-use Rattle.sspi_names.specs.declared.identity.AuthIdentityBuffers.{AuthIdentityBuffers}
+use Rattle.sspi_names.specs.declared.credentials.CredentialsBuffers.{CredentialsBuffers}
 use Rattle.sspi_tokens.specs.declared.neg_token_init.NegTokenInit.{NegTokenInit}
 use Rattle.sspi_tokens.specs.declared.neg_token_targ.NegTokenTarg.{NegTokenTarg}
 use Rattle.sspi_tsreq.specs.declared.reader.TsReader.{TsReader}
@@ -55,7 +55,7 @@ targ_in (Some (Targ t)) = Some t
 targ_in (Some (Credentials c)) = None
 targ_in (Some (Identities l)) = None
 
-abbrev pub credentials_in : Option Object → Option AuthIdentityBuffers
+abbrev pub credentials_in : Option Object → Option CredentialsBuffers
 credentials_in None = None
 credentials_in (Some (Request r)) = None
 credentials_in (Some (Reader r)) = None

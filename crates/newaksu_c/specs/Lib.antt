@@ -1,6 +1,11 @@
+pub mod Credentials
+pub mod Early
 pub mod Giving
 pub mod Held
+pub mod Names
 pub mod Owned
 pub mod Putting
+pub mod Readers
 pub mod Requests
 pub mod Status
+pub mod Tokens

@@ -10,12 +10,20 @@
 //! - `identities`, `client`, `server`, `end`: both ends.
 #![tactic(auto)]
 
+pub mod credentials;
+pub mod early;
 pub mod general;
 pub mod giving;
 pub mod handle;
+pub mod init;
+pub mod init_setting;
 mod loose;
+pub mod names;
 pub mod object;
 mod putting;
+pub mod reader;
 pub mod request;
 pub mod request_setting;
 pub mod status;
+pub mod targ;
+pub mod targ_setting;

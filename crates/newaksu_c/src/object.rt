@@ -2,7 +2,7 @@
 ghost use Rattle.std.specs.Prelude.{◌≡◌, option_copied, option_map};
 ghost use Rattle.newaksu_c.specs.Held.{kind_in, request_in, init_in, targ_in, credentials_in, identities_in};
 
-use sspi_names::{AuthIdentity, AuthIdentityBuffers};
+use sspi_names::{AuthIdentity, CredentialsBuffers};
 use sspi_tokens::{NegTokenInit, NegTokenTarg};
 use sspi_tsreq::{TsReader, TsRequest};
 
@@ -18,7 +18,7 @@ pub enum Object {
     /// A later token.
     Targ(NegTokenTarg),
     /// The texts of TSCredentials.
-    Credentials(AuthIdentityBuffers),
+    Credentials(CredentialsBuffers),
     /// The identities that a server knows.
     Identities(Vec<AuthIdentity>),
 }
@@ -71,7 +71,7 @@ pub(crate) fn targ_of(object: &Option<Box<Object>>) -> Option<&NegTokenTarg>
 }
 
 /// The credentials behind the handle, if such an object stands there.
-pub(crate) fn credentials_of(object: &Option<Box<Object>>) -> Option<&AuthIdentityBuffers>
+pub(crate) fn credentials_of(object: &Option<Box<Object>>) -> Option<&CredentialsBuffers>
     ensures { option_copied result ≡ credentials_in (option_map (λ b. b.value) object.now) }
 {
     match &**object.as_ref()? {

@@ -76,7 +76,7 @@ pub extern "C" fn newaksu_request_set_error_code(
     status
 }
 
-fn set_bytes(alloc: Global, field: &mut Option<Bytes>, bytes: &[u8]) -> u32
+pub(crate) fn set_bytes(alloc: Global, field: &mut Option<Bytes>, bytes: &[u8]) -> u32
     ensures ok { result ≡ 0 → field.new ≡ Some bytes.now }
     ensures err { result ≢ 0 → (result ≡ insufficient_memory) × (field.new ≡ field.old) }
 {
