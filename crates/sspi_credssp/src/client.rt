@@ -164,6 +164,13 @@ impl<N, K> CredSspClient<N, K> {
         self.acts
     }
 
+    /// What the client waits for.
+    pub fn state(&self) -> CredSspState
+        ensures { result ≡ self.now.state }
+    {
+        self.state
+    }
+
     /// The nonce that goes into the proofs from version 5 on: the 32 bytes that the client was made with.
     pub fn client_nonce(&self) -> &[u8; 32]
         ensures nonce { result.now ≡ self.now.settings.nonce }

@@ -149,6 +149,13 @@ impl<N, K, C> CredSspServer<N, K, C> {
     {
         self.acts
     }
+
+    /// What the server waits for.
+    pub fn state(&self) -> CredSspState
+        ensures { result ≡ self.now.state }
+    {
+        self.state
+    }
 }
 
 impl<N: Mechanism, K: Mechanism, C: CredentialsProxy> CredSspServer<N, K, C> {

@@ -2,11 +2,22 @@
 //!
 //! - `Outside` stands for the host's context in an end of CredSSP. What the host hands in, and in which place, is in
 //!   `specs/Envelope.antt`; what the calls of `Outside` make of it, in `specs/Outside.antt`.
-//! - `HostStep` writes the envelope of a step.
-//! - `laws`: what was sealed so opens, and an envelope says what it was written for.
+//! - `ClientEnd` and `ServerEnd` keep what their last call came to; `handed` makes of what came, and of what the host reports,
+//!   the request that such an end is handed, and `Last` says what the host has to seal and what is sent (`specs/Hosting.antt`).
+//! - `Peers`: the users of a list, or whoever the mechanism names.
 #![tactic(auto)]
 
+pub mod client_end;
 mod envelope;
+pub mod last;
+pub mod opened;
 pub mod outside;
+pub mod peers;
+pub mod server_end;
 
+pub use client_end::ClientEnd;
+pub use last::{Last, Owed};
+pub use opened::{Opened, handed};
 pub use outside::Outside;
+pub use peers::{AnyPeer, Peers};
+pub use server_end::ServerEnd;

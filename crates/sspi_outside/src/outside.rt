@@ -187,7 +187,7 @@ impl Outside {
 }
 
 // Sixteen zeros and the text.
-fn untagged(alloc: Global, text: &[u8]) -> Result<Vec<u8>, AllocError>
+pub(crate) fn untagged(alloc: Global, text: &[u8]) -> Result<Vec<u8>, AllocError>
     ensures { IfOk result (λ blob. blob.items ≡ no_tag ++ text.now) }
 {
     let mut blob = Vec::with_capacity(alloc, NO_TAG.len() + text.len())?;

@@ -1,0 +1,51 @@
+//! A client that keeps what its last call came to.
+ghost use Rattle.std.specs.Prelude.{◌≡◌};
+ghost use Rattle.sspi_credssp.specs.Context.{either};
+ghost use Rattle.sspi_outside.specs.declared.last.Last.TheVariants as lasts;
+
+use crate::last::Last;
+use sspi_credssp::CredSspClient;
+use sspi_mech::Mechanism;
+use sspi_tsreq::TsRequest;
+use sspi_types::Error;
+
+/// A client, and what its last call came to.
+#[derive(Drop)]
+pub struct ClientEnd<N, K> {
+    /// The client.
+    pub client: CredSspClient<N, K>,
+    /// What its last call came to.
+    pub last: Last,
+}
+
+impl<N, K> ClientEnd<N, K> {
+    /// Of a client that made no call yet.
+    pub fn new(client: CredSspClient<N, K>) -> ClientEnd<N, K>
+        ensures { result ≡ record { client = client; last = lasts.Nothing } }
+    {
+        ClientEnd {
+            client,
+            last: Last::Nothing,
+        }
+    }
+}
+
+impl<N: Mechanism, K: Mechanism> ClientEnd<N, K> {
+    ghost use Rattle.sspi_outside.specs.Ends.{ClientCalled};
+
+    /// One call of `CredSspClient::process`.
+    pub fn process(&mut self, request: TsRequest) -> Result<(), Error>
+        ensures { ClientCalled (either N.REQUESTS N.meaning K.meaning) self.old.client request result self.new.client self.new.last }
+    {
+        match self.client.process(request) {
+            Ok(progress) => {
+                self.last = Last::of_client(progress);
+                Ok(())
+            }
+            Err(error) => {
+                self.last = Last::Refused(error, None);
+                Err(error)
+            }
+        }
+    }
+}
