@@ -2,10 +2,12 @@ pub mod Credentials
 pub mod Early
 pub mod Giving
 pub mod Held
+pub mod Identities
 pub mod Names
 pub mod Owned
 pub mod Putting
 pub mod Readers
 pub mod Requests
+pub mod Settings
 pub mod Status
 pub mod Tokens

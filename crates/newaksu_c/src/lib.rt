@@ -12,9 +12,12 @@
 
 pub mod credentials;
 pub mod early;
+mod ends;
 pub mod general;
 pub mod giving;
 pub mod handle;
+pub mod identities;
+pub mod identity_list;
 pub mod init;
 pub mod init_setting;
 mod loose;
@@ -24,6 +27,7 @@ mod putting;
 pub mod reader;
 pub mod request;
 pub mod request_setting;
+pub mod settings;
 pub mod status;
 pub mod targ;
 pub mod targ_setting;

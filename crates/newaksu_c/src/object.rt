@@ -2,7 +2,10 @@
 ghost use Rattle.std.specs.Prelude.{◌≡◌, option_copied, option_map};
 ghost use Rattle.newaksu_c.specs.Held.{kind_in, request_in, init_in, targ_in, credentials_in, identities_in};
 
-use sspi_names::{AuthIdentity, CredentialsBuffers};
+use crate::identity_list::IdentityList;
+use sspi_mech::Ntlm;
+use sspi_names::CredentialsBuffers;
+use sspi_outside::{ClientEnd, Outside, Peers, ServerEnd};
 use sspi_tokens::{NegTokenInit, NegTokenTarg};
 use sspi_tsreq::{TsReader, TsRequest};
 
@@ -20,7 +23,15 @@ pub enum Object {
     /// The texts of TSCredentials.
     Credentials(CredentialsBuffers),
     /// The identities that a server knows.
-    Identities(Vec<AuthIdentity>),
+    Identities(IdentityList),
+    /// A client over the host's mechanism.
+    Client(ClientEnd<Outside, Outside>),
+    /// A server over the host's mechanism.
+    Server(ServerEnd<Outside, Outside, Peers>),
+    /// A client over plain NTLM.
+    PlainClient(ClientEnd<Ntlm, Ntlm>),
+    /// A server over plain NTLM.
+    PlainServer(ServerEnd<Ntlm, Ntlm, Peers>),
 }
 
 /// The number of the kind of object that stands behind a handle.
@@ -37,6 +48,10 @@ pub(crate) fn kind_of(object: &Option<Box<Object>>) -> u32
         Object::Targ(_) => 4,
         Object::Credentials(_) => 5,
         Object::Identities(_) => 6,
+        Object::Client(_) => 7,
+        Object::Server(_) => 8,
+        Object::PlainClient(_) => 9,
+        Object::PlainServer(_) => 10,
     }
 }
 
@@ -81,7 +96,7 @@ pub(crate) fn credentials_of(object: &Option<Box<Object>>) -> Option<&Credential
 }
 
 /// The identities behind the handle, if such an object stands there.
-pub(crate) fn identities_of(object: &Option<Box<Object>>) -> Option<&Vec<AuthIdentity>>
+pub(crate) fn identities_of(object: &Option<Box<Object>>) -> Option<&IdentityList>
     ensures { option_copied result ≡ identities_in (option_map (λ b. b.value) object.now) }
 {
     match &**object.as_ref()? {
