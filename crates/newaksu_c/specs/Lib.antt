@@ -3,6 +3,8 @@ pub mod Early
 pub mod Giving
 pub mod Held
 pub mod Identities
+pub mod Making
+pub mod MakingServers
 pub mod Names
 pub mod Owned
 pub mod Putting

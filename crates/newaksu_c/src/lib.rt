@@ -10,6 +10,7 @@
 //! - `identities`, `client`, `server`, `end`: both ends.
 #![tactic(auto)]
 
+pub mod client;
 pub mod credentials;
 pub mod early;
 mod ends;
@@ -27,6 +28,7 @@ mod putting;
 pub mod reader;
 pub mod request;
 pub mod request_setting;
+pub mod server;
 pub mod settings;
 pub mod status;
 pub mod targ;
