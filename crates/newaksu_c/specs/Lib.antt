@@ -7,9 +7,13 @@ pub mod Making
 pub mod MakingServers
 pub mod Names
 pub mod Owned
+pub mod Processing
 pub mod Putting
 pub mod Readers
 pub mod Requests
+pub mod Sending
+pub mod SendingText
 pub mod Settings
 pub mod Status
+pub mod Telling
 pub mod Tokens

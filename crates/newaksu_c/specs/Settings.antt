@@ -65,7 +65,7 @@ client_settings options key target nonce name password =
     text_of target then_with λ service.
     identity_of name password then_with λ identity.
     Ok (record (new_client key (credentials.AuthIdentity identity) delegation options.version (client.Ntlm (config_with (replicate 8 0)))
-        service nonce_bytes) { least = options.least_version })
+    service nonce_bytes) { least = options.least_version })
 
 -- the settings of a server, without SPNEGO
 abbrev pub server_settings : ServerOptions → List ℕ → List ℕ → ServerSettings

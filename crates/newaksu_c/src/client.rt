@@ -80,13 +80,15 @@ fn made(
 {
     match options.mechanism {
         0 => {
-            let client =
-                client_of::<Outside, Outside>(alloc, options, key, target, nonce, name, password)?;
+            let client = client_of::<Outside, Outside>(
+                alloc, options, key, target, nonce, name, password,
+            )?;
             Ok(Object::Client(ClientEnd::new(client)))
         }
         1 => {
-            let client =
-                client_of::<Ntlm, Ntlm>(alloc, options, key, target, nonce, name, password)?;
+            let client = client_of::<Ntlm, Ntlm>(
+                alloc, options, key, target, nonce, name, password,
+            )?;
             Ok(Object::PlainClient(ClientEnd::new(client)))
         }
         _ => Err(INVALID_PARAMETER),

@@ -15,9 +15,7 @@ use crate::giving::give_all;
 use crate::handle::Handle;
 use crate::object::{Object, credentials_of};
 use crate::putting::put;
-use crate::status::{
-    ABSENT, INSUFFICIENT_MEMORY, INVALID_HANDLE, INVALID_PARAMETER, kind_status,
-};
+use crate::status::{ABSENT, INSUFFICIENT_MEMORY, INVALID_HANDLE, INVALID_PARAMETER, kind_status};
 use sspi_names::{AuthIdentityBuffers, CredentialsBuffers, Utf16Text};
 use sspi_tsreq::{CredSspMode, read_ts_credentials_from_slice, write_ts_credentials};
 use sspi_types::{Error, Secret};

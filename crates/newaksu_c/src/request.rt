@@ -75,6 +75,12 @@ fn encoded(alloc: Global, object: &Option<Box<Object>>) -> Result<Vec<u8>, u32>
     let Some(request) = request_of(object) else {
         return Err(INVALID_HANDLE);
     };
+    encoded_message(alloc, request)
+}
+
+pub(crate) fn encoded_message(alloc: Global, request: &TsRequest) -> Result<Vec<u8>, u32>
+    ensures { IsEncoded (Some request.now) (items_of result) }
+{
     match request.buffer_len() {
         Ok(size) => encoded_request(alloc, request, size as usize),
         Err(kind) => Err(wire_status(kind)),

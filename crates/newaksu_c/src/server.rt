@@ -25,11 +25,7 @@ fn listed(alloc: Global, list: &IdentityList) -> Result<Peers, u32>
     ensures err { IfErr result (λ status. status ≡ insufficient_memory) }
 {
     match list.copied(alloc) {
-        Ok(entries) => Ok(Peers::Listed(TableProxy::new(
-            alloc,
-            entries,
-            Vec::new(alloc),
-        ))),
+        Ok(entries) => Ok(Peers::Listed(TableProxy::new(alloc, entries, Vec::new(alloc)))),
         Err(_) => Err(INSUFFICIENT_MEMORY),
     }
 }
@@ -53,8 +49,7 @@ fn server_of<N, K>(
         client_computer_name: None,
         challenge,
     });
-    let server =
-        CredSspServer::new_with_version(alloc, key, peers, options.version, mode);
+    let server = CredSspServer::new_with_version(alloc, key, peers, options.version, mode);
     Ok(server.with_least_version(options.least_version))
 }
 

@@ -69,11 +69,7 @@ fn name_of(alloc: Global, bytes: &[u8]) -> Result<Username, u32>
     }
 }
 
-pub(crate) fn identity_of(
-    alloc: Global,
-    name: &[u8],
-    password: &[u8],
-) -> Result<AuthIdentity, u32>
+pub(crate) fn identity_of(alloc: Global, name: &[u8], password: &[u8]) -> Result<AuthIdentity, u32>
     ensures { OrMemory result (identity_of name.now password.now) }
 {
     let username = name_of(alloc, name)?;
