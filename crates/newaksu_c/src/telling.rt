@@ -36,16 +36,12 @@ pub struct ToldActs {
     pub opened: u32,
 }
 
-/// A refusal.
-#[repr(C)]
+/// A refusal: the SSPI code of its kind, 1 where the peer told an NTSTATUS code, and that code, else 0.
 #[derive(Clone, Copy)]
 pub struct ToldRefusal {
-    /// The SSPI code of its kind.
-    pub kind: u32,
-    /// 1 where the peer told an NTSTATUS code.
-    pub has_nstatus: u32,
-    /// That code; else 0.
-    pub nstatus: u32,
+    kind: u32,
+    has_nstatus: u32,
+    nstatus: u32,
 }
 
 fn number_of(state: CredSspState) -> u32
@@ -203,17 +199,24 @@ fn refusal_of(error: Error) -> ToldRefusal
 pub extern "C" fn newaksu_end_refusal(
     alloc: Global,
     end: &mut Handle,
-    refusal: &mut ToldRefusal,
+    kind: &mut u32,
+    has_nstatus: &mut u32,
+    nstatus: &mut u32,
 ) -> u32
     ensures kept { end.new.held ≡ end.old.held }
-    ensures tells { TellsAll (refusal_of (error_of (last_in end.old.held))) refusal.old refusal.new result }
+    ensures tells { TellsAll (refusal_of (error_of (last_in end.old.held)))
+        (record { kind = kind.old; has_nstatus = has_nstatus.old; nstatus = nstatus.old })
+        (record { kind = kind.new; has_nstatus = has_nstatus.new; nstatus = nstatus.new }) result }
 {
     let object = end.take(alloc);
     let found = error_of(&object);
     end.keep(object);
     match found {
         Ok(error) => {
-            *refusal = refusal_of(error);
+            let refusal = refusal_of(error);
+            *kind = refusal.kind;
+            *has_nstatus = refusal.has_nstatus;
+            *nstatus = refusal.nstatus;
             OK
         }
         Err(status) => status,

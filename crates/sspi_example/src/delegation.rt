@@ -58,7 +58,7 @@ fn server<M: Mechanism>(alloc: Global) -> Result<CredSspServer<M, M, TableProxy>
 }
 
 /// What the peer reads of a message, once its bytes went over the channel.
-fn carried(alloc: Global, message: &TsRequest) -> Result<TsRequest, Error> {
+pub(crate) fn carried(alloc: Global, message: &TsRequest) -> Result<TsRequest, Error> {
     let mut wire = VecSink::new(alloc);
     message.encode_ts_request(&mut wire)?;
     Ok(TsRequest::from_buffer(alloc, wire.written())?)

@@ -3,6 +3,7 @@
 
 mod delegation;
 mod hello;
+mod host;
 mod messages;
 mod outside;
 mod part;
@@ -17,5 +18,6 @@ fn main(rt: HostRuntime) -> io::Result<()> {
     say(&rt, alloc, "by hand", delegation::both::<Ntlm>(alloc))?;
     say(&rt, alloc, "messages", messages::both(alloc))?;
     say(&rt, alloc, "hello", delegation::both::<Hello>(alloc))?;
-    say(&rt, alloc, "outside", outside::both(alloc))
+    say(&rt, alloc, "outside", outside::both(alloc))?;
+    say(&rt, alloc, "host", host::both(alloc))
 }
