@@ -4,12 +4,14 @@
 //!   `specs/Envelope.antt`; what the calls of `Outside` make of it, in `specs/Outside.antt`.
 //! - `ClientEnd` and `ServerEnd` keep what their last call came to; `handed` makes of what came, and of what the host reports,
 //!   the request that such an end is handed, and `Last` says what the host has to seal and what is sent (`specs/Hosting.antt`).
+//! - `laws`: what was reported as opened is, and nothing else.
 //! - `Peers`: the users of a list, or whoever the mechanism names.
 #![tactic(auto)]
 
 pub mod client_end;
 mod envelope;
 pub mod last;
+pub mod laws;
 pub mod opened;
 pub mod outside;
 pub mod peers;
