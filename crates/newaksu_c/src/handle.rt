@@ -91,8 +91,21 @@ impl Handle {
         }
     }
 
-    /// Puts a new object behind the handle; where there is no memory, what stood there stays.
+    /// Puts an object behind the handle, in the memory of what stood there; an empty handle stays empty for want of memory.
     pub(crate) fn fill(&mut self, alloc: Global, object: Object) -> Result<(), AllocError>
+        ensures ok { OnOk result (self.new.held ≡ Some object) }
+        ensures err { OnErr result (self.new.held ≡ self.old.held) }
+    {
+        match self.take(alloc) {
+            Some(before) => {
+                self.put(replaced(before, object));
+                Ok(())
+            }
+            None => self.fill_empty(alloc, object),
+        }
+    }
+
+    fn fill_empty(&mut self, alloc: Global, object: Object) -> Result<(), AllocError>
         ensures ok { OnOk result (self.new.held ≡ Some object) }
         ensures err { OnErr result (self.new.held ≡ self.old.held) }
     {
@@ -104,4 +117,13 @@ impl Handle {
             Err(_) => Err(AllocError),
         }
     }
+}
+
+// The same memory, with another object in it.
+fn replaced(before: Box<Object>, object: Object) -> Box<Object>
+    ensures { result.value ≡ object }
+{
+    let mut after = before;
+    *after = object;
+    after
 }

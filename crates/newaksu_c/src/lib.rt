@@ -3,11 +3,13 @@
 //! What a call made stands behind a `Handle`, a word that C keeps, and each call says by its status whether it did what it
 //! was asked for. A handle that is empty, or holds another kind of object, is answered by a status. No call has a `requires`.
 //!
-//! - `handle`, `object`: what C keeps, and what stands behind it.
-//! - `giving`: how bytes are given out, and `status` which numbers are answered.
-//! - `request`, `reader`, `credentials`, `early`: the messages of CredSSP.
-//! - `init`, `targ`, `oid`: the tokens of SPNEGO.
-//! - `identities`, `client`, `server`, `end`: both ends.
+//! - `handle` and `object`: what C keeps, and what stands behind it; `putting`: how an object comes there.
+//! - `giving`: how bytes are given out; `status`: which numbers are answered; `general` and `names`: calls on any handle, and
+//!   the names of codes.
+//! - `request`, `request_setting`, `reader`, `credentials`, `early`: the messages of CredSSP.
+//! - `init`, `init_setting`, `targ`, `targ_setting`: the tokens of SPNEGO.
+//! - `identities`, `settings`, `client`, `server`: what an end is made of; `processing`: a message handed to it; `telling`:
+//!   what it came to; `sending`: what the host seals, and what goes to the peer.
 #![tactic(auto)]
 
 pub mod client;
