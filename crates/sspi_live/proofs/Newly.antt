@@ -1,11 +1,14 @@
 -- What holds of an end over a channel that was fresh.
-use Rattle.std.proofs.Common.{◌≡◌, ℕ, inl, inr, List, None, Result, Ok, Err, OnOk, sym, subst}
+use Rattle.std.proofs.Common.{◌≡◌, ℕ, true, inl, inr, List, [], ◌∷◌, None, Result, Ok, Err, OnOk, sym, subst}
 use Rattle.sspi_types.specs.declared.error.Error.{Error}
 use Rattle.sspi_mech.specs.Context.{IsContext}
 use Rattle.sspi_mech.specs.Meaning.{Meaning}
 use Rattle.sspi_tsreq.specs.declared.request.TsRequest.{TsRequest}
 use Rattle.sspi_credssp.specs.declared.turn.End.TheVariants.{Client, Server}
+use Rattle.sspi_credssp.specs.declared.turn.Outcome.{Outcome}
+use Rattle.sspi_credssp.specs.declared.turn.Outcome.TheVariants as outcome
 use Rattle.sspi_credssp.specs.declared.turn.Turn.{Turn}
+use Rattle.sspi_credssp.specs.Turn.{ShownFrame, ShowsReply, client_shown}
 use Rattle.sspi_credssp.specs.Context.{ContextSetting}
 use Rattle.sspi_credssp.specs.Ends.{ClientView, IsFreshClient, IsFreshServer, ServerView}
 use Rattle.sspi_credssp.specs.Proxy.{ProxyMeaning}
@@ -15,17 +18,18 @@ use Rattle.sspi_delegate.specs.declared.answer.DelegateError.TheVariants as erro
 use Rattle.sspi_delegate.specs.Chain.{ClientChained, KdcCalls, client_stage}
 use Rattle.sspi_delegate.specs.Headline.{HasExchanged}
 use Rattle.sspi_delegate.specs.History.{ClientPast, ClientRefused, ServerPast, ServerRefused}
-use Rattle.sspi_delegate.specs.Turns.{EachServerTurn, OthersGoOn, ServerEnd, server_end}
+use Rattle.sspi_delegate.specs.Log.{NewestIs}
+use Rattle.sspi_delegate.specs.Turns.{ClientEnd, EachClientTurn, EachServerTurn, OthersGoOn, ServerEnd, client_frame_at, server_end}
 use Rattle.sspi_delegate.proofs.Alternating.{others_go, others_unrefused}
 use Rattle.sspi_delegate.proofs.Chained.{client_past_chained, server_past_chained}
 use Rattle.sspi_delegate.proofs.Headline.{client_sealed_once, exchanged, seals_after_proof, server_never_seals}
 use Rattle.sspi_delegate.proofs.Heeding.{client_past_heeds, server_past_heeds}
 use Rattle.sspi_delegate.proofs.HistoryRuns.{client_past_ran, server_past_gives, server_past_ran}
 use Rattle.sspi_delegate.proofs.Refused.{client_refused, server_refused}
-use Rattle.sspi_live.specs.Answers.{Connects, Lacks, Refuses, Serves, Stops}
+use Rattle.sspi_live.specs.Answers.{Connects, IsLast, Lacks, Refuses, Serves, Stops}
 use Rattle.sspi_live.specs.Answers.{for_a_message, for_a_request, for_a_turn, of_the_end}
 use Rattle.sspi_live.specs.Channel.{Channel}
-use Rattle.sspi_live.specs.Fresh.{ConnectedFresh, ServedFresh}
+use Rattle.sspi_live.specs.Fresh.{ConnectedFresh, HasSealed, ServedFresh}
 use Rattle.sspi_live.specs.Pasts.{ConnectChained, ConnectPast}
 use Rattle.sspi_live.specs.Sides.{AreOf}
 use Rattle.sspi_live.proofs.Stepping.{own_servers}
@@ -107,6 +111,26 @@ module _ {C P : Type 0} (c : Meaning ContextSetting C) (law : IsContext c) (p : 
 
 -- ---- the client
 
+-- a client's last message has the credentials that it sealed
+last_sealed : (f : ShownFrame) (t : Turn) (out : Outcome) → IsLast out → ShowsReply f t out →
+    (t.acts.checked ≡ true) × (t.acts.sealed ≡ true)
+last_sealed f t (outcome.Reply reply) last h = absurd (cc (last))
+last_sealed f t (outcome.Final reply) last h = (h.checked, h.sealed)
+last_sealed f t outcome.Finished last h = absurd (cc (last))
+last_sealed f t (outcome.Refused kind reply) last h = absurd (cc (last))
+
+newest_sealed : {C : Type 0} (c : Meaning ContextSetting C) (e : ClientEnd C) (turns : List Turn) → NewestIs Client IsLast turns →
+    EachClientTurn c e turns → HasSealed turns
+newest_sealed c e [] newest each = absurd newest
+newest_sealed c e (t ∷ past) newest each =
+    last_sealed (client_shown (client_frame_at e past t)) t t.outcome newest.1 each.0.shown.reply
+
+ok_sealed : {C : Type 0} (c : Meaning ContextSetting C) (e : ClientEnd C) (limit : ℕ) (before after : Channel)
+    (result : Result ℕ DelegateError) (turns : List Turn) → Connects limit before after result turns → EachClientTurn c e turns →
+    OnOk result (HasSealed turns)
+ok_sealed c e limit before after (Ok rounds) turns s each = newest_sealed c e turns s.1.newest each
+ok_sealed c e limit before after (Err error) turns s each = tt
+
 -- nothing of a proxy is asked of a client
 no_proxy : ProxyMeaning (Unit {0})
 no_proxy = record { told = λ x. record { entries = None; answers = λ name. None; failing = None }; calls = λ x. 0; faults = λ x. 0 }
@@ -156,6 +180,7 @@ module _ {C D : Type 0} (c : Meaning ContextSetting C) (law : IsContext c) (k : 
         it_heeds_its_server = heeds;
         credentials_are_sealed_at_most_once = client_sealed_once c _ turns ran.each ran.others;
         it_seals_after_the_proof = seals_after_proof c _ _ turns ran.each heeds;
+        credentials_are_sealed_before_ok = ok_sealed c _ limit before after result turns s ran.each;
         it_has_the_context_of_its_chain = as_chained result
             (client_past_chained c k first law fresh due now kdc kdc2 turns (stopped_as result) others went);
         a_refusal_has_its_cause = λ error is. its_client_refusal result error fresh others past is;

@@ -1,5 +1,5 @@
 -- What holds of an end that was fresh, whoever is at the other side of its channel.
-use Rattle.std.specs.Prelude.{◌≡◌, ℕ, ◌≤◌, List, Result, Err, IfOk, OnOk}
+use Rattle.std.specs.Prelude.{◌≡◌, ℕ, ◌≤◌, true, List, [], ◌∷◌, Result, Err, IfOk, OnOk}
 use Rattle.sspi_types.specs.declared.error.Error.{Error}
 use Rattle.sspi_mech.specs.Meaning.{Meaning}
 use Rattle.sspi_tsreq.specs.declared.request.TsRequest.{TsRequest}
@@ -27,6 +27,11 @@ pub record ServedFresh {C P : Type 0} (c : Meaning ContextSetting C) (p : ProxyM
   pub it_has_the_context_of_its_chain : ServerChain c p first turns (server_stage now)
   pub a_refusal_has_its_cause : (error : Error) → result ≡ Err (errors.Server error) → ServerRefused c p first error now turns
 
+-- in the newest of these turns the server's proof was checked, and then the credentials were sealed
+abbrev pub HasSealed : List Turn → Type 0
+HasSealed [] = ⊥
+HasSealed (t ∷ past) = (t.acts.checked ≡ true) × (t.acts.sealed ≡ true)
+
 -- of a client
 pub record ConnectedFresh {C D : Type 0} (c : Meaning ContextSetting C) (k : KdcCalls D) (due : TsRequest → Type 0)
     (first : ClientView C) (kdc : D) (result : Result ℕ DelegateError) (turns : List Turn) (now : ClientView C) (kdc2 : D) : Type 0 where
@@ -34,5 +39,6 @@ pub record ConnectedFresh {C D : Type 0} (c : Meaning ContextSetting C) (k : Kdc
   pub it_heeds_its_server : EachHeedsServer c now.settings.least turns
   pub credentials_are_sealed_at_most_once : sealed_turns turns ≤ 1
   pub it_seals_after_the_proof : SealsAfterProof c (client_end now) turns
+  pub credentials_are_sealed_before_ok : OnOk result (HasSealed turns)
   pub it_has_the_context_of_its_chain : ConnectChained c k due first kdc result turns (client_stage now kdc2)
   pub a_refusal_has_its_cause : (error : Error) → result ≡ Err (errors.Client error) → ClientRefused c k first kdc error now kdc2 turns
