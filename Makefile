@@ -1,4 +1,6 @@
-.PHONY: run play program test check fmt size apart guide wrong-bodies hostile fuzz
+.PHONY: run play program test check fmt size apart guide wrong-bodies hostile fuzz lib c rust install
+
+PREFIX ?= /usr/local
 
 # Carries one delegation and shows its messages, each with the end that sent it, and the outcome. At once where the gate or `make program`
 # left the program, else in half a minute, which proves nothing.
@@ -48,3 +50,22 @@ fuzz:
 # The wrong bodies that the gate does not try, each of which must be refused. They take some hours.
 wrong-bodies:
 	@tools/wrong-bodies
+
+# The library for C and Rust, build/libnewaksu.a, and build/include. It needs cc and binutils, and rt where a source is newer than the proved library.
+lib:
+	@tools/archive
+
+# The tests of C over that library. They need what `lib` needs, and take sanitizers and valgrind where these are there.
+c: lib
+	@ffi/tests/run
+
+# The crates newaksu-sys and newaksu over that library, and their tests. They need cargo and what `lib` needs, and nothing from a registry.
+rust: lib
+	@ffi/rust/run
+
+# Puts the library, its headers and newaksu.pc below DESTDIR and PREFIX (/usr/local). It needs what `lib` needs.
+install: lib
+	@install -d "$(DESTDIR)$(PREFIX)/lib/pkgconfig" "$(DESTDIR)$(PREFIX)/include"
+	@install -m 644 build/libnewaksu.a "$(DESTDIR)$(PREFIX)/lib"
+	@install -m 644 build/include/newaksu.h build/include/newaksu_host.h "$(DESTDIR)$(PREFIX)/include"
+	@sed 's|@prefix@|$(PREFIX)|' ffi/newaksu.pc.in > "$(DESTDIR)$(PREFIX)/lib/pkgconfig/newaksu.pc"

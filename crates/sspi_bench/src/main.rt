@@ -4,7 +4,8 @@
 //! SPNEGO); without such a word, `request`. For each of these a line of hex comes on standard input. Or `feed`, how many times,
 //! and a size: one line, a TSRequest, is decoded from pieces of that many bytes. Or `desk`, how many times, and a number of sessions:
 //! a desk of so many serves them one line, one session after the other. Each line is parsed before its loop, and one
-//! checksum is printed, so that no result goes unused. docs/PERFORMANCE.md says how it is measured.
+//! checksum is printed, so that no result goes unused. docs/PERFORMANCE.md says how it is measured. Or `show` and how many lines: of
+//! each, what is read of the request that it begins with.
 #![tactic(auto)]
 
 use crate::work::{Job, Message, Work, message_of, work_of};
@@ -16,6 +17,7 @@ use std::env::{self, Env};
 mod desk;
 mod init;
 mod request;
+mod show;
 mod sums;
 mod targ;
 mod work;
@@ -55,8 +57,11 @@ fn job_of(alloc: Global, words: &[String]) -> Result<(Job, u32)> {
     if verb.as_str() == "desk" {
         return Ok((Job::Desk(sessions_of(rest)?), times));
     }
+    if verb.as_str() == "show" {
+        return Ok((Job::Show, times));
+    }
     let Some(work) = work_of(verb.as_str()) else {
-        bail!("decode, encode, both, feed or desk is wanted");
+        bail!("decode, encode, both, feed, desk or show is wanted");
     };
     Ok((Job::Repeat(work, messages_of(alloc, rest)?), times))
 }
@@ -132,11 +137,19 @@ fn serve(rt: &HostRuntime, sessions: u32, times: u32) -> Result<()> {
     tell(rt, sum.ok(), "no memory")
 }
 
+fn show_lines(rt: &HostRuntime, lines: u32) -> Result<()> {
+    for _ in 0..lines {
+        show::show(rt, &next_message(rt)?)?;
+    }
+    Ok(())
+}
+
 fn act(rt: &HostRuntime, job: &Job, times: u32) -> Result<()> {
     match job {
         Job::Repeat(work, messages) => repeat_all(rt, *work, messages, times),
         Job::Feed(size) => feed(rt, *size, times),
         Job::Desk(sessions) => serve(rt, *sessions, times),
+        Job::Show => show_lines(rt, times),
     }
 }
 

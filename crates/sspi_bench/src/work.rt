@@ -23,6 +23,8 @@ pub enum Job {
     Feed(usize),
     /// A desk of this many sessions is served.
     Desk(u32),
+    /// So many requests are shown.
+    Show,
 }
 
 pub(crate) fn work_of(word: &str) -> Option<Work> {

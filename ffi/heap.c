@@ -1,0 +1,58 @@
+/* The heap of the archive: malloc, with each block overwritten before it is freed or moved, so that no credentials stay in
+ * freed memory. It has the three functions that Rattle's code calls, and takes the place of the toolchain's own. */
+#include <stdbool.h>
+#include <stddef.h>
+#include <stdint.h>
+#include <stdlib.h>
+#include <string.h>
+
+/* In front of each block stands its size. As long as malloc's alignment, which the block keeps. */
+typedef union header {
+    size_t size;
+    max_align_t aligned;
+} header;
+
+typedef struct tried {
+    bool ok;
+    uint8_t *at;
+} tried;
+
+tried rattle_alloc(size_t size, size_t align);
+tried rattle_realloc(uint8_t *at, size_t kept, size_t size, size_t align);
+void rattle_dealloc(uint8_t *at);
+
+/* What stands for the address of a block that there is none of: an address that is not null. */
+static uint8_t nothing;
+
+static header *header_of(uint8_t *at) {
+    return (header *)(void *)at - 1;
+}
+
+static void wipe(void *at, size_t length) {
+    memset(at, 0, length);
+    __asm__ __volatile__("" : : "r"(at) : "memory");
+}
+
+tried rattle_alloc(size_t size, size_t align) {
+    size_t room = size == 0 ? align : size;
+    header *block = room > SIZE_MAX - sizeof(header) ? NULL : malloc(sizeof(header) + room);
+    if (block == NULL)
+        return (tried){false, &nothing};
+    block->size = room;
+    return (tried){true, (uint8_t *)(block + 1)};
+}
+
+tried rattle_realloc(uint8_t *at, size_t kept, size_t size, size_t align) {
+    tried moved = rattle_alloc(size, align);
+    if (moved.ok) {
+        memcpy(moved.at, at, kept < size ? kept : size);
+        rattle_dealloc(at);
+    }
+    return moved;
+}
+
+void rattle_dealloc(uint8_t *at) {
+    header *block = header_of(at);
+    wipe(at, block->size);
+    free(block);
+}

@@ -1,0 +1,174 @@
+//! The client (MS-CSSP 3.1.5.1).
+
+use crate::end::{Acts, End, Made, State};
+use crate::error::{Error, ProcessError};
+use crate::handle::Handle;
+use crate::mechanism::Mechanism;
+use crate::status::SecurityStatus;
+use newaksu_sys as sys;
+use std::ffi::{c_int, c_void};
+use std::fmt;
+
+extern "C" {
+    /// Of the C library (POSIX.1-2024): random bytes, at most 256.
+    fn getentropy(buffer: *mut c_void, length: usize) -> c_int;
+}
+
+/// What a client delegates.
+#[derive(Clone, Copy, Debug, Default, PartialEq, Eq)]
+pub enum Delegation {
+    /// Its credentials.
+    #[default]
+    WithCredentials,
+    /// Three empty texts in their place (restricted admin).
+    CredentialLess,
+}
+
+/// What a client knows before the first message.
+#[derive(Clone)]
+pub struct ClientSettings<'a> {
+    /// The version of CredSSP that it speaks: 2 to 6.
+    pub version: u32,
+    /// The least version of a server that is taken, 0 for every. Below 5 whoever relays the exchange can choose the proof.
+    pub least_version: u32,
+    /// What is delegated.
+    pub delegation: Delegation,
+    /// The SubjectPublicKey of the certificate that the TLS channel's server showed (MS-CSSP 3.1.5).
+    pub public_key: &'a [u8],
+    /// Whose credentials are delegated: `DOMAIN\user`, `user@domain` or `user`.
+    pub user: &'a str,
+    /// The password.
+    pub password: &'a str,
+    /// What goes into the proofs from version 5 on: 32 fresh bytes of a cryptographic generator. `None` lets the client draw
+    /// them.
+    pub nonce: Option<[u8; 32]>,
+}
+
+impl<'a> ClientSettings<'a> {
+    /// Version 6, which takes servers from version 5 on, delegates its credentials and draws its nonce.
+    pub fn new(public_key: &'a [u8], user: &'a str, password: &'a str) -> ClientSettings<'a> {
+        ClientSettings {
+            version: 6,
+            least_version: 5,
+            delegation: Delegation::WithCredentials,
+            public_key,
+            user,
+            password,
+            nonce: None,
+        }
+    }
+}
+
+impl fmt::Debug for ClientSettings<'_> {
+    fn fmt(&self, f: &mut fmt::Formatter<'_>) -> fmt::Result {
+        f.debug_struct("ClientSettings")
+            .field("version", &self.version)
+            .field("least_version", &self.least_version)
+            .field("delegation", &self.delegation)
+            .field("user", &self.user)
+            .finish_non_exhaustive()
+    }
+}
+
+/// What a client's turn came to.
+#[derive(Clone, Debug, PartialEq, Eq)]
+pub enum ClientTurn {
+    /// A message for the server, whose answer is due.
+    Reply(Vec<u8>),
+    /// The last message, which carries the credentials.
+    Final(Vec<u8>),
+}
+
+/// A client over a mechanism. It delegates its credentials once at most, and only to a server that proved over that mechanism
+/// that it speaks over the channel of the same public key.
+pub struct Client<M> {
+    end: End,
+    mechanism: M,
+}
+
+impl<M: Mechanism> Client<M> {
+    /// A client that has said nothing yet. Refused with `UNKNOWN_CREDENTIALS` where the user's name mixes the forms; with
+    /// `INTERNAL_ERROR` where there was no randomness.
+    pub fn new(settings: &ClientSettings<'_>, mechanism: M) -> Result<Client<M>, Error> {
+        let options = sys::newaksu_client_options {
+            mechanism: sys::NEWAKSU_HOST,
+            version: settings.version,
+            least_version: settings.least_version,
+            delegation: match settings.delegation {
+                Delegation::WithCredentials => sys::NEWAKSU_WITH_CREDENTIALS,
+                Delegation::CredentialLess => sys::NEWAKSU_CREDENTIAL_LESS,
+            },
+        };
+        let nonce = match settings.nonce {
+            Some(nonce) => nonce,
+            None => drawn()?,
+        };
+        // SAFETY: the handle, the options and the slices are valid; a slice's pointer is never null.
+        let handle = Handle::made(|at| unsafe {
+            sys::newaksu_client_new(
+                at,
+                &options,
+                settings.public_key.as_ptr(),
+                settings.public_key.len(),
+                [].as_ptr(),
+                0,
+                nonce.as_ptr(),
+                nonce.len(),
+                settings.user.as_ptr(),
+                settings.user.len(),
+                settings.password.as_ptr(),
+                settings.password.len(),
+            )
+        })?;
+        Ok(Client {
+            end: End::new(handle, settings.version),
+            mechanism,
+        })
+    }
+
+    /// Makes the first message.
+    pub fn start(&mut self) -> Result<ClientTurn, ProcessError> {
+        self.process(&[])
+    }
+
+    /// Takes one whole message of the server, and makes the next one. After [`ProcessError::Refused`] the exchange is over, and
+    /// each further call is refused with `OUT_OF_SEQUENCE`.
+    pub fn process(&mut self, message: &[u8]) -> Result<ClientTurn, ProcessError> {
+        match self.end.turn(&mut self.mechanism, None, message)? {
+            Made::Final(message) => Ok(ClientTurn::Final(message)),
+            Made::Reply(message) => Ok(ClientTurn::Reply(message)),
+            Made::Finished => Ok(ClientTurn::Final(Vec::new())),
+        }
+    }
+}
+
+impl<M> Client<M> {
+    /// What it waits for.
+    pub fn state(&self) -> State {
+        self.end.state()
+    }
+
+    /// What the last turn did with the mechanism.
+    pub fn last_acts(&self) -> Acts {
+        self.end.acts()
+    }
+
+    /// The mechanism below.
+    pub fn mechanism(&self) -> &M {
+        &self.mechanism
+    }
+
+    /// Gives the mechanism back.
+    pub fn into_mechanism(self) -> M {
+        self.mechanism
+    }
+}
+
+fn drawn() -> Result<[u8; 32], Error> {
+    let mut nonce = [0; 32];
+    // SAFETY: the room is for 32 bytes.
+    match unsafe { getentropy(nonce.as_mut_ptr().cast(), nonce.len()) } {
+        0 => Ok(nonce),
+        _ => Err(Error::Refused(SecurityStatus::INTERNAL_ERROR)),
+    }
+}

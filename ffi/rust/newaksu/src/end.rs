@@ -1,0 +1,360 @@
+//! What both ends do with a message: the mechanism's part of a turn, and the end's.
+
+use crate::error::{Error, ProcessError, Refusal};
+use crate::handle::{written, Handle};
+use crate::mechanism::{Mechanism, Step};
+use crate::request::TsRequest;
+use crate::secret::Secret;
+use crate::status::{NtStatus, SecurityStatus};
+use newaksu_sys as sys;
+
+/// A sealed blob has at least its signature.
+const SIGNATURE: usize = 16;
+
+/// How a server names the peer whom its mechanism authenticated; a client does not.
+pub(crate) type Naming<M> = Option<fn(&mut M) -> Result<String, SecurityStatus>>;
+
+/// What an end waits for.
+#[derive(Clone, Copy, Debug, PartialEq, Eq)]
+pub enum State {
+    /// A token of the authentication.
+    NegoToken,
+    /// On a server: the client's proof of the channel's key.
+    PubKeyInfo,
+    /// On a client the server's proof, on a server the client's credentials.
+    AuthInfo,
+    /// Nothing more.
+    Final,
+}
+
+/// What the last turn did with the mechanism, also where it was refused.
+#[derive(Clone, Copy, Debug, Default, PartialEq, Eq)]
+pub struct Acts {
+    /// A step was made.
+    pub negotiated: bool,
+    /// The end's proof of the channel's key was sealed.
+    pub proved: bool,
+    /// The peer's proof was opened, right or wrong.
+    pub checked: bool,
+    /// The client's credentials were sealed.
+    pub sealed: bool,
+    /// The server opened them.
+    pub opened: bool,
+}
+
+/// What a turn came to.
+pub(crate) enum Made {
+    Reply(Vec<u8>),
+    Final(Vec<u8>),
+    Finished,
+}
+
+/// What the mechanism made of a message, as the proved end takes it.
+#[derive(Default)]
+struct Findings {
+    envelope: Vec<u8>,
+    opened: Option<(u32, Secret)>,
+}
+
+/// An end of the archive.
+pub(crate) struct End {
+    handle: Handle,
+    version: u32,
+    is_started: bool,
+    is_refused: bool,
+}
+
+impl End {
+    pub(crate) fn new(handle: Handle, version: u32) -> End {
+        End {
+            handle,
+            version,
+            is_started: false,
+            is_refused: false,
+        }
+    }
+
+    pub(crate) fn handle(&self) -> &Handle {
+        &self.handle
+    }
+
+    pub(crate) fn state(&self) -> State {
+        let mut state = sys::NEWAKSU_STATE_FINAL;
+        // SAFETY: the handle is valid, and the number is. A handle that holds an end is always answered.
+        let _ = unsafe { sys::newaksu_end_state(self.handle.at(), &mut state) };
+        match state {
+            sys::NEWAKSU_STATE_NEGO_TOKEN => State::NegoToken,
+            sys::NEWAKSU_STATE_PUB_KEY_INFO => State::PubKeyInfo,
+            sys::NEWAKSU_STATE_AUTH_INFO => State::AuthInfo,
+            _ => State::Final,
+        }
+    }
+
+    pub(crate) fn acts(&self) -> Acts {
+        let mut acts = sys::newaksu_acts::default();
+        // SAFETY: as above.
+        let _ = unsafe { sys::newaksu_end_acts(self.handle.at(), &mut acts) };
+        Acts {
+            negotiated: acts.negotiated != 0,
+            proved: acts.proved != 0,
+            checked: acts.checked != 0,
+            sealed: acts.sealed != 0,
+            opened: acts.opened != 0,
+        }
+    }
+
+    /// One message of the peer; none in a client's first turn.
+    pub(crate) fn turn<M: Mechanism>(
+        &mut self,
+        mechanism: &mut M,
+        naming: Naming<M>,
+        message: &[u8],
+    ) -> Result<Made, ProcessError> {
+        if self.is_refused {
+            return Err(self.refusal(SecurityStatus::OUT_OF_SEQUENCE).into());
+        }
+        let is_first = naming.is_none() && !self.is_started && message.is_empty();
+        let request = match is_first {
+            true => None,
+            false => Some(TsRequest::decode(message).map_err(ProcessError::Unread)?),
+        };
+        self.is_started = true;
+        let made = self
+            .findings(mechanism, naming, request.as_ref())
+            .and_then(|findings| self.process(naming.is_some(), message, &findings))
+            .and_then(|()| self.conclude(mechanism));
+        Ok(made.map_err(|status| self.refuse(naming.is_some(), status))?)
+    }
+
+    /// Steps and opens what is due in the end's state. What stands in other fields is left sealed.
+    fn findings<M: Mechanism>(
+        &self,
+        mechanism: &mut M,
+        naming: Naming<M>,
+        request: Option<&TsRequest>,
+    ) -> Result<Findings, SecurityStatus> {
+        let mut findings = Findings::default();
+        // a client that is told an error refuses before anything else, so its mechanism is left alone
+        if naming.is_none() && tells_error(request) {
+            return Ok(findings);
+        }
+        let state = self.state();
+        let mut has_ended = false;
+        if state == State::NegoToken {
+            (findings.envelope, has_ended) = step(mechanism, naming, request);
+        }
+        let (proof, credentials) = match request {
+            Some(request) => (&request.pub_key_auth, &request.auth_info),
+            None => return Ok(findings),
+        };
+        findings.opened = match (state, naming.is_some()) {
+            (State::NegoToken, true) if has_ended => {
+                open(mechanism, sys::NEWAKSU_PUB_KEY_AUTH, proof)?
+            }
+            (State::PubKeyInfo, _) | (State::AuthInfo, false) => {
+                open(mechanism, sys::NEWAKSU_PUB_KEY_AUTH, proof)?
+            }
+            (State::AuthInfo, true) => open(mechanism, sys::NEWAKSU_AUTH_INFO, credentials)?,
+            (State::NegoToken, _) | (State::Final, _) => None,
+        };
+        Ok(findings)
+    }
+
+    fn process(
+        &self,
+        is_server: bool,
+        message: &[u8],
+        findings: &Findings,
+    ) -> Result<(), SecurityStatus> {
+        let (field, opened) = match &findings.opened {
+            Some((field, text)) => (*field, text.as_bytes()),
+            None => (0, &[][..]),
+        };
+        let process = match is_server {
+            true => sys::newaksu_server_process,
+            false => sys::newaksu_client_process,
+        };
+        // SAFETY: the handle and the three slices are valid; a slice's pointer is never null.
+        let status = unsafe {
+            process(
+                self.handle.at(),
+                message.as_ptr(),
+                message.len(),
+                findings.envelope.as_ptr(),
+                findings.envelope.len(),
+                field,
+                opened.as_ptr(),
+                opened.len(),
+            )
+        };
+        checked(status)
+    }
+
+    /// What the end came to: its message, with the text in it sealed.
+    fn conclude<M: Mechanism>(&self, mechanism: &mut M) -> Result<Made, SecurityStatus> {
+        let mut outcome = sys::NEWAKSU_OUTCOME_NONE;
+        // SAFETY: the handle is valid, and the number is.
+        checked(unsafe { sys::newaksu_end_outcome(self.handle.at(), &mut outcome) })?;
+        match outcome {
+            sys::NEWAKSU_OUTCOME_FINISHED => Ok(Made::Finished),
+            sys::NEWAKSU_OUTCOME_FINAL => Ok(Made::Final(self.sealed_message(mechanism)?)),
+            _ => Ok(Made::Reply(self.sealed_message(mechanism)?)),
+        }
+    }
+
+    fn sealed_message<M: Mechanism>(&self, mechanism: &mut M) -> Result<Vec<u8>, SecurityStatus> {
+        let blob = match self.text_to_seal()? {
+            None => Vec::new(),
+            Some(text) => sealed(mechanism, text.as_bytes())?,
+        };
+        let message = self.message(&blob).map_err(Error::status)?;
+        message.ok_or(SecurityStatus::INTERNAL_ERROR)
+    }
+
+    fn text_to_seal(&self) -> Result<Option<Secret>, SecurityStatus> {
+        let mut field = 0;
+        // SAFETY: the handle is valid, the number is, and the room is for `capacity` bytes.
+        let text = written(|out, capacity, size| unsafe {
+            sys::newaksu_end_sealing(self.handle.at(), &mut field, out, capacity, size)
+        });
+        Ok(text.map_err(Error::status)?.map(Secret::new))
+    }
+
+    fn message(&self, blob: &[u8]) -> Result<Option<Vec<u8>>, Error> {
+        // SAFETY: the handle and the blob are valid, and the room is for `capacity` bytes.
+        written(|out, capacity, size| unsafe {
+            sys::newaksu_end_message(
+                self.handle.at(),
+                blob.as_ptr(),
+                blob.len(),
+                out,
+                capacity,
+                size,
+            )
+        })
+    }
+
+    /// Ends the exchange. A server tells its client why.
+    fn refuse(&mut self, is_server: bool, status: SecurityStatus) -> Refusal {
+        self.is_refused = true;
+        let mut refusal = self.refusal(status);
+        if is_server {
+            refusal.message = self
+                .message(&[])
+                .unwrap_or(None)
+                .or_else(|| self.telling(status));
+        }
+        refusal
+    }
+
+    /// A message that tells a client what the end could not: that what had to be sealed was not.
+    fn telling(&self, status: SecurityStatus) -> Option<Vec<u8>> {
+        let request = TsRequest {
+            version: self.version,
+            error_code: Some(NtStatus((status.0 & 0xffff) | 0xc007_0000)),
+            ..TsRequest::default()
+        };
+        request.encode().ok()
+    }
+
+    /// Why: as the end says, where it was the end that refused.
+    fn refusal(&self, status: SecurityStatus) -> Refusal {
+        let (mut kind, mut has_nstatus, mut nstatus) = (0, 0, 0);
+        // SAFETY: the handle is valid, and the numbers are.
+        let told = unsafe {
+            sys::newaksu_end_refusal(self.handle.at(), &mut kind, &mut has_nstatus, &mut nstatus)
+        };
+        let is_of_the_end = told == sys::NEWAKSU_OK && kind == status.0;
+        let reason = match is_of_the_end {
+            true => self.reason(),
+            false => None,
+        };
+        Refusal {
+            status,
+            reason: reason
+                .unwrap_or_else(|| "the mechanism or the host could not go on".to_owned()),
+            nstatus: (is_of_the_end && has_nstatus == 1).then_some(NtStatus(nstatus)),
+            message: None,
+        }
+    }
+
+    fn reason(&self) -> Option<String> {
+        // SAFETY: the handle is valid, and the room is for `capacity` bytes.
+        let reason = written(|out, capacity, size| unsafe {
+            sys::newaksu_end_reason(self.handle.at(), out, capacity, size)
+        });
+        String::from_utf8(reason.ok()??).ok()
+    }
+}
+
+fn checked(status: u32) -> Result<(), SecurityStatus> {
+    Error::check(status).map_err(Error::status)
+}
+
+fn tells_error(request: Option<&TsRequest>) -> bool {
+    request
+        .and_then(|request| request.error_code)
+        .is_some_and(|code| code.0 != 0)
+}
+
+/// The envelope of a step, and whether the context has ended.
+fn step<M: Mechanism>(
+    mechanism: &mut M,
+    naming: Naming<M>,
+    request: Option<&TsRequest>,
+) -> (Vec<u8>, bool) {
+    let token = request.and_then(|request| request.nego_tokens.as_deref());
+    let step = mechanism.step(token.unwrap_or_default());
+    let named = match (&step, naming) {
+        (Ok(Step::Done(_)), Some(peer)) => peer(mechanism).and_then(|name| counted(&name)),
+        (_, Some(_)) => Ok(vec![0, 0]),
+        (_, None) => Ok(Vec::new()),
+    };
+    let (mut envelope, step) = match named {
+        Ok(name) => (name, step),
+        Err(status) => (vec![0, 0], Err(status)),
+    };
+    let has_ended = matches!(step, Ok(Step::Done(_)));
+    match step {
+        Ok(Step::Done(token)) => append(&mut envelope, 0, &token),
+        Ok(Step::Continue(token)) => append(&mut envelope, 1, &token),
+        Err(status) => append(&mut envelope, 2, &status.0.to_le_bytes()),
+    }
+    (envelope, has_ended)
+}
+
+fn append(envelope: &mut Vec<u8>, status: u8, rest: &[u8]) {
+    envelope.push(status);
+    envelope.extend_from_slice(rest);
+}
+
+/// A name in UTF-16, behind the count of its bytes.
+fn counted(name: &str) -> Result<Vec<u8>, SecurityStatus> {
+    let bytes: Vec<u8> = name.encode_utf16().flat_map(u16::to_le_bytes).collect();
+    let count = u16::try_from(bytes.len()).map_err(|_| SecurityStatus::INVALID_PARAMETER)?;
+    Ok([&count.to_le_bytes()[..], &bytes].concat())
+}
+
+/// Opens a field. One that is absent, or too short, or does not open, is left to the end, which says so.
+fn open<M: Mechanism>(
+    mechanism: &mut M,
+    field: u32,
+    blob: &Option<Vec<u8>>,
+) -> Result<Option<(u32, Secret)>, SecurityStatus> {
+    match blob {
+        Some(blob) if blob.len() >= SIGNATURE => match mechanism.unseal(blob) {
+            Ok(text) => Ok(Some((field, Secret::new(text)))),
+            Err(SecurityStatus::INSUFFICIENT_MEMORY) => Err(SecurityStatus::INSUFFICIENT_MEMORY),
+            Err(_) => Ok(None),
+        },
+        _ => Ok(None),
+    }
+}
+
+fn sealed<M: Mechanism>(mechanism: &mut M, text: &[u8]) -> Result<Vec<u8>, SecurityStatus> {
+    let blob = mechanism.seal(text)?;
+    match blob.len() >= SIGNATURE {
+        true => Ok(blob),
+        false => Err(SecurityStatus::INTERNAL_ERROR),
+    }
+}

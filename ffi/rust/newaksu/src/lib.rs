@@ -1,0 +1,67 @@
+//! CredSSP (MS-CSSP) over a mechanism of your own, and the codec of its messages: the safe interface of libnewaksu, whose
+//! functions are proved.
+//!
+//! - [`Client`] and [`Server`]: the ends of the exchange. Each takes one message of its peer a call, over a [`Mechanism`], as an
+//!   NTLM or a Kerberos that the program has.
+//! - [`TsRequest`], [`TsReader`] and [`requests`]: the messages, whole, in pieces, and one behind the other.
+//! - [`TsCredentials`], [`EarlyResult`], [`NegTokenInit`] and [`NegTokenResp`]: what else is read and written.
+//!
+//! A client delegates its credentials only once the server proved that it speaks over the same channel:
+//!
+//! ```no_run
+//! use newaksu::{Client, ClientSettings, ClientTurn, Mechanism};
+//!
+//! fn log_on<M: Mechanism>(
+//!     ntlm: M,
+//!     public_key: &[u8],
+//!     mut exchange: impl FnMut(&[u8]) -> Vec<u8>,
+//! ) -> Result<Vec<u8>, Box<dyn std::error::Error>> {
+//!     let settings = ClientSettings::new(public_key, "DOMAIN\\ann", "password");
+//!     let mut client = Client::new(&settings, ntlm)?;
+//!     let mut turn = client.start()?;
+//!     loop {
+//!         match turn {
+//!             ClientTurn::Reply(message) => turn = client.process(&exchange(&message))?,
+//!             ClientTurn::Final(message) => return Ok(message),
+//!         }
+//!     }
+//! }
+//! ```
+//!
+//! Nothing here reads or writes a channel. An end may be sent to another thread, and is used by one at a time.
+
+#![warn(missing_docs)]
+
+mod client;
+mod credentials;
+mod early;
+mod end;
+mod error;
+mod handle;
+mod mechanism;
+mod reader;
+mod request;
+mod secret;
+mod server;
+mod spnego;
+mod status;
+
+pub use client::{Client, ClientSettings, ClientTurn, Delegation};
+pub use credentials::TsCredentials;
+pub use early::EarlyResult;
+pub use end::{Acts, State};
+pub use error::{Error, ProcessError, Refusal};
+pub use mechanism::{Acceptor, Mechanism, Step};
+pub use reader::TsReader;
+pub use request::{requests, Requests, TsRequest};
+pub use secret::Secret;
+pub use server::{Identity, Server, ServerSettings, ServerTurn};
+pub use spnego::{MechKind, NegState, NegTokenInit, NegTokenResp, Oid};
+pub use status::{NtStatus, SecurityStatus};
+
+/// The version of the linked archive: major, minor and patch.
+pub fn version() -> (u8, u8, u8) {
+    // SAFETY: the call has no arguments.
+    let number = unsafe { newaksu_sys::newaksu_version() };
+    ((number >> 16) as u8, (number >> 8) as u8, number as u8)
+}

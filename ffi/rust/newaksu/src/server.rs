@@ -1,0 +1,175 @@
+//! The server (MS-CSSP 3.1.5.2).
+
+use crate::end::{Acts, End, Made, State};
+use crate::error::{Error, ProcessError, Refusal};
+use crate::handle::{written, Handle};
+use crate::mechanism::Acceptor;
+use crate::secret::Secret;
+use crate::status::SecurityStatus;
+use newaksu_sys as sys;
+
+/// What a server knows before the first message.
+#[derive(Clone, Debug)]
+pub struct ServerSettings<'a> {
+    /// The version of CredSSP that it speaks: 2 to 6.
+    pub version: u32,
+    /// The least version of a client that is taken, 0 for every. Below 5 whoever relays the exchange can choose the proof.
+    pub least_version: u32,
+    /// The SubjectPublicKey of the TLS channel's certificate (MS-CSSP 3.1.5).
+    pub public_key: &'a [u8],
+    /// The users whom it takes, compared without the case of ASCII letters; `None` for each that the mechanism names.
+    pub users: Option<&'a [&'a str]>,
+}
+
+impl<'a> ServerSettings<'a> {
+    /// Version 6, which takes clients from version 5 on, and each user that the mechanism names.
+    pub fn new(public_key: &'a [u8]) -> ServerSettings<'a> {
+        ServerSettings {
+            version: 6,
+            least_version: 5,
+            public_key,
+            users: None,
+        }
+    }
+}
+
+/// The credentials that a client delegated. Nothing checked this password yet: the mechanism authenticated the user, and what is
+/// delegated may be another's.
+#[derive(Debug)]
+pub struct Identity {
+    /// The whole name: `DOMAIN\user`, `user@domain` or `user`.
+    pub name: String,
+    /// The domain, where the name has one.
+    pub domain: Option<String>,
+    /// The account, without the domain.
+    pub account: String,
+    /// The password.
+    pub password: Secret,
+}
+
+/// What a server's turn came to.
+#[derive(Debug)]
+pub enum ServerTurn {
+    /// A message for the client, whose answer is due.
+    Reply(Vec<u8>),
+    /// The credentials came, and the exchange is over.
+    Finished(Identity),
+}
+
+/// A server over a mechanism. It answers credentials only behind the proof of a client that speaks over the channel of the same
+/// public key.
+pub struct Server<M> {
+    end: End,
+    mechanism: M,
+}
+
+impl<M: Acceptor> Server<M> {
+    /// A server that was told nothing yet. Refused with `UNKNOWN_CREDENTIALS` where a user's name mixes the forms.
+    pub fn new(settings: &ServerSettings<'_>, mechanism: M) -> Result<Server<M>, Error> {
+        let options = sys::newaksu_server_options {
+            mechanism: sys::NEWAKSU_HOST,
+            version: settings.version,
+            least_version: settings.least_version,
+        };
+        let known = identities(settings.users)?;
+        // SAFETY: the handles, the options and the slices are valid; a slice's pointer is never null.
+        let handle = Handle::made(|at| unsafe {
+            sys::newaksu_server_new(
+                at,
+                known.at(),
+                &options,
+                settings.public_key.as_ptr(),
+                settings.public_key.len(),
+                [].as_ptr(),
+                0,
+            )
+        })?;
+        Ok(Server {
+            end: End::new(handle, settings.version),
+            mechanism,
+        })
+    }
+
+    /// Takes one whole message of the client. After [`ProcessError::Refused`] the exchange is over: send the refusal's message and
+    /// close the channel. Each further call is refused with `OUT_OF_SEQUENCE`.
+    pub fn process(&mut self, message: &[u8]) -> Result<ServerTurn, ProcessError> {
+        match self.end.turn(&mut self.mechanism, Some(M::peer), message)? {
+            Made::Reply(message) | Made::Final(message) => Ok(ServerTurn::Reply(message)),
+            Made::Finished => match self.identity() {
+                Ok(identity) => Ok(ServerTurn::Finished(identity)),
+                Err(error) => Err(unkept(error).into()),
+            },
+        }
+    }
+
+    fn identity(&self) -> Result<Identity, Error> {
+        let text = |which| self.text(which)?.map(string).transpose();
+        Ok(Identity {
+            name: text(sys::NEWAKSU_IDENTITY_NAME)?.unwrap_or_default(),
+            domain: text(sys::NEWAKSU_IDENTITY_DOMAIN)?,
+            account: text(sys::NEWAKSU_IDENTITY_ACCOUNT)?.unwrap_or_default(),
+            password: Secret::new(
+                self.text(sys::NEWAKSU_IDENTITY_PASSWORD)?
+                    .unwrap_or_default(),
+            ),
+        })
+    }
+
+    fn text(&self, which: u32) -> Result<Option<Vec<u8>>, Error> {
+        // SAFETY: the handle is valid, and the room is for `capacity` bytes.
+        written(|out, capacity, size| unsafe {
+            sys::newaksu_server_identity(self.end.handle().at(), which, out, capacity, size)
+        })
+    }
+}
+
+impl<M> Server<M> {
+    /// What it waits for.
+    pub fn state(&self) -> State {
+        self.end.state()
+    }
+
+    /// What the last turn did with the mechanism.
+    pub fn last_acts(&self) -> Acts {
+        self.end.acts()
+    }
+
+    /// The mechanism below.
+    pub fn mechanism(&self) -> &M {
+        &self.mechanism
+    }
+
+    /// Gives the mechanism back.
+    pub fn into_mechanism(self) -> M {
+        self.mechanism
+    }
+}
+
+/// The list of users; with none the server takes whoever the mechanism names.
+fn identities(users: Option<&[&str]>) -> Result<Handle, Error> {
+    let Some(users) = users else {
+        return Ok(Handle::empty());
+    };
+    // SAFETY: the handle and the slices are valid.
+    let known = Handle::made(|at| unsafe { sys::newaksu_identities_new(at) })?;
+    for user in users {
+        Error::check(unsafe {
+            sys::newaksu_identities_add(known.at(), user.as_ptr(), user.len(), [].as_ptr(), 0)
+        })?;
+    }
+    Ok(known)
+}
+
+fn string(bytes: Vec<u8>) -> Result<String, Error> {
+    String::from_utf8(bytes).map_err(|_| Error::Refused(SecurityStatus::INTERNAL_ERROR))
+}
+
+/// There was no memory for credentials that came.
+fn unkept(error: Error) -> Refusal {
+    Refusal {
+        status: error.status(),
+        reason: error.to_string(),
+        nstatus: None,
+        message: None,
+    }
+}
