@@ -250,7 +250,7 @@ static void open_field(newaksu_host *host, newaksu_handle *request, uint32_t fie
         if (status == NEWAKSU_OK)
             found->opened_field = field;
     }
-    if (status == NEWAKSU_E_INSUFFICIENT_MEMORY || status == NEWAKSU_NO_MEMORY || found->opened.failed)
+    if (status == NEWAKSU_E_INSUFFICIENT_MEMORY || found->opened.failed)
         found->status = NEWAKSU_E_INSUFFICIENT_MEMORY;
     if (found->opened_field == 0)
         bytes_release(&found->opened);

@@ -52,8 +52,6 @@ uint32_t newaksu_version(void);
 /* A source or a sink failed: no call here has one. */
 #define NEWAKSU_READ_FAULT 3u
 #define NEWAKSU_WRITE_FAULT 4u
-/* There was no memory to read or write a TSRequest. */
-#define NEWAKSU_NO_MEMORY 5u
 /* There is no such field, text, message, identity or refusal. */
 #define NEWAKSU_ABSENT 6u
 
@@ -120,16 +118,16 @@ uint32_t newaksu_kind(newaksu_handle *handle, uint32_t *kind);
  * for every header. NEWAKSU_UNEXPECTED_EOF: the header is not whole yet, or is none. At most 1048581. */
 uint32_t newaksu_request_size(const uint8_t *bytes, size_t length, size_t *size);
 
-/* A request of this version without any other field. NEWAKSU_NO_MEMORY, NEWAKSU_E_INSUFFICIENT_MEMORY. */
+/* A request of this version without any other field. NEWAKSU_E_INSUFFICIENT_MEMORY. */
 uint32_t newaksu_request_new(newaksu_handle *request, uint32_t version);
 
 /* The request that the bytes begin with; what follows it is ignored. NEWAKSU_UNEXPECTED_EOF: the header is bad, or fewer
  * bytes are there than it announces, or the content ends inside an element. NEWAKSU_INVALID_DATA: an element is not spelled
- * as it must be. NEWAKSU_NO_MEMORY, NEWAKSU_E_INSUFFICIENT_MEMORY. */
+ * as it must be. NEWAKSU_E_INSUFFICIENT_MEMORY. */
 uint32_t newaksu_request_decode(newaksu_handle *request, const uint8_t *bytes, size_t length);
 
 /* The shortest spelling. The error code is left out below version 3 and at version 5, the nonce below version 5.
- * NEWAKSU_INVALID_DATA: the content passes 1048576 bytes. NEWAKSU_NO_MEMORY. */
+ * NEWAKSU_INVALID_DATA: the content passes 1048576 bytes. NEWAKSU_E_INSUFFICIENT_MEMORY. */
 uint32_t newaksu_request_encode(newaksu_handle *request, uint8_t *out, size_t capacity, size_t *written);
 
 uint32_t newaksu_request_version(newaksu_handle *request, uint32_t *version);
@@ -159,11 +157,11 @@ uint32_t newaksu_request_set_error_code(newaksu_handle *request, uint32_t code);
 /* A reader of one request that comes in pieces, which keeps the fields and not the bytes. NEWAKSU_E_INSUFFICIENT_MEMORY. */
 uint32_t newaksu_reader_new(newaksu_handle *reader);
 
-/* The next piece. NEWAKSU_NO_MEMORY: nothing was taken, and the same piece may be fed again. */
+/* The next piece. NEWAKSU_E_INSUFFICIENT_MEMORY: nothing was taken, and the same piece may be fed again. */
 uint32_t newaksu_reader_feed(newaksu_handle *reader, const uint8_t *piece, size_t length);
 
 /* What newaksu_request_decode says of all that was fed: at NEWAKSU_OK the handle holds the request, in place of the reader; at
- * NEWAKSU_UNEXPECTED_EOF and NEWAKSU_INVALID_DATA it is empty. */
+ * NEWAKSU_UNEXPECTED_EOF and NEWAKSU_INVALID_DATA a reader that was fed nothing. */
 uint32_t newaksu_reader_finish(newaksu_handle *reader);
 
 /* TSCredentials of a password (MS-CSSP 2.2.1.2). */
@@ -251,7 +249,7 @@ uint32_t newaksu_targ_set_field(newaksu_handle *targ, uint32_t field, const uint
 #define NEWAKSU_MECH_KERBEROS 2u
 #define NEWAKSU_MECH_NTLM 3u
 
-/* Which mechanism the content of an OBJECT IDENTIFIER is. Always NEWAKSU_OK. */
+/* Which mechanism the content of an OBJECT IDENTIFIER is. NEWAKSU_E_INSUFFICIENT_MEMORY. */
 uint32_t newaksu_mech_kind(const uint8_t *oid, size_t length, uint32_t *kind);
 
 /* The users that a server knows. */
@@ -328,8 +326,8 @@ uint32_t newaksu_end_state(newaksu_handle *end, uint32_t *state);
  *   bytes where none was opened, or where it could not be.
  * Over plain NTLM the end steps and opens by itself, and both are empty.
  *
- * What stands in the message is never taken for an envelope or an opened text. NEWAKSU_UNEXPECTED_EOF, NEWAKSU_INVALID_DATA,
- * NEWAKSU_NO_MEMORY: the message is no request, and the end is as it was. NEWAKSU_E_INVALID_PARAMETER: another
+ * What stands in the message is never taken for an envelope or an opened text. NEWAKSU_UNEXPECTED_EOF, NEWAKSU_INVALID_DATA:
+ * the message is no request, and the end is as it was. NEWAKSU_E_INVALID_PARAMETER: another
  * `opened_field`, or arguments that this end does not take. Else the end's refusal: it keeps its state, newaksu_end_refusal
  * has the cause, and of a server newaksu_end_message what tells the client. */
 uint32_t newaksu_client_process(newaksu_handle *client, const uint8_t *message, size_t length, const uint8_t *step,

@@ -222,10 +222,10 @@ static void requests_in_pieces(void) {
             check_request(&reader, &vectors[i]);
         }
     CHECK_STATUS(read_pieces(&reader, "3007 a003020106 a28a", 1), NEWAKSU_INVALID_DATA);
-    CHECK(reader.at == NULL);
+    CHECK_STATUS(newaksu_reader_finish(&reader), NEWAKSU_UNEXPECTED_EOF);
     CHECK_STATUS(read_pieces(&reader, "3008 a003020106 a28a", 1), NEWAKSU_UNEXPECTED_EOF);
     CHECK_STATUS(read_pieces(&reader, "", 1), NEWAKSU_UNEXPECTED_EOF);
-    CHECK_STATUS(newaksu_release(&reader), NEWAKSU_E_INVALID_HANDLE);
+    CHECK_STATUS(newaksu_release(&reader), NEWAKSU_OK);
 }
 
 /* A content of 1048576 bytes is written and read, one more is neither. */

@@ -74,7 +74,7 @@ static void run_with(const struct setup *setup, struct exchange *exchange, unsig
 }
 
 static int is_memory(uint32_t status) {
-    return status == NEWAKSU_E_INSUFFICIENT_MEMORY || status == NEWAKSU_NO_MEMORY;
+    return status == NEWAKSU_E_INSUFFICIENT_MEMORY;
 }
 
 /* Whichever allocation fails, an end says so and goes no further, or it was one whose failure costs nothing. */

@@ -184,11 +184,11 @@ static void check_pieces(newaksu_handle *whole, uint32_t status, const uint8_t *
     for (size_t at = 0; at < length; at += size)
         CHECK_STATUS(newaksu_reader_feed(&reader, bytes + at, length - at < size ? length - at : size), NEWAKSU_OK);
     CHECK_STATUS(newaksu_reader_finish(&reader), status);
-    if (status != NEWAKSU_OK)
-        return;
-    CHECK_STATUS(newaksu_request_encode(whole, first, sizeof first, &written[0]), NEWAKSU_OK);
-    CHECK_STATUS(newaksu_request_encode(&reader, second, sizeof second, &written[1]), NEWAKSU_OK);
-    CHECK(written[0] == written[1] && memcmp(first, second, written[0]) == 0);
+    if (status == NEWAKSU_OK) {
+        CHECK_STATUS(newaksu_request_encode(whole, first, sizeof first, &written[0]), NEWAKSU_OK);
+        CHECK_STATUS(newaksu_request_encode(&reader, second, sizeof second, &written[1]), NEWAKSU_OK);
+        CHECK(written[0] == written[1] && memcmp(first, second, written[0]) == 0);
+    }
     CHECK_STATUS(newaksu_release(&reader), NEWAKSU_OK);
 }
 

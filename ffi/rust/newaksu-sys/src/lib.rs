@@ -75,8 +75,6 @@ pub const NEWAKSU_INVALID_DATA: u32 = 2;
 pub const NEWAKSU_READ_FAULT: u32 = 3;
 /// Write fault.
 pub const NEWAKSU_WRITE_FAULT: u32 = 4;
-/// There was no memory to read or write a TSRequest.
-pub const NEWAKSU_NO_MEMORY: u32 = 5;
 /// There is no such field, text, message, identity or refusal.
 pub const NEWAKSU_ABSENT: u32 = 6;
 /// There was no memory.
@@ -277,7 +275,7 @@ extern "C" {
     /// The next piece.
     pub fn newaksu_reader_feed(reader: *mut newaksu_handle, piece: *const u8, length: usize)
         -> u32;
-    /// What newaksu_request_decode says of all that was fed: at NEWAKSU_OK the handle holds the request, in place of the reader; at NEWAKSU_UNEXPECTED_EOF and NEWAKSU_INVALID_DATA it is empty.
+    /// What newaksu_request_decode says of all that was fed: at NEWAKSU_OK the handle holds the request, in place of the reader; at NEWAKSU_UNEXPECTED_EOF and NEWAKSU_INVALID_DATA a reader that was fed nothing.
     pub fn newaksu_reader_finish(reader: *mut newaksu_handle) -> u32;
     /// Three texts in UTF-16LE, which are copied.
     pub fn newaksu_credentials_new(

@@ -23,7 +23,7 @@ impl Error {
         match status {
             sys::NEWAKSU_UNEXPECTED_EOF => Error::UnexpectedEof,
             sys::NEWAKSU_INVALID_DATA => Error::InvalidData,
-            sys::NEWAKSU_NO_MEMORY | sys::NEWAKSU_E_INSUFFICIENT_MEMORY => Error::OutOfMemory,
+            sys::NEWAKSU_E_INSUFFICIENT_MEMORY => Error::OutOfMemory,
             status => Error::Refused(SecurityStatus(status)),
         }
     }
