@@ -142,6 +142,14 @@ impl<M: Mechanism> Client<M> {
     }
 }
 
+impl<M> fmt::Debug for Client<M> {
+    fn fmt(&self, f: &mut fmt::Formatter<'_>) -> fmt::Result {
+        f.debug_struct("Client")
+            .field("state", &self.state())
+            .finish_non_exhaustive()
+    }
+}
+
 impl<M> Client<M> {
     /// What it waits for.
     pub fn state(&self) -> State {

@@ -30,7 +30,7 @@
 //!
 //! Nothing here reads or writes a channel. An end may be sent to another thread, and is used by one at a time.
 
-#![warn(missing_docs)]
+#![warn(missing_docs, missing_debug_implementations)]
 
 mod client;
 mod credentials;

@@ -36,3 +36,30 @@ pub trait Acceptor: Mechanism {
     /// [`Step::Done`].
     fn peer(&mut self) -> Result<String, SecurityStatus>;
 }
+
+macro_rules! forwarded {
+    ($pointer:ty) => {
+        impl<M: Mechanism + ?Sized> Mechanism for $pointer {
+            fn step(&mut self, token: &[u8]) -> Result<Step, SecurityStatus> {
+                (**self).step(token)
+            }
+
+            fn seal(&mut self, text: &[u8]) -> Result<Vec<u8>, SecurityStatus> {
+                (**self).seal(text)
+            }
+
+            fn unseal(&mut self, blob: &[u8]) -> Result<Vec<u8>, SecurityStatus> {
+                (**self).unseal(blob)
+            }
+        }
+
+        impl<M: Acceptor + ?Sized> Acceptor for $pointer {
+            fn peer(&mut self) -> Result<String, SecurityStatus> {
+                (**self).peer()
+            }
+        }
+    };
+}
+
+forwarded!(&mut M);
+forwarded!(Box<M>);

@@ -4,6 +4,7 @@ use crate::error::Error;
 use crate::handle::Handle;
 use crate::request::TsRequest;
 use newaksu_sys as sys;
+use std::fmt;
 
 /// A reader of one request, which is fed with pieces of any size and keeps the fields that it read, not the bytes.
 pub struct TsReader {
@@ -31,5 +32,11 @@ impl TsReader {
         // SAFETY: the handle is valid.
         Error::check(unsafe { sys::newaksu_reader_finish(self.handle.at()) })?;
         TsRequest::of(&self.handle)
+    }
+}
+
+impl fmt::Debug for TsReader {
+    fn fmt(&self, f: &mut fmt::Formatter<'_>) -> fmt::Result {
+        f.debug_struct("TsReader").finish_non_exhaustive()
     }
 }

@@ -7,6 +7,7 @@ use crate::mechanism::Acceptor;
 use crate::secret::Secret;
 use crate::status::SecurityStatus;
 use newaksu_sys as sys;
+use std::fmt;
 
 /// What a server knows before the first message.
 #[derive(Clone, Debug)]
@@ -120,6 +121,14 @@ impl<M: Acceptor> Server<M> {
         written(|out, capacity, size| unsafe {
             sys::newaksu_server_identity(self.end.handle().at(), which, out, capacity, size)
         })
+    }
+}
+
+impl<M> fmt::Debug for Server<M> {
+    fn fmt(&self, f: &mut fmt::Formatter<'_>) -> fmt::Result {
+        f.debug_struct("Server")
+            .field("state", &self.state())
+            .finish_non_exhaustive()
     }
 }
 

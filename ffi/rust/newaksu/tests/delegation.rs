@@ -158,3 +158,37 @@ fn eight_threads() {
         thread.join().unwrap();
     }
 }
+
+/// An end over a mechanism whose type is not known.
+#[test]
+fn mechanisms_behind_pointers() {
+    use common::Party;
+    use newaksu::{
+        Acceptor, Client, ClientSettings, ClientTurn, Mechanism, Server, ServerSettings, ServerTurn,
+    };
+    let mut party = Party::new(false, "ann", "pw");
+    let behind: &mut dyn Mechanism = &mut party;
+    let accepting: Box<dyn Acceptor> = Box::new(Party::new(true, "ann", "pw"));
+    let mut client = Client::new(&ClientSettings::new(b"key", "ann", "pw"), behind).unwrap();
+    let mut server = Server::new(&ServerSettings::new(b"key"), accepting).unwrap();
+    assert_eq!(
+        format!("{client:?} {server:?}"),
+        "Client { state: NegoToken, .. } Server { state: NegoToken, .. }"
+    );
+    let mut turn = client.start().unwrap();
+    let identity = loop {
+        let (ClientTurn::Reply(message) | ClientTurn::Final(message)) = turn;
+        match server.process(&message).unwrap() {
+            ServerTurn::Reply(message) => turn = client.process(&message).unwrap(),
+            ServerTurn::Finished(identity) => break identity,
+        }
+    };
+    assert_eq!(
+        (
+            &identity.name[..],
+            identity.domain,
+            identity.password.as_str()
+        ),
+        ("ann", None, "pw")
+    );
+}
