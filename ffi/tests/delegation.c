@@ -148,6 +148,48 @@ static void nonces_that_are_drawn(void) {
     exchange_release(&second);
 }
 
+/* A mechanism of two tokens: the server waits for the client's proof once its own token ended the authentication. */
+static void two_tokens(uint32_t version, uint8_t flipped) {
+    struct setup setup = usual_setup();
+    struct exchange exchange;
+    uint32_t state = 99;
+    setup.client_version = setup.server_version = version;
+    setup.client_least = setup.server_least = 0;
+    exchange_make(&exchange, &setup);
+    exchange.parties[THE_CLIENT].two_tokens = exchange.parties[THE_SERVER].two_tokens = 1;
+    exchange_turn(&exchange, THE_CLIENT, NULL, 0);
+    exchange_turn(&exchange, THE_SERVER, exchange.messages[0], exchange.lengths[0]);
+    CHECK_STATUS(newaksu_end_state(newaksu_host_end(exchange.ends[THE_SERVER]), &state), NEWAKSU_OK);
+    CHECK(state == NEWAKSU_STATE_PUB_KEY_INFO);
+    exchange_turn(&exchange, THE_CLIENT, exchange.messages[1], exchange.lengths[1]);
+    /* the first byte of the proof's signature: behind the version, and a3 LL 04 LL */
+    exchange.messages[2][exchange.lengths[2] > 129 ? 12 : 11] ^= flipped;
+    exchange_turn(&exchange, THE_SERVER, exchange.messages[2], exchange.lengths[2]);
+    exchange_turn(&exchange, THE_CLIENT, exchange.messages[3], exchange.lengths[3]);
+    if (flipped != 0) {
+        CHECK_STATUS(exchange.status[THE_SERVER], NEWAKSU_E_MESSAGE_ALTERED);
+        check_withheld(&exchange);
+    } else {
+        exchange_turn(&exchange, THE_SERVER, exchange.messages[4], exchange.lengths[4]);
+        check_delegated(&exchange, setup.name, setup.password);
+    }
+    CHECK(exchange.parties[THE_SERVER].steps_asked == 1 && exchange.parties[THE_CLIENT].steps_asked == 2);
+    exchange_release(&exchange);
+}
+
+/* A client whose mechanism ends before the server's version is known has no proof to make. */
+static void a_client_that_ends_at_once(void) {
+    struct setup setup = usual_setup();
+    struct exchange exchange;
+    exchange_make(&exchange, &setup);
+    exchange.parties[THE_CLIENT].ends_at_once = 1;
+    exchange_run(&exchange, NULL, NULL);
+    check_withheld(&exchange);
+    CHECK_STATUS(exchange.status[THE_CLIENT], NEWAKSU_E_INTERNAL_ERROR);
+    CHECK(strcmp(exchange.refusals[THE_CLIENT].reason, "the context ended before any request came") == 0);
+    exchange_release(&exchange);
+}
+
 int main(void) {
     every_pair_of_versions();
     peers_that_are_too_old();
@@ -156,5 +198,10 @@ int main(void) {
     credentials_that_stay();
     messages_that_are_followed();
     nonces_that_are_drawn();
+    for (uint32_t version = 2; version <= 6; version++) {
+        two_tokens(version, 0);
+        two_tokens(version, 1);
+    }
+    a_client_that_ends_at_once();
     return checks_done("delegation");
 }

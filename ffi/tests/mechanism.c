@@ -4,6 +4,11 @@
  *     server   "T2" and what it drew, 16 bytes
  *     client   "T3", a tag of 16 bytes under the key, and the user's name, which the tag covers
  *
+ * or, where it has two:
+ *
+ *     client   "K1", what it drew, a tag of 16 bytes under the password, and the user's name, which the tag covers
+ *     server   "K2" and what it drew, 16 bytes
+ *
  * A blob is the tag of its text and the encrypted text; the nonce is the direction and the number of the message. */
 #include "mechanism.h"
 
@@ -14,6 +19,7 @@
 
 #define DRAWN 16
 #define T3_HEAD (2 + CIPHER_TAG)
+#define K1_HEAD (2 + DRAWN + CIPHER_TAG)
 
 void party_init(struct party *party, int is_server, const char *name, const char *password, uint8_t drawn) {
     memset(party, 0, sizeof *party);
@@ -23,11 +29,15 @@ void party_init(struct party *party, int is_server, const char *name, const char
     party->own[0] = drawn;
 }
 
+static void password_key(const struct party *party, uint8_t key[CIPHER_KEY]) {
+    memcpy(key, party->password, CIPHER_KEY);
+}
+
 /* The key of both: a block of ChaCha20 under the password, and one under that for each of what was drawn. */
 static void derive(struct party *party) {
     uint8_t block[64] = {0}, nonce[CIPHER_NONCE] = {0};
     const uint8_t *drawn[2] = {party->is_server ? party->peer : party->own, party->is_server ? party->own : party->peer};
-    memcpy(block, party->password, sizeof party->password < 32 ? sizeof party->password : 32);
+    password_key(party, block);
     for (int i = 0; i < 2; i++) {
         memcpy(nonce, drawn[i], sizeof nonce);
         cipher_block(block, (uint32_t)drawn[i][12], nonce, block);
@@ -76,6 +86,47 @@ static uint32_t read_t3(struct party *party, const uint8_t *token, size_t length
     return NEWAKSU_OK;
 }
 
+static uint32_t write_k1(struct party *party, newaksu_bytes *output) {
+    uint8_t key[CIPHER_KEY], nonce[CIPHER_NONCE], tag[CIPHER_TAG];
+    password_key(party, key);
+    t3_nonce(nonce);
+    cipher_seal(key, nonce, (const uint8_t *)party->name, strlen(party->name), NULL, 0, tag);
+    write_drawn(party, "K1", output);
+    newaksu_bytes_append(output, tag, sizeof tag);
+    return newaksu_bytes_append(output, party->name, strlen(party->name));
+}
+
+static uint32_t read_k1(struct party *party, const uint8_t *token, size_t length, newaksu_bytes *output) {
+    uint8_t key[CIPHER_KEY], nonce[CIPHER_NONCE];
+    if (party->stage != 0 || length < K1_HEAD || length - K1_HEAD >= sizeof party->peer_name || memcmp(token, "K1", 2) != 0)
+        return NEWAKSU_E_INVALID_TOKEN;
+    password_key(party, key);
+    t3_nonce(nonce);
+    if (!cipher_open(key, nonce, token + K1_HEAD, length - K1_HEAD, token + 2 + DRAWN, 0, NULL))
+        return NEWAKSU_E_LOGON_DENIED;
+    party->stage = 2;
+    memcpy(party->peer, token + 2, DRAWN);
+    memcpy(party->peer_name, token + K1_HEAD, length - K1_HEAD);
+    derive(party);
+    return write_drawn(party, "K2", output);
+}
+
+/* A client of two tokens: its second step says nothing. */
+static uint32_t step_of_two(struct party *party, const uint8_t *token, size_t length, newaksu_bytes *output) {
+    if (party->is_server)
+        return read_k1(party, token, length, output);
+    if (party->stage == 0 && length == 0) {
+        party->stage = 1;
+        return write_k1(party, output) == NEWAKSU_OK ? NEWAKSU_CONTINUE_NEEDED : NEWAKSU_E_INSUFFICIENT_MEMORY;
+    }
+    if (party->stage != 1 || !is_drawn("K2", token, length))
+        return NEWAKSU_E_INVALID_TOKEN;
+    party->stage = 2;
+    memcpy(party->peer, token + 2, DRAWN);
+    derive(party);
+    return NEWAKSU_OK;
+}
+
 static uint32_t client_step(struct party *party, const uint8_t *token, size_t length, newaksu_bytes *output) {
     if (party->stage == 0 && length == 0) {
         party->stage = 1;
@@ -110,6 +161,10 @@ static uint32_t step(void *context, const uint8_t *token, size_t length, newaksu
         newaksu_bytes_append(output, "dropped", 7);
         return party->refuse_step;
     }
+    if (party->ends_at_once)
+        return NEWAKSU_OK;
+    if (party->two_tokens)
+        return step_of_two(party, token, length, output);
     return party->is_server ? server_step(party, token, length, output) : client_step(party, token, length, output);
 }
 

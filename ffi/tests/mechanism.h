@@ -1,4 +1,4 @@
-/* A mechanism for the tests, of three tokens as NTLM's, which really encrypts: by ChaCha20-Poly1305, under a key that both
+/* A mechanism for the tests, of three tokens as NTLM's or two as Kerberos's, which really encrypts: by ChaCha20-Poly1305, under a key that both
  * ends derive of the password and of what each drew. */
 #ifndef MECHANISM_H
 #define MECHANISM_H
@@ -31,8 +31,12 @@ struct party {
     int saw_password;
     /* Statuses to refuse with in place of an answer; 0 for none. */
     uint32_t refuse_step, refuse_seal, refuse_unseal, refuse_peer;
-    /* It leaves the first token of its last step out, or seals less than a signature. */
+    /* It seals less than a signature. */
     int seals_short;
+    /* Two tokens, as Kerberos has them: the server's ends it on both sides. */
+    int two_tokens;
+    /* A client's only step ends it. */
+    int ends_at_once;
 };
 
 /* A client's or a server's party, which draws `drawn` and zeros. */

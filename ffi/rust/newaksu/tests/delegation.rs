@@ -159,6 +159,41 @@ fn eight_threads() {
     }
 }
 
+/// The server waits for the client's proof once its own token ended the authentication.
+#[test]
+fn a_mechanism_of_two_tokens() {
+    for version in 2..=6 {
+        let setup = Setup {
+            versions: [version; 2],
+            leasts: [0, 0],
+            ..usual()
+        };
+        let mut exchange = Exchange::over(&setup, |party, _| party.two_tokens = true);
+        exchange.client_turn(&[]);
+        let first = exchange.messages[0].clone();
+        exchange.server_turn(&first);
+        assert_eq!(exchange.server.state(), State::PubKeyInfo);
+        let second = exchange.messages[1].clone();
+        exchange.client_turn(&second);
+        assert_eq!(exchange.client.state(), State::AuthInfo);
+        let third = exchange.messages[2].clone();
+        exchange.server_turn(&third);
+        let fourth = exchange.messages[3].clone();
+        exchange.client_turn(&fourth);
+        let fifth = exchange.messages[4].clone();
+        exchange.server_turn(&fifth);
+        exchange.check_delegated(setup.name, setup.passwords[0]);
+    }
+}
+
+/// A client whose mechanism ends before the server's version is known has no proof to make.
+#[test]
+fn a_client_that_ends_at_once() {
+    let mut exchange = Exchange::over(&usual(), |party, is_server| party.ends_at_once = !is_server);
+    exchange.run(|_, _| {});
+    exchange.check_client_refused(SecurityStatus::INTERNAL_ERROR);
+}
+
 /// An end over a mechanism whose type is not known.
 #[test]
 fn mechanisms_behind_pointers() {

@@ -4,6 +4,11 @@
 //!     client   "T1" and what it drew, 16 bytes
 //!     server   "T2" and what it drew, 16 bytes
 //!     client   "T3", a tag of 16 bytes under the key, and the user's name, which the tag covers
+//!
+//! or of two, as Kerberos's:
+//!
+//!     client   "K1", what it drew, a tag of 16 bytes under the password, and the user's name, which the tag covers
+//!     server   "K2" and what it drew, 16 bytes
 
 #![allow(dead_code)]
 
@@ -38,6 +43,10 @@ pub struct Party {
     pub refuses_unseal: Option<SecurityStatus>,
     pub refuses_peer: Option<SecurityStatus>,
     pub seals_short: bool,
+    /// The server's one token ends it on both sides.
+    pub two_tokens: bool,
+    /// A client's only step ends it.
+    pub ends_at_once: bool,
 }
 
 impl Party {
@@ -53,10 +62,15 @@ impl Party {
         }
     }
 
-    fn derive(&mut self) {
+    fn password_key(&self) -> [u8; 32] {
         let mut key = [0; 32];
         let length = self.password.len().min(32);
         key[..length].copy_from_slice(&self.password.as_bytes()[..length]);
+        key
+    }
+
+    fn derive(&mut self) {
+        let mut key = self.password_key();
         let (client, server) = match self.is_server {
             true => (self.peer, self.own),
             false => (self.own, self.peer),
@@ -78,6 +92,35 @@ impl Party {
 
     fn drawn(&self, word: &str) -> Vec<u8> {
         [word.as_bytes(), &self.own].concat()
+    }
+
+    fn step_of_two(&mut self, token: &[u8]) -> Result<Step, SecurityStatus> {
+        let key = self.password_key();
+        if self.is_server {
+            let (drawn, rest) = token
+                .strip_prefix(b"K1")
+                .filter(|rest| rest.len() >= 32)
+                .ok_or(SecurityStatus::INVALID_TOKEN)?
+                .split_at(16);
+            let (tag, name) = rest.split_at(16);
+            cipher::open(&key, &T3_NONCE, name, tag).ok_or(SecurityStatus::LOGON_DENIED)?;
+            self.peer = drawn.try_into().unwrap();
+            self.peer_name = String::from_utf8(name.to_vec()).unwrap();
+            self.stage = 2;
+            self.derive();
+            return Ok(Step::Done(self.drawn("K2")));
+        }
+        if self.stage == 0 {
+            self.stage = 1;
+            let tag = cipher::seal(&key, &T3_NONCE, self.name.as_bytes(), b"");
+            return Ok(Step::Continue(
+                [&self.drawn("K1"), &tag, self.name.as_bytes()].concat(),
+            ));
+        }
+        self.peer = drawn_in("K2", token).ok_or(SecurityStatus::INVALID_TOKEN)?;
+        self.stage = 2;
+        self.derive();
+        Ok(Step::Done(Vec::new()))
     }
 
     fn client_step(&mut self, token: &[u8]) -> Result<Step, SecurityStatus> {
@@ -125,6 +168,12 @@ impl Mechanism for Party {
     fn step(&mut self, token: &[u8]) -> Result<Step, SecurityStatus> {
         self.steps += 1;
         refused(self.refuses_step)?;
+        if self.ends_at_once {
+            return Ok(Step::Done(Vec::new()));
+        }
+        if self.two_tokens {
+            return self.step_of_two(token);
+        }
         match self.is_server {
             true => self.server_step(token),
             false => self.client_step(token),
