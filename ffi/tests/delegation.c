@@ -86,6 +86,7 @@ static void every_form_of_a_name(void) {
     delegate_as("DOM\\ann", "pw", "dom\\ANN");
     delegate_as("ann@example.com", "pw", "Ann@Example.COM");
     delegate_as("D\xc3\x96M\\\xe2\x82\xac\xf0\x9f\x98\x80", "p\xc3\xa4ss", NULL);
+    delegate_as("D\xc3\x96M\\\xe2\x82\xac\xf0\x9f\x98\x80", "p\xc3\xa4ss", "d\xc3\x96m\\\xe2\x82\xac\xf0\x9f\x98\x80");
     memset(name, 'n', sizeof name);
     memset(password, 'p', sizeof password);
     name[sizeof name - 1] = password[sizeof password - 1] = 0;
@@ -132,6 +133,42 @@ static void messages_that_are_followed(void) {
     exchange_run(&exchange, add_zeros, NULL);
     check_delegated(&exchange, setup.name, setup.password);
     exchange_release(&exchange);
+}
+
+static void add_field(newaksu_handle *request, uint32_t field) {
+    static const uint8_t junk[40] = {0};
+    uint8_t octets[1];
+    size_t written;
+    if (newaksu_request_field(request, field, octets, 0, &written) == NEWAKSU_ABSENT)
+        CHECK_STATUS(newaksu_request_set_field(request, field, junk, sizeof junk), NEWAKSU_OK);
+}
+
+/* Puts sealed fields into a message where there are none, as zeros: what a host hands its end is of that form. */
+static void add_fields(void *context, int number, uint8_t *message, size_t *length) {
+    newaksu_handle request = NEWAKSU_EMPTY;
+    (void)context;
+    CHECK_STATUS(newaksu_request_decode(&request, message, *length), NEWAKSU_OK);
+    add_field(&request, NEWAKSU_AUTH_INFO);
+    if (number < 2)
+        add_field(&request, NEWAKSU_PUB_KEY_AUTH);
+    CHECK_STATUS(newaksu_request_encode(&request, message, LONGEST_MESSAGE, length), NEWAKSU_OK);
+    CHECK_STATUS(newaksu_release(&request), NEWAKSU_OK);
+}
+
+/* A field that is not due is neither opened nor sent back. */
+static void fields_that_are_not_due(void) {
+    struct setup setup = usual_setup();
+    struct exchange exchange, usual;
+    exchange_make(&exchange, &setup);
+    exchange_run(&exchange, add_fields, NULL);
+    check_delegated(&exchange, setup.name, setup.password);
+    CHECK(exchange.parties[THE_CLIENT].unseals_asked == 1 && exchange.parties[THE_SERVER].unseals_asked == 2);
+    exchange_make(&usual, &setup);
+    exchange_run(&usual, NULL, NULL);
+    for (int i = 0; i < 5; i++)
+        CHECK(exchange.lengths[i] == usual.lengths[i]);
+    exchange_release(&exchange);
+    exchange_release(&usual);
 }
 
 /* Each client draws its own nonce where it is given none. */
@@ -197,6 +234,7 @@ int main(void) {
     a_user_who_is_not_listed();
     credentials_that_stay();
     messages_that_are_followed();
+    fields_that_are_not_due();
     nonces_that_are_drawn();
     for (uint32_t version = 2; version <= 6; version++) {
         two_tokens(version, 0);

@@ -66,7 +66,7 @@ fn every_form_of_a_name() {
         ("ann", "pw", None),
         ("DOM\\ann", "pw", Some(&["bob", "dom\\ANN"][..])),
         ("ann@example.com", "pw", Some(&["Ann@Example.COM"][..])),
-        ("DÖM\\€😀", "päss", None),
+        ("DÖM\\€😀", "päss", Some(&["dÖm\\€😀"][..])),
         (&account, &password, Some(&[&account[..]][..])),
     ] {
         let setup = Setup {
@@ -112,6 +112,30 @@ fn messages_that_are_followed() {
     let mut exchange = Exchange::new(&usual());
     exchange.run(|_, message| message.extend([0x30; 100]));
     exchange.check_delegated(usual().name, usual().passwords[0]);
+}
+
+/// A field that is not due is neither opened nor sent back. What a host hands its end begins with such zeros.
+#[test]
+fn fields_that_are_not_due() {
+    let mut exchange = Exchange::new(&usual());
+    exchange.run(|sent, message| {
+        let mut request = newaksu::TsRequest::decode(message).unwrap();
+        request.auth_info.get_or_insert(vec![0; 40]);
+        if sent < 2 {
+            request.pub_key_auth.get_or_insert(vec![0; 40]);
+        }
+        *message = request.encode().unwrap();
+    });
+    exchange.check_delegated(usual().name, usual().passwords[0]);
+    let lengths = |exchange: &Exchange| exchange.messages.iter().map(Vec::len).collect::<Vec<_>>();
+    assert_eq!(lengths(&exchange), lengths(&run(&usual())));
+    assert_eq!(
+        (
+            exchange.client.mechanism().unseals_asked,
+            exchange.server.mechanism().unseals_asked
+        ),
+        (1, 2)
+    );
 }
 
 /// Each client draws its own nonce.

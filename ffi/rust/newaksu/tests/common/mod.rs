@@ -37,6 +37,7 @@ pub struct Party {
     /// A text that was to be sealed held the password.
     pub saw_password: bool,
     pub steps: u32,
+    pub unseals_asked: u32,
     /// Statuses to refuse with.
     pub refuses_step: Option<SecurityStatus>,
     pub refuses_seal: Option<SecurityStatus>,
@@ -198,6 +199,7 @@ impl Mechanism for Party {
     }
 
     fn unseal(&mut self, blob: &[u8]) -> Result<Vec<u8>, SecurityStatus> {
+        self.unseals_asked += 1;
         assert!(self.stage == 2 && blob.len() >= 16);
         refused(self.refuses_unseal)?;
         let text = cipher::open(
