@@ -367,11 +367,19 @@ static void tell_client(newaksu_host *host, uint32_t status) {
     (void)newaksu_release(&request);
 }
 
+static uint32_t outcome_of(newaksu_host *host) {
+    uint32_t outcome = NEWAKSU_OUTCOME_NONE;
+    (void)newaksu_end_outcome(&host->end, &outcome);
+    return outcome;
+}
+
+/* Ends the exchange. The end's message is sent where it refused, and not what it said before something else failed. */
 static uint32_t refuse(newaksu_host *host, uint32_t status, newaksu_turn *turn) {
     static const newaksu_bytes nothing;
     note_refusal(host, status);
     bytes_release(&host->send);
-    (void)compose(host, &nothing);
+    if (outcome_of(host) == NEWAKSU_OUTCOME_REFUSED)
+        (void)compose(host, &nothing);
     if (host->is_server && host->send.length == 0)
         tell_client(host, status);
     turn->progress = NEWAKSU_REFUSED;
@@ -380,9 +388,7 @@ static uint32_t refuse(newaksu_host *host, uint32_t status, newaksu_turn *turn) 
 
 /* What the turn came to, once the end had taken the message. */
 static uint32_t conclude(newaksu_host *host, uint32_t status, newaksu_turn *turn) {
-    uint32_t outcome = NEWAKSU_OUTCOME_NONE;
-    if (status == NEWAKSU_OK)
-        status = newaksu_end_outcome(&host->end, &outcome);
+    uint32_t outcome = outcome_of(host);
     if (status == NEWAKSU_OK)
         status = outcome == NEWAKSU_OUTCOME_FINISHED ? keep_identity(host) : answer(host);
     if (status != NEWAKSU_OK)

@@ -53,7 +53,7 @@ static uint32_t make_turn(newaksu_host *host, int channel, const uint8_t *messag
 
 uint32_t make_turns(newaksu_host *host, int channel, int is_client) {
     uint32_t progress = NEWAKSU_CONTINUES, status = NEWAKSU_OK;
-    uint8_t *message = malloc(LONGEST);
+    uint8_t *message = calloc(1, LONGEST);
     size_t length = 0;
     if (message == NULL)
         return NEWAKSU_E_INSUFFICIENT_MEMORY;

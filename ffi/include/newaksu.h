@@ -257,8 +257,8 @@ uint32_t newaksu_mech_kind(const uint8_t *oid, size_t length, uint32_t *kind);
 /* None yet. NEWAKSU_E_INSUFFICIENT_MEMORY. */
 uint32_t newaksu_identities_new(newaksu_handle *identities);
 
-/* One more: DOMAIN\user, user@domain or user, and a password, which both are copied. A server over the host's mechanism looks
- * only for the name, without the case of ASCII letters; the mechanism has checked the password. NEWAKSU_E_UNKNOWN_CREDENTIALS:
+/* One more: DOMAIN\user, user@domain or user, and a password, which both are copied. A server over the caller's mechanism looks
+ * only for the name, by its form, account and domain, without the case of ASCII letters: the mechanism has checked the password. NEWAKSU_E_UNKNOWN_CREDENTIALS:
  * the name mixes the forms. NEWAKSU_E_INVALID_PARAMETER: a text is no UTF-8. NEWAKSU_E_INSUFFICIENT_MEMORY. */
 uint32_t newaksu_identities_add(newaksu_handle *identities, const uint8_t *name, size_t name_length, const uint8_t *password,
                                 size_t password_length);
@@ -292,8 +292,11 @@ uint32_t newaksu_client_new(newaksu_handle *client, const newaksu_client_options
                             const uint8_t *target, size_t target_length, const uint8_t *nonce, size_t nonce_length,
                             const uint8_t *name, size_t name_length, const uint8_t *password, size_t password_length);
 
-/* A server to which nothing was delivered yet. It takes over the identities: at NEWAKSU_OK their handle is empty, else it is
- * as it was. `challenge` has exactly 8 bytes over plain NTLM, and is not looked at over the caller's mechanism. */
+/* A server to which nothing was delivered yet; all is copied, the identities too, which so may serve many servers. Over the
+ * caller's mechanism an empty `identities` takes whoever that names. `challenge` has exactly 8 bytes over plain NTLM, and is
+ * not looked at over the caller's mechanism. NEWAKSU_E_INVALID_PARAMETER: a number is none of those above, or the challenge
+ * not 8 bytes. NEWAKSU_E_INVALID_HANDLE: `identities` holds another object, or nothing over plain NTLM.
+ * NEWAKSU_E_INSUFFICIENT_MEMORY. */
 uint32_t newaksu_server_new(newaksu_handle *server, newaksu_handle *identities, const newaksu_server_options *options,
                             const uint8_t *key, size_t key_length, const uint8_t *challenge, size_t challenge_length);
 
@@ -342,10 +345,11 @@ uint32_t newaksu_end_outcome(newaksu_handle *end, uint32_t *outcome);
 #define NEWAKSU_OUTCOME_REPLY 1u    /* a message for the peer, whose answer the end waits for */
 #define NEWAKSU_OUTCOME_FINAL 2u    /* a client's last message, with the credentials */
 #define NEWAKSU_OUTCOME_FINISHED 3u /* a server has the identity, and no message */
-#define NEWAKSU_OUTCOME_REFUSED 4u  /* a server has a message for the client */
+#define NEWAKSU_OUTCOME_REFUSED 4u  /* the turn was refused; a server has a message for the client */
+#define NEWAKSU_OUTCOME_ASKS 5u     /* a client waits for a KDC: never over the caller's mechanism or plain NTLM */
 
 /* The text that the caller has to seal now, and the field that it is for: NEWAKSU_PUB_KEY_AUTH or NEWAKSU_AUTH_INFO, which
- * `*field` is at NEWAKSU_OK and at NEWAKSU_E_BUFFER_TOO_SMALL. NEWAKSU_ABSENT: there is none. A client's AUTH_INFO is the
+ * `*field` is wherever there is one, also at NEWAKSU_E_BUFFER_TOO_SMALL. NEWAKSU_ABSENT: there is none. A client's AUTH_INFO is the
  * credentials in clear: it comes only after the turn in which exactly the proof was opened that the server owes. */
 uint32_t newaksu_end_sealing(newaksu_handle *end, uint32_t *field, uint8_t *out, size_t capacity, size_t *written);
 
@@ -381,7 +385,8 @@ uint32_t newaksu_end_reason(newaksu_handle *end, uint8_t *out, size_t capacity, 
 #define NEWAKSU_IDENTITY_PASSWORD 2u
 #define NEWAKSU_IDENTITY_NAME 3u /* the whole name: DOMAIN\user, user@domain or user */
 
-/* The credentials that were delegated, in UTF-8. NEWAKSU_ABSENT: the server has none yet, or the name has no domain.
+/* The credentials that were delegated, in UTF-8. NEWAKSU_ABSENT: the server has none yet, the end is a client, or the name has
+ * no domain.
  * NEWAKSU_E_INVALID_PARAMETER: `which` is above 3. */
 uint32_t newaksu_server_identity(newaksu_handle *server, uint32_t which, uint8_t *out, size_t capacity, size_t *written);
 

@@ -59,7 +59,7 @@ struct outputs {
     X(ENDS, newaksu_end_acts(h, &o->acts))                                                                                     \
     X(ENDS, newaksu_end_refusal(h, &o->numbers[0], &o->numbers[1], &o->numbers[2]))                                            \
     X(ENDS, newaksu_end_reason(h, o->bytes, 64, &o->written))                                                                  \
-    X(SERVERS, newaksu_server_identity(h, NEWAKSU_IDENTITY_NAME, o->bytes, 64, &o->written))
+    X(ENDS, newaksu_server_identity(h, NEWAKSU_IDENTITY_NAME, o->bytes, 64, &o->written))
 
 #define COUNT(kinds, expression) +1
 #define NUMBER_OF_CALLS (0 CALLS(COUNT))
@@ -90,6 +90,7 @@ static void new_end(newaksu_handle *handle, uint32_t kind) {
     }
     CHECK_STATUS(newaksu_identities_new(&known), NEWAKSU_OK);
     CHECK_STATUS(newaksu_server_new(handle, &known, &server[plain], empty, 3, empty, 8), NEWAKSU_OK);
+    CHECK_STATUS(newaksu_release(&known), NEWAKSU_OK);
 }
 
 /* Puts an object of this kind into the handle. */
@@ -134,11 +135,17 @@ static void check_untouched(const struct outputs *outputs) {
     CHECK(memcmp(&outputs->acts, &before.acts, sizeof before.acts) == 0);
 }
 
+static const char *name_of(int which) {
+#define NAME_OF(kinds, expression) #expression,
+    static const char *const all[] = {CALLS(NAME_OF)};
+    return all[which];
+}
+
 static void check_invalid(int which, newaksu_handle *handle) {
     struct outputs outputs;
     void *at = handle->at;
     memset(&outputs, 0xc9, sizeof outputs);
-    CHECK_STATUS(call(which, handle, &outputs), NEWAKSU_E_INVALID_HANDLE);
+    check_status(call(which, handle, &outputs), NEWAKSU_E_INVALID_HANDLE, name_of(which), __FILE__, __LINE__);
     check_untouched(&outputs);
     CHECK(handle->at == at);
 }
@@ -166,7 +173,7 @@ static void every_call_with_every_kind(void) {
 
 /* What cannot be made leaves what the handle had. */
 static void what_cannot_be_made(void) {
-    newaksu_handle handle = NEWAKSU_EMPTY, known = NEWAKSU_EMPTY;
+    newaksu_handle handle = NEWAKSU_EMPTY, known = NEWAKSU_EMPTY, nothing = NEWAKSU_EMPTY;
     newaksu_client_options client = {NEWAKSU_HOST, 6, 5, 0};
     newaksu_server_options server = {7, 6, 5};
     const uint8_t *ann = (const uint8_t *)"ann", *mixed = (const uint8_t *)"D\\a@b", *bad = (const uint8_t *)"\xff";
@@ -186,6 +193,9 @@ static void what_cannot_be_made(void) {
     CHECK_STATUS(newaksu_server_new(&handle, &known, &server, empty, 0, empty, 8), NEWAKSU_E_INVALID_PARAMETER);
     server.mechanism = NEWAKSU_PLAIN_NTLM;
     CHECK_STATUS(newaksu_server_new(&handle, &known, &server, empty, 0, empty, 7), NEWAKSU_E_INVALID_PARAMETER);
+    CHECK_STATUS(newaksu_server_new(&handle, &nothing, &server, empty, 0, empty, 8), NEWAKSU_E_INVALID_HANDLE);
+    server.mechanism = NEWAKSU_HOST;
+    CHECK_STATUS(newaksu_server_new(&known, &handle, &server, empty, 0, empty, 0), NEWAKSU_E_INVALID_HANDLE);
     CHECK_STATUS(newaksu_identities_add(&known, mixed, 5, empty, 0), NEWAKSU_E_UNKNOWN_CREDENTIALS);
     CHECK_STATUS(newaksu_identities_add(&known, bad, 1, empty, 0), NEWAKSU_E_INVALID_PARAMETER);
     CHECK_STATUS(newaksu_identities_add(&known, ann, 3, bad, 1), NEWAKSU_E_INVALID_PARAMETER);

@@ -193,8 +193,10 @@ pub const NEWAKSU_OUTCOME_REPLY: u32 = 1;
 pub const NEWAKSU_OUTCOME_FINAL: u32 = 2;
 /// A server has the identity, and no message.
 pub const NEWAKSU_OUTCOME_FINISHED: u32 = 3;
-/// A server has a message for the client.
+/// The turn was refused; a server has a message for the client.
 pub const NEWAKSU_OUTCOME_REFUSED: u32 = 4;
+/// A client waits for a KDC: never over the caller's mechanism or plain NTLM.
+pub const NEWAKSU_OUTCOME_ASKS: u32 = 5;
 /// Identity domain.
 pub const NEWAKSU_IDENTITY_DOMAIN: u32 = 0;
 /// Identity account.
@@ -417,7 +419,7 @@ extern "C" {
         password: *const u8,
         password_length: usize,
     ) -> u32;
-    /// A server to which nothing was delivered yet.
+    /// A server to which nothing was delivered yet; all is copied, the identities too, which so may serve many servers.
     pub fn newaksu_server_new(
         server: *mut newaksu_handle,
         identities: *mut newaksu_handle,
@@ -453,7 +455,7 @@ extern "C" {
     ) -> u32;
     /// What the last turn came to.
     pub fn newaksu_end_outcome(end: *mut newaksu_handle, outcome: *mut u32) -> u32;
-    /// The text that the caller has to seal now, and the field that it is for: NEWAKSU_PUB_KEY_AUTH or NEWAKSU_AUTH_INFO, which `*field` is at NEWAKSU_OK and at NEWAKSU_E_BUFFER_TOO_SMALL.
+    /// The text that the caller has to seal now, and the field that it is for: NEWAKSU_PUB_KEY_AUTH or NEWAKSU_AUTH_INFO, which `*field` is wherever there is one, also at NEWAKSU_E_BUFFER_TOO_SMALL.
     pub fn newaksu_end_sealing(
         end: *mut newaksu_handle,
         field: *mut u32,

@@ -190,12 +190,16 @@ impl End {
         checked(status)
     }
 
+    fn outcome(&self) -> u32 {
+        let mut outcome = sys::NEWAKSU_OUTCOME_NONE;
+        // SAFETY: the handle is valid, and the number is. A handle that holds an end is always answered.
+        let _ = unsafe { sys::newaksu_end_outcome(self.handle.at(), &mut outcome) };
+        outcome
+    }
+
     /// What the end came to: its message, with the text in it sealed.
     fn conclude<M: Mechanism>(&self, mechanism: &mut M) -> Result<Made, SecurityStatus> {
-        let mut outcome = sys::NEWAKSU_OUTCOME_NONE;
-        // SAFETY: the handle is valid, and the number is.
-        checked(unsafe { sys::newaksu_end_outcome(self.handle.at(), &mut outcome) })?;
-        match outcome {
+        match self.outcome() {
             sys::NEWAKSU_OUTCOME_FINISHED => Ok(Made::Finished),
             sys::NEWAKSU_OUTCOME_FINAL => Ok(Made::Final(self.sealed_message(mechanism)?)),
             _ => Ok(Made::Reply(self.sealed_message(mechanism)?)),
@@ -234,15 +238,17 @@ impl End {
         })
     }
 
-    /// Ends the exchange. A server tells its client why.
+    /// Ends the exchange. A server tells its client why: by the end's message where that refused, and not by what it said before
+    /// something else failed.
     fn refuse(&mut self, is_server: bool, status: SecurityStatus) -> Refusal {
         self.is_refused = true;
         let mut refusal = self.refusal(status);
         if is_server {
-            refusal.message = self
-                .message(&[])
-                .unwrap_or(None)
-                .or_else(|| self.telling(status));
+            let told = match self.outcome() {
+                sys::NEWAKSU_OUTCOME_REFUSED => self.message(&[]).unwrap_or(None),
+                _ => None,
+            };
+            refusal.message = told.or_else(|| self.telling(status));
         }
         refusal
     }
