@@ -1,5 +1,6 @@
-/* The heap of the archive: malloc, with each block overwritten before it is freed or moved, so that no credentials stay in
- * freed memory. It has the three functions that Rattle's code calls, and takes the place of the toolchain's own. */
+/* The heap of the archive: malloc, with each block overwritten before it is freed or moved, so that
+ * no credentials stay in freed memory. It has the three functions that Rattle's code calls, and
+ * takes the place of the toolchain's own. */
 #include <stdbool.h>
 #include <stddef.h>
 #include <stdint.h>

@@ -1,8 +1,9 @@
-/* The host: an end of libnewaksu over the caller's mechanism, one call a message (newaksu_host.h). */
+/* The host: an end of libnewaksu over the caller's mechanism, one call a message (newaksu_host.h).
+ */
 #define _DEFAULT_SOURCE
 #define _DARWIN_C_SOURCE
 
-#include "newaksu_host.h"
+#include "bytes.h"
 
 #include <stdlib.h>
 #include <string.h>
@@ -14,13 +15,6 @@
 #define NONCE_LENGTH 32
 /* A sealed blob has at least its signature. */
 #define SIGNATURE_LENGTH 16
-
-struct newaksu_bytes {
-    uint8_t *at;
-    size_t length;
-    size_t capacity;
-    int failed;
-};
 
 struct newaksu_host {
     newaksu_handle end;
@@ -47,57 +41,6 @@ typedef struct findings {
     uint32_t status; /* why there was no way to go on */
 } findings;
 
-/* Octets. */
-
-static void wipe(void *at, size_t length) {
-    if (length != 0)
-        memset(at, 0, length);
-    __asm__ __volatile__("" : : "r"(at) : "memory");
-}
-
-static void bytes_release(newaksu_bytes *bytes) {
-    if (bytes->at != NULL)
-        wipe(bytes->at, bytes->capacity);
-    free(bytes->at);
-    *bytes = (newaksu_bytes){0};
-}
-
-/* Room for so many bytes more. Not by realloc, which would leave a copy behind. */
-static uint32_t bytes_reserve(newaksu_bytes *bytes, size_t more) {
-    size_t capacity = bytes->capacity < 64 ? 64 : bytes->capacity;
-    uint8_t *moved;
-    if (more <= bytes->capacity - bytes->length)
-        return NEWAKSU_OK;
-    while (capacity - bytes->length < more)
-        if (capacity > SIZE_MAX / 2)
-            return NEWAKSU_E_INSUFFICIENT_MEMORY;
-        else
-            capacity *= 2;
-    moved = malloc(capacity);
-    if (moved == NULL)
-        return NEWAKSU_E_INSUFFICIENT_MEMORY;
-    if (bytes->at != NULL) {
-        memcpy(moved, bytes->at, bytes->length);
-        wipe(bytes->at, bytes->capacity);
-        free(bytes->at);
-    }
-    bytes->at = moved;
-    bytes->capacity = capacity;
-    return NEWAKSU_OK;
-}
-
-uint32_t newaksu_bytes_append(newaksu_bytes *bytes, const void *data, size_t length) {
-    uint32_t status = bytes_reserve(bytes, length);
-    if (status != NEWAKSU_OK) {
-        bytes->failed = 1;
-        return status;
-    }
-    if (length != 0)
-        memcpy(bytes->at + bytes->length, data, length);
-    bytes->length += length;
-    return NEWAKSU_OK;
-}
-
 /* A pointer that the archive takes, which is never null. */
 static const uint8_t *octets(const void *at) {
     static const uint8_t none[1];
@@ -105,7 +48,8 @@ static const uint8_t *octets(const void *at) {
 }
 
 /* What a call of the archive writes: it is asked for the size first. */
-typedef uint32_t (*writer)(newaksu_handle *handle, uint32_t which, uint8_t *out, size_t capacity, size_t *written);
+typedef uint32_t (*writer)(newaksu_handle *handle, uint32_t which, uint8_t *out, size_t capacity,
+                           size_t *written);
 
 static uint32_t fetch(writer write, newaksu_handle *handle, uint32_t which, newaksu_bytes *bytes) {
     uint8_t none[1];
@@ -122,63 +66,24 @@ static uint32_t fetch(writer write, newaksu_handle *handle, uint32_t which, newa
     return status;
 }
 
-static uint32_t write_sealing(newaksu_handle *end, uint32_t which, uint8_t *out, size_t capacity, size_t *written) {
+static uint32_t write_sealing(newaksu_handle *end, uint32_t which, uint8_t *out, size_t capacity,
+                              size_t *written) {
     uint32_t field;
     (void)which;
     return newaksu_end_sealing(end, &field, out, capacity, written);
 }
 
-static uint32_t write_request(newaksu_handle *request, uint32_t which, uint8_t *out, size_t capacity, size_t *written) {
+static uint32_t write_request(newaksu_handle *request, uint32_t which, uint8_t *out,
+                              size_t capacity, size_t *written) {
     (void)which;
     return newaksu_request_encode(request, out, capacity, written);
-}
-
-/* UTF-8 (RFC 3629), as UTF-16LE. */
-
-/* The code point that the text begins with, and how many bytes it takes; 0 bytes where it is none. */
-static size_t next_code_point(const uint8_t *text, size_t length, uint32_t *point) {
-    static const uint32_t least[] = {0, 0x80, 0x800, 0x10000};
-    size_t more = text[0] < 0x80 ? 0 : text[0] < 0xc2 ? length : text[0] < 0xe0 ? 1 : text[0] < 0xf0 ? 2 : text[0] < 0xf5 ? 3 : length;
-    if (more >= length)
-        return 0;
-    *point = more == 0 ? text[0] : text[0] & (0x3fu >> more);
-    for (size_t i = 1; i <= more; i++) {
-        if ((text[i] & 0xc0) != 0x80)
-            return 0;
-        *point = *point << 6 | (text[i] & 0x3fu);
-    }
-    if (*point < least[more] || *point > 0x10ffff || (*point >= 0xd800 && *point < 0xe000))
-        return 0;
-    return more + 1;
-}
-
-static void append_unit(newaksu_bytes *bytes, uint32_t unit) {
-    uint8_t two[2] = {(uint8_t)unit, (uint8_t)(unit >> 8)};
-    newaksu_bytes_append(bytes, two, sizeof two);
-}
-
-static uint32_t append_utf16(newaksu_bytes *bytes, const uint8_t *text, size_t length) {
-    size_t at = 0;
-    while (at < length) {
-        uint32_t point = 0;
-        size_t taken = next_code_point(text + at, length - at, &point);
-        if (taken == 0)
-            return NEWAKSU_E_INVALID_PARAMETER;
-        if (point >= 0x10000) {
-            append_unit(bytes, 0xd800 + ((point - 0x10000) >> 10));
-            append_unit(bytes, 0xdc00 + ((point - 0x10000) & 0x3ff));
-        } else {
-            append_unit(bytes, point);
-        }
-        at += taken;
-    }
-    return bytes->failed ? NEWAKSU_E_INSUFFICIENT_MEMORY : NEWAKSU_OK;
 }
 
 /* The mechanism's part of a turn. */
 
 static void append_code(newaksu_bytes *bytes, uint32_t code) {
-    uint8_t refused[5] = {2, (uint8_t)code, (uint8_t)(code >> 8), (uint8_t)(code >> 16), (uint8_t)(code >> 24)};
+    uint8_t refused[5] = {2, (uint8_t)code, (uint8_t)(code >> 8), (uint8_t)(code >> 16),
+                          (uint8_t)(code >> 24)};
     newaksu_bytes_append(bytes, refused, sizeof refused);
 }
 
@@ -205,7 +110,8 @@ static uint32_t append_name(newaksu_host *host, newaksu_bytes *envelope) {
     return status;
 }
 
-static void envelope_of(newaksu_host *host, uint32_t status, const newaksu_bytes *output, newaksu_bytes *envelope) {
+static void envelope_of(newaksu_host *host, uint32_t status, const newaksu_bytes *output,
+                        newaksu_bytes *envelope) {
     static const uint8_t no_name[2];
     uint8_t goes_on = status == NEWAKSU_CONTINUE_NEEDED;
     if (host->is_server && status == NEWAKSU_OK) {
@@ -241,8 +147,10 @@ static int step(newaksu_host *host, newaksu_handle *request, findings *found) {
     return status == NEWAKSU_OK;
 }
 
-/* Opens a field of the request. One that is absent or too short is left to the end, which says so. */
-static void open_field(newaksu_host *host, newaksu_handle *request, uint32_t field, findings *found) {
+/* Opens a field of the request. One that is absent or too short is left to the end, which says so.
+ */
+static void open_field(newaksu_host *host, newaksu_handle *request, uint32_t field,
+                       findings *found) {
     newaksu_bytes blob = {0};
     uint32_t status = fetch(newaksu_request_field, request, field, &blob);
     if (status == NEWAKSU_OK && blob.length >= SIGNATURE_LENGTH) {
@@ -260,7 +168,8 @@ static void open_field(newaksu_host *host, newaksu_handle *request, uint32_t fie
 /* A client that is told an error refuses before anything else, so its mechanism is left alone. */
 static int tells_error(const newaksu_host *host, newaksu_handle *request) {
     uint32_t code = 0;
-    return !host->is_server && request->at != NULL && newaksu_request_error_code(request, &code) == NEWAKSU_OK && code != 0;
+    return !host->is_server && request->at != NULL &&
+           newaksu_request_error_code(request, &code) == NEWAKSU_OK && code != 0;
 }
 
 static void work(newaksu_host *host, uint32_t state, newaksu_handle *request, findings *found) {
@@ -271,7 +180,8 @@ static void work(newaksu_host *host, uint32_t state, newaksu_handle *request, fi
         ended = step(host, request, found);
     if (request->at == NULL)
         return;
-    if (state == NEWAKSU_STATE_PUB_KEY_INFO || (host->is_server ? ended : state == NEWAKSU_STATE_AUTH_INFO))
+    if (state == NEWAKSU_STATE_PUB_KEY_INFO ||
+        (host->is_server ? ended : state == NEWAKSU_STATE_AUTH_INFO))
         open_field(host, request, NEWAKSU_PUB_KEY_AUTH, found);
     if (host->is_server && state == NEWAKSU_STATE_AUTH_INFO)
         open_field(host, request, NEWAKSU_AUTH_INFO, found);
@@ -279,12 +189,13 @@ static void work(newaksu_host *host, uint32_t state, newaksu_handle *request, fi
 
 /* The end's part of a turn. */
 
-static uint32_t process(newaksu_host *host, const uint8_t *message, size_t length, const findings *found) {
+static uint32_t process(newaksu_host *host, const uint8_t *message, size_t length,
+                        const findings *found) {
     if (found->status != NEWAKSU_OK)
         return found->status;
     return (host->is_server ? newaksu_server_process : newaksu_client_process)(
-        &host->end, octets(message), length, octets(found->envelope.at), found->envelope.length, found->opened_field,
-        octets(found->opened.at), found->opened.length);
+        &host->end, octets(message), length, octets(found->envelope.at), found->envelope.length,
+        found->opened_field, octets(found->opened.at), found->opened.length);
 }
 
 /* Seals the text that the end made, if it made one. */
@@ -308,11 +219,13 @@ static uint32_t seal(newaksu_host *host, newaksu_bytes *blob) {
 static uint32_t compose(newaksu_host *host, const newaksu_bytes *blob) {
     uint8_t none[1];
     size_t size = 0;
-    uint32_t status = newaksu_end_message(&host->end, octets(blob->at), blob->length, none, 0, &size);
+    uint32_t status =
+        newaksu_end_message(&host->end, octets(blob->at), blob->length, none, 0, &size);
     if (status == NEWAKSU_E_BUFFER_TOO_SMALL)
         status = bytes_reserve(&host->send, size);
     if (status == NEWAKSU_OK)
-        status = newaksu_end_message(&host->end, octets(blob->at), blob->length, host->send.at, size, &size);
+        status = newaksu_end_message(&host->end, octets(blob->at), blob->length, host->send.at,
+                                     size, &size);
     if (status == NEWAKSU_OK)
         host->send.length = size;
     return status == NEWAKSU_ABSENT ? NEWAKSU_OK : status;
@@ -328,9 +241,11 @@ static uint32_t answer(newaksu_host *host) {
 }
 
 static uint32_t keep_identity(newaksu_host *host) {
-    uint32_t status = fetch(newaksu_server_identity, &host->end, NEWAKSU_IDENTITY_NAME, &host->user);
+    uint32_t status =
+        fetch(newaksu_server_identity, &host->end, NEWAKSU_IDENTITY_NAME, &host->user);
     if (status == NEWAKSU_OK)
-        status = fetch(newaksu_server_identity, &host->end, NEWAKSU_IDENTITY_PASSWORD, &host->password);
+        status =
+            fetch(newaksu_server_identity, &host->end, NEWAKSU_IDENTITY_PASSWORD, &host->password);
     host->finished = status == NEWAKSU_OK;
     return status;
 }
@@ -340,22 +255,31 @@ static void end_text(char *text, uint32_t status, size_t written) {
     text[status == NEWAKSU_OK ? written : 0] = 0;
 }
 
+static uint32_t outcome_of(newaksu_host *host) {
+    uint32_t outcome = NEWAKSU_OUTCOME_NONE;
+    (void)newaksu_end_outcome(&host->end, &outcome);
+    return outcome;
+}
+
 /* Why it was refused: by the end, or here. */
 static void note_refusal(newaksu_host *host, uint32_t status) {
     newaksu_refusal *refusal = &host->refusal;
-    uint32_t kind = status, told;
+    uint32_t kind, told;
     size_t written = 0;
     host->refused = 1;
     memset(refusal, 0, sizeof *refusal);
     refusal->status = status;
     told = newaksu_error_name(status, (uint8_t *)host->name, sizeof host->name - 1, &written);
     end_text(host->name, told, written);
-    told = newaksu_end_refusal(&host->end, &kind, &refusal->has_nstatus, &refusal->nstatus);
-    if (told == NEWAKSU_OK && kind == status)
-        told = newaksu_end_reason(&host->end, (uint8_t *)host->reason, sizeof host->reason - 1, &written);
-    end_text(host->reason, told, written);
     refusal->name = host->name;
-    refusal->reason = host->reason[0] != 0 ? host->reason : "the mechanism or the host could not go on";
+    refusal->reason = "the mechanism or the host could not go on";
+    if (outcome_of(host) != NEWAKSU_OUTCOME_REFUSED)
+        return;
+    (void)newaksu_end_refusal(&host->end, &kind, &refusal->has_nstatus, &refusal->nstatus);
+    told =
+        newaksu_end_reason(&host->end, (uint8_t *)host->reason, sizeof host->reason - 1, &written);
+    end_text(host->reason, told, written);
+    refusal->reason = host->reason;
 }
 
 /* Tells a client what its server's end could not: that what had to be sealed was not. */
@@ -367,13 +291,8 @@ static void tell_client(newaksu_host *host, uint32_t status) {
     (void)newaksu_release(&request);
 }
 
-static uint32_t outcome_of(newaksu_host *host) {
-    uint32_t outcome = NEWAKSU_OUTCOME_NONE;
-    (void)newaksu_end_outcome(&host->end, &outcome);
-    return outcome;
-}
-
-/* Ends the exchange. The end's message is sent where it refused, and not what it said before something else failed. */
+/* Ends the exchange. The end's message is sent where it refused, and not what it said before
+ * something else failed. */
 static uint32_t refuse(newaksu_host *host, uint32_t status, newaksu_turn *turn) {
     static const newaksu_bytes nothing;
     note_refusal(host, status);
@@ -397,7 +316,8 @@ static uint32_t conclude(newaksu_host *host, uint32_t status, newaksu_turn *turn
     return NEWAKSU_OK;
 }
 
-static uint32_t take(newaksu_host *host, const uint8_t *message, size_t length, newaksu_handle *request, newaksu_turn *turn) {
+static uint32_t take(newaksu_host *host, const uint8_t *message, size_t length,
+                     newaksu_handle *request, newaksu_turn *turn) {
     findings found = {{0}, 0, {0}, NEWAKSU_OK};
     uint32_t state = NEWAKSU_STATE_FINAL;
     uint32_t status = newaksu_end_state(&host->end, &state);
@@ -411,7 +331,8 @@ static uint32_t take(newaksu_host *host, const uint8_t *message, size_t length, 
     return conclude(host, status, turn);
 }
 
-uint32_t newaksu_host_process(newaksu_host *host, const uint8_t *message, size_t length, newaksu_turn *turn) {
+uint32_t newaksu_host_process(newaksu_host *host, const uint8_t *message, size_t length,
+                              newaksu_turn *turn) {
     newaksu_handle request = NEWAKSU_EMPTY;
     uint32_t status = NEWAKSU_OK;
     *turn = (newaksu_turn){NULL, 0, NEWAKSU_REFUSED};
@@ -433,14 +354,16 @@ uint32_t newaksu_host_process(newaksu_host *host, const uint8_t *message, size_t
 /* Making and releasing. */
 
 void newaksu_client_settings_init(newaksu_client_settings *settings) {
-    *settings = (newaksu_client_settings){.version = 6, .least_version = 5, .delegation = NEWAKSU_WITH_CREDENTIALS};
+    *settings = (newaksu_client_settings){
+        .version = 6, .least_version = 5, .delegation = NEWAKSU_WITH_CREDENTIALS};
 }
 
 void newaksu_server_settings_init(newaksu_server_settings *settings) {
     *settings = (newaksu_server_settings){.version = 6, .least_version = 5};
 }
 
-static newaksu_host *new_host(const newaksu_mechanism *mechanism, void *context, int is_server, uint32_t version) {
+static newaksu_host *new_host(const newaksu_mechanism *mechanism, void *context, int is_server,
+                              uint32_t version) {
     newaksu_host *host = calloc(1, sizeof *host);
     if (host == NULL)
         return NULL;
@@ -463,7 +386,8 @@ static uint32_t hand_out(newaksu_host *made, uint32_t status, newaksu_host **hos
 }
 
 static int has_calls(const newaksu_mechanism *mechanism) {
-    return mechanism != NULL && mechanism->step != NULL && mechanism->seal != NULL && mechanism->unseal != NULL;
+    return mechanism != NULL && mechanism->step != NULL && mechanism->seal != NULL &&
+           mechanism->unseal != NULL;
 }
 
 static int is_there(const void *at, size_t length) {
@@ -471,26 +395,31 @@ static int is_there(const void *at, size_t length) {
 }
 
 static uint32_t make_client(newaksu_host *host, const newaksu_client_settings *settings) {
-    newaksu_client_options options = {NEWAKSU_HOST, settings->version, settings->least_version, settings->delegation};
+    newaksu_client_options options = {NEWAKSU_HOST, settings->version, settings->least_version,
+                                      settings->delegation};
     uint8_t nonce[NONCE_LENGTH];
     uint32_t status;
     if (settings->nonce != NULL)
         memcpy(nonce, settings->nonce, sizeof nonce);
     else if (getentropy(nonce, sizeof nonce) != 0)
         return NEWAKSU_E_INTERNAL_ERROR;
-    status = newaksu_client_new(&host->end, &options, octets(settings->public_key), settings->public_key_length, octets(NULL), 0,
-                                nonce, sizeof nonce, octets(settings->user), settings->user_length, octets(settings->password),
-                                settings->password_length);
+    status = newaksu_client_new(&host->end, &options, octets(settings->public_key),
+                                settings->public_key_length, octets(NULL), 0, nonce, sizeof nonce,
+                                octets(settings->user), settings->user_length,
+                                octets(settings->password), settings->password_length);
     wipe(nonce, sizeof nonce);
     return status;
 }
 
-uint32_t newaksu_host_client(const newaksu_client_settings *settings, const newaksu_mechanism *mechanism, void *context,
+uint32_t newaksu_host_client(const newaksu_client_settings *settings,
+                             const newaksu_mechanism *mechanism, void *context,
                              newaksu_host **host) {
     newaksu_host *made;
     *host = NULL;
-    if (settings == NULL || !has_calls(mechanism) || !is_there(settings->public_key, settings->public_key_length) ||
-        !is_there(settings->user, settings->user_length) || !is_there(settings->password, settings->password_length))
+    if (settings == NULL || !has_calls(mechanism) ||
+        !is_there(settings->public_key, settings->public_key_length) ||
+        !is_there(settings->user, settings->user_length) ||
+        !is_there(settings->password, settings->password_length))
         return NEWAKSU_E_INVALID_PARAMETER;
     made = new_host(mechanism, context, 0, settings->version);
     if (made == NULL)
@@ -503,20 +432,23 @@ static uint32_t make_server(newaksu_host *host, const newaksu_server_settings *s
     newaksu_handle identities = NEWAKSU_EMPTY;
     uint32_t status = settings->users_count == 0 ? NEWAKSU_OK : newaksu_identities_new(&identities);
     for (size_t i = 0; status == NEWAKSU_OK && i < settings->users_count; i++)
-        status = newaksu_identities_add(&identities, octets(settings->users[i]), settings->user_lengths[i], octets(NULL), 0);
+        status = newaksu_identities_add(&identities, octets(settings->users[i]),
+                                        settings->user_lengths[i], octets(NULL), 0);
     if (status == NEWAKSU_OK)
-        status = newaksu_server_new(&host->end, &identities, &options, octets(settings->public_key), settings->public_key_length,
-                                    octets(NULL), 0);
+        status = newaksu_server_new(&host->end, &identities, &options, octets(settings->public_key),
+                                    settings->public_key_length, octets(NULL), 0);
     (void)newaksu_release(&identities);
     return status;
 }
 
-uint32_t newaksu_host_server(const newaksu_server_settings *settings, const newaksu_mechanism *mechanism, void *context,
+uint32_t newaksu_host_server(const newaksu_server_settings *settings,
+                             const newaksu_mechanism *mechanism, void *context,
                              newaksu_host **host) {
     newaksu_host *made;
     *host = NULL;
     if (settings == NULL || !has_calls(mechanism) || mechanism->peer == NULL ||
-        !is_there(settings->public_key, settings->public_key_length) || !is_there(settings->users, settings->users_count) ||
+        !is_there(settings->public_key, settings->public_key_length) ||
+        !is_there(settings->users, settings->users_count) ||
         !is_there(settings->user_lengths, settings->users_count))
         return NEWAKSU_E_INVALID_PARAMETER;
     made = new_host(mechanism, context, 1, settings->version);
@@ -525,8 +457,8 @@ uint32_t newaksu_host_server(const newaksu_server_settings *settings, const newa
     return hand_out(made, make_server(made, settings), host);
 }
 
-uint32_t newaksu_host_identity(const newaksu_host *host, const char **user, size_t *user_length, const char **password,
-                               size_t *password_length) {
+uint32_t newaksu_host_identity(const newaksu_host *host, const char **user, size_t *user_length,
+                               const char **password, size_t *password_length) {
     if (!host->finished)
         return NEWAKSU_E_OUT_OF_SEQUENCE;
     *user = (const char *)octets(host->user.at);

@@ -4,7 +4,8 @@
 
 int main(void) {
     /* what a client sends first: version 6 and the token "N1" */
-    static const uint8_t message[] = "\x30\x11\xa0\x03\x02\x01\x06\xa1\x0a\x30\x08\x30\x06\xa0\x04\x04\x02N1";
+    static const uint8_t message[] =
+        "\x30\x11\xa0\x03\x02\x01\x06\xa1\x0a\x30\x08\x30\x06\xa0\x04\x04\x02N1";
     newaksu_handle request = NEWAKSU_EMPTY;
     uint8_t token[64];
     uint32_t version = 0;

@@ -17,7 +17,8 @@ static uint32_t receive(int channel, uint8_t *message, size_t from, size_t to) {
     return NEWAKSU_OK;
 }
 
-/* The header byte by byte, and then exactly the content: what follows on the channel is not of CredSSP. */
+/* The header byte by byte, and then exactly the content: what follows on the channel is not of
+ * CredSSP. */
 static uint32_t receive_message(int channel, uint8_t *message, size_t *length) {
     size_t size = 0, have = 0;
     while (have < 5 && newaksu_request_size(message, have, &size) != NEWAKSU_OK) {
@@ -42,8 +43,10 @@ static uint32_t transmit(int channel, const uint8_t *message, size_t length) {
     return NEWAKSU_OK;
 }
 
-/* One turn. A refusal is sent too, if it has a message; its status counts for more than that it could not be sent. */
-static uint32_t make_turn(newaksu_host *host, int channel, const uint8_t *message, size_t length, uint32_t *progress) {
+/* One turn. A refusal is sent too, if it has a message; its status counts for more than that it
+ * could not be sent. */
+static uint32_t make_turn(newaksu_host *host, int channel, const uint8_t *message, size_t length,
+                          uint32_t *progress) {
     newaksu_turn turn;
     uint32_t status = newaksu_host_process(host, message, length, &turn);
     uint32_t sent = transmit(channel, turn.send, turn.send_length);

@@ -1,16 +1,18 @@
-/* One end of CredSSP over a mechanism that the caller has, as an NTLM or a Kerberos behind SSPI or GSSAPI.
+/* One end of CredSSP over a mechanism that the caller has, as an NTLM or a Kerberos behind SSPI or
+ * GSSAPI.
  *
- * A host is a proved end of libnewaksu and, below it, the caller's mechanism: three functions of a table. One call of
- * `newaksu_host_process` takes one whole message of the peer and answers the message to be sent. It steps the mechanism,
- * opens what the peer sealed, lets the proved end decide, and seals what the end made. Nothing is read from a channel and
- * nothing written to it: the caller has the TLS channel, and inside it only whole messages count
+ * A host is a proved end of libnewaksu and, below it, the caller's mechanism: three functions of a
+ * table. One call of `newaksu_host_process` takes one whole message of the peer and answers the
+ * message to be sent. It steps the mechanism, opens what the peer sealed, lets the proved end
+ * decide, and seals what the end made. Nothing is read from a channel and nothing written to it:
+ * the caller has the TLS channel, and inside it only whole messages count
  * (`newaksu_request_size` tells where one ends).
  *
- * Each host is used by one thread at a time; hosts know nothing of each other, so different ones may run in different
- * threads at once. No call may come from a signal handler.
+ * Each host is used by one thread at a time; hosts know nothing of each other, so different ones
+ * may run in different threads at once. No call may come from a signal handler.
  *
- * What a host holds of credentials, opened texts and messages it overwrites before it is released, and each opened text as
- * soon as its call is over. */
+ * What a host holds of credentials, opened texts and messages it overwrites before it is released,
+ * and each opened text as soon as its call is over. */
 #ifndef NEWAKSU_HOST_H
 #define NEWAKSU_HOST_H
 
@@ -27,55 +29,63 @@ extern "C" {
 typedef struct newaksu_bytes newaksu_bytes;
 
 /* Puts `length` bytes behind those that are there; `data` may be null where `length` is 0.
- * NEWAKSU_OK, or NEWAKSU_E_INSUFFICIENT_MEMORY, and then nothing was put: hand that on as the mechanism's status. */
+ * NEWAKSU_OK, or NEWAKSU_E_INSUFFICIENT_MEMORY, and then nothing was put: hand that on as the
+ * mechanism's status. */
 uint32_t newaksu_bytes_append(newaksu_bytes *bytes, const void *data, size_t length);
 
-/* What stands below an end. Each function gets the pointer that the host was made with. It answers NEWAKSU_OK, or the
- * SECURITY_STATUS (winerror.h) of its refusal, as NEWAKSU_E_INVALID_TOKEN, NEWAKSU_E_LOGON_DENIED or NEWAKSU_E_MESSAGE_ALTERED; a
- * number that SSPI does not name as an error counts as NEWAKSU_E_INVALID_TOKEN. What it wrote at a refusal is dropped. The
- * inputs are valid during the call alone, and are never null. No function may call the host that calls it. */
+/* What stands below an end. Each function gets the pointer that the host was made with. It answers
+ * NEWAKSU_OK, or the SECURITY_STATUS (winerror.h) of its refusal, as NEWAKSU_E_INVALID_TOKEN,
+ * NEWAKSU_E_LOGON_DENIED or NEWAKSU_E_MESSAGE_ALTERED; a number that SSPI does not name as an error
+ * counts as NEWAKSU_E_INVALID_TOKEN. What it wrote at a refusal is dropped. The inputs are valid
+ * during the call alone, and are never null. No function may call the host that calls it. */
 typedef struct newaksu_mechanism {
-    /* Takes the peer's token, which is empty in a client's first step, and writes the own one, which may be empty.
-     * NEWAKSU_OK where the authentication has ended on this end, NEWAKSU_CONTINUE_NEEDED where it wants another token.
-     * Not called again once it ended or refused. */
+    /* Takes the peer's token, which is empty in a client's first step, and writes the own one,
+     * which may be empty. NEWAKSU_OK where the authentication has ended on this end,
+     * NEWAKSU_CONTINUE_NEEDED where it wants another token. Not called again once it ended or
+     * refused. */
     uint32_t (*step)(void *context, const uint8_t *token, size_t length, newaksu_bytes *output);
 
-    /* A server's alone, called once, after the step that ended: writes the name of the user whom it authenticated, in
-     * UTF-8, as DOMAIN\user or user@domain. A client's may be null. */
+    /* A server's alone, called once, after the step that ended: writes the name of the user whom it
+     * authenticated, in UTF-8, as DOMAIN\user or user@domain. A client's may be null. */
     uint32_t (*peer)(void *context, newaksu_bytes *name);
 
-    /* Seals a text as this end's next message, with its signature in front, as SSPI's EncryptMessage lays out the buffers
-     * Token and Data, or gss_wrap of NTLM and Kerberos does. The blob has at least 16 bytes. */
+    /* Seals a text as this end's next message, with its signature in front, as SSPI's
+     * EncryptMessage lays out the buffers Token and Data, or gss_wrap of NTLM and Kerberos does.
+     * The blob has at least 16 bytes. */
     uint32_t (*seal)(void *context, const uint8_t *text, size_t length, newaksu_bytes *blob);
 
-    /* Opens the peer's next message, of at least 16 bytes, or refuses it: NEWAKSU_E_MESSAGE_ALTERED where its signature is
-     * not the peer's. The credentials of a client rest on this answer. */
+    /* Opens the peer's next message, of at least 16 bytes, or refuses it: NEWAKSU_E_MESSAGE_ALTERED
+     * where its signature is not the peer's. The credentials of a client rest on this answer. */
     uint32_t (*unseal)(void *context, const uint8_t *blob, size_t length, newaksu_bytes *text);
 
     /* Called once with the pointer, when the host is released, or may be null. */
     void (*release)(void *context);
 } newaksu_mechanism;
 
-/* A client's settings. `newaksu_client_settings_init` gives each its usual value; all that they point to is copied. */
+/* A client's settings. `newaksu_client_settings_init` gives each its usual value; all that they
+ * point to is copied. */
 typedef struct newaksu_client_settings {
     /* The version of CredSSP that the client speaks: 2 to 6. Usually 6. */
     uint32_t version;
-    /* The least version of a server that is taken, 0 for every. Usually 5: below it whoever relays the exchange can choose
-     * the proof (MS-CSSP 3.1.5). */
+    /* The least version of a server that is taken, 0 for every. Usually 5: below it whoever relays
+     * the exchange can choose the proof (MS-CSSP 3.1.5). */
     uint32_t least_version;
-    /* NEWAKSU_WITH_CREDENTIALS, the usual, or NEWAKSU_CREDENTIAL_LESS: three empty texts are delegated (restricted admin). */
+    /* NEWAKSU_WITH_CREDENTIALS, the usual, or NEWAKSU_CREDENTIAL_LESS: three empty texts are
+     * delegated (restricted admin). */
     uint32_t delegation;
-    /* The SubjectPublicKey of the certificate that the TLS channel's server showed, without the BIT STRING's header and its
-     * count of unused bits (MS-CSSP 3.1.5). */
+    /* The SubjectPublicKey of the certificate that the TLS channel's server showed, without the BIT
+     * STRING's header and its count of unused bits (MS-CSSP 3.1.5). */
     const uint8_t *public_key;
     size_t public_key_length;
-    /* Whose credentials are delegated, in UTF-8: DOMAIN\user, user@domain or user. Null where `user_length` is 0. */
+    /* Whose credentials are delegated, in UTF-8: DOMAIN\user, user@domain or user. Null where
+     * `user_length` is 0. */
     const char *user;
     size_t user_length;
     /* The password, in UTF-8. */
     const char *password;
     size_t password_length;
-    /* 32 bytes of a cryptographic generator, fresh for each client; null, the usual, lets the host draw them (getentropy). */
+    /* 32 bytes of a cryptographic generator, fresh for each client; null, the usual, lets the host
+     * draw them (getentropy). */
     const uint8_t *nonce;
 } newaksu_client_settings;
 
@@ -85,8 +95,8 @@ typedef struct newaksu_server_settings {
     uint32_t least_version;
     const uint8_t *public_key;
     size_t public_key_length;
-    /* The users that the server takes, in UTF-8, compared without the case of ASCII letters. With none, the usual, it takes
-     * each that the mechanism names. */
+    /* The users that the server takes, in UTF-8, compared without the case of ASCII letters. With
+     * none, the usual, it takes each that the mechanism names. */
     const char *const *users;
     const size_t *user_lengths;
     size_t users_count;
@@ -100,13 +110,14 @@ typedef struct newaksu_host newaksu_host;
 
 /* What came of one message. The bytes belong to the host and stay until its next call. */
 typedef struct newaksu_turn {
-    /* What is to be sent to the peer; none where `send_length` is 0. A server that refuses has a message too: it tells the
-     * client the error code, from version 3 on and not at version 5. */
+    /* What is to be sent to the peer; none where `send_length` is 0. A server that refuses has a
+     * message too: it tells the client the error code, from version 3 on and not at version 5. */
     const uint8_t *send;
     size_t send_length;
-    /* NEWAKSU_CONTINUES: another message of the peer is due. NEWAKSU_FINISHED: on a client, `send` carries the credentials
-     * and is its last message; on a server, they came, and `newaksu_host_identity` has them. NEWAKSU_REFUSED: the exchange
-     * is over. NEWAKSU_UNREAD: what came is no request, and the host is as it was before. */
+    /* NEWAKSU_CONTINUES: another message of the peer is due. NEWAKSU_FINISHED: on a client, `send`
+     * carries the credentials and is its last message; on a server, they came, and
+     * `newaksu_host_identity` has them. NEWAKSU_REFUSED: the exchange is over. NEWAKSU_UNREAD: what
+     * came is no request, and the host is as it was before. */
     uint32_t progress;
 } newaksu_turn;
 
@@ -115,25 +126,30 @@ typedef struct newaksu_turn {
 #define NEWAKSU_REFUSED 2u
 #define NEWAKSU_UNREAD 3u
 
-/* Makes an end over a mechanism. The table is copied; the host owns `context` from then on, if the answer is NEWAKSU_OK.
- * NEWAKSU_E_INVALID_PARAMETER: a text is no UTF-8, a user has a mixed form, or a pointer is null that may not be.
- * NEWAKSU_E_INSUFFICIENT_MEMORY. NEWAKSU_E_INTERNAL_ERROR: there was no randomness. Else `*host` is null. */
-uint32_t newaksu_host_client(const newaksu_client_settings *options, const newaksu_mechanism *mechanism, void *context,
+/* Makes an end over a mechanism. The table is copied; the host owns `context` from then on, if the
+ * answer is NEWAKSU_OK. NEWAKSU_E_INVALID_PARAMETER: a text is no UTF-8, a user has a mixed form,
+ * or a pointer is null that may not be. NEWAKSU_E_INSUFFICIENT_MEMORY. NEWAKSU_E_INTERNAL_ERROR:
+ * there was no randomness. Else `*host` is null. */
+uint32_t newaksu_host_client(const newaksu_client_settings *options,
+                             const newaksu_mechanism *mechanism, void *context,
                              newaksu_host **host);
-uint32_t newaksu_host_server(const newaksu_server_settings *options, const newaksu_mechanism *mechanism, void *context,
+uint32_t newaksu_host_server(const newaksu_server_settings *options,
+                             const newaksu_mechanism *mechanism, void *context,
                              newaksu_host **host);
 
-/* Takes one whole message of the peer; a client's first call takes none (`length` 0), and is what starts the exchange.
- * NEWAKSU_OK: the turn is made, and `turn` says how it goes on. Else the status of the refusal, and `turn` is written all
- * the same: send what it has, if anything, and close the channel. After a refusal each further call is refused as
- * NEWAKSU_E_OUT_OF_SEQUENCE, and the mechanism is not called again. */
-uint32_t newaksu_host_process(newaksu_host *host, const uint8_t *message, size_t length, newaksu_turn *turn);
+/* Takes one whole message of the peer; a client's first call takes none (`length` 0), and is what
+ * starts the exchange. NEWAKSU_OK: the turn is made, and `turn` says how it goes on. Else the
+ * status of the refusal, and `turn` is written all the same: send what it has, if anything, and
+ * close the channel. After a refusal each further call is refused as NEWAKSU_E_OUT_OF_SEQUENCE, and
+ * the mechanism is not called again. */
+uint32_t newaksu_host_process(newaksu_host *host, const uint8_t *message, size_t length,
+                              newaksu_turn *turn);
 
 /* The credentials that a finished server was given, in UTF-8; they stay until the host is released.
- * NEWAKSU_E_OUT_OF_SEQUENCE where there are none. Nothing checked this password yet: the mechanism authenticated the user, and
- * what is delegated may be another's. */
-uint32_t newaksu_host_identity(const newaksu_host *host, const char **user, size_t *user_length, const char **password,
-                               size_t *password_length);
+ * NEWAKSU_E_OUT_OF_SEQUENCE where there are none. Nothing checked this password yet: the mechanism
+ * authenticated the user, and what is delegated may be another's. */
+uint32_t newaksu_host_identity(const newaksu_host *host, const char **user, size_t *user_length,
+                               const char **password, size_t *password_length);
 
 /* Why the last message was refused. */
 typedef struct newaksu_refusal {
@@ -150,8 +166,8 @@ typedef struct newaksu_refusal {
 /* NEWAKSU_E_OUT_OF_SEQUENCE where nothing was refused. The texts belong to the host. */
 uint32_t newaksu_host_refusal(const newaksu_host *host, newaksu_refusal *refusal);
 
-/* The end itself, for the calls that only ask: newaksu_end_state, newaksu_end_acts and newaksu_end_outcome. It belongs to the
- * host. */
+/* The end itself, for the calls that only ask: newaksu_end_state, newaksu_end_acts and
+ * newaksu_end_outcome. It belongs to the host. */
 newaksu_handle *newaksu_host_end(newaksu_host *host);
 
 /* Overwrites and releases the host, and the mechanism by its `release`. Null is allowed. */

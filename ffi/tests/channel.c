@@ -1,4 +1,5 @@
-/* The turns of examples/turns.c: a client and a server in a thread each, with a pair of sockets between them. */
+/* The turns of examples/turns.c: a client and a server in a thread each, with a pair of sockets
+ * between them. */
 #include <pthread.h>
 #include <string.h>
 #include <sys/socket.h>
@@ -42,9 +43,12 @@ static void delegations(void) {
     size_t user_length, password_length;
     CHECK_STATUS(run(&exchange, &setup), NEWAKSU_OK);
     CHECK_STATUS(client_status, NEWAKSU_OK);
-    CHECK_STATUS(newaksu_host_identity(exchange.ends[THE_SERVER], &user, &user_length, &password, &password_length), NEWAKSU_OK);
+    CHECK_STATUS(newaksu_host_identity(exchange.ends[THE_SERVER], &user, &user_length, &password,
+                                       &password_length),
+                 NEWAKSU_OK);
     CHECK(user_length == strlen(setup.name) && memcmp(user, setup.name, user_length) == 0);
-    CHECK(password_length == strlen(setup.password) && memcmp(password, setup.password, password_length) == 0);
+    CHECK(password_length == strlen(setup.password) &&
+          memcmp(password, setup.password, password_length) == 0);
     exchange_release(&exchange);
 }
 

@@ -18,7 +18,8 @@ void check(int holds, const char *what, const char *file, int line) {
 
 void check_status(uint32_t given, uint32_t wanted, const char *what, const char *file, int line) {
     if (given != wanted)
-        fprintf(stderr, "%s:%d: %#x where %#x is wanted\n", file, line, (unsigned)given, (unsigned)wanted);
+        fprintf(stderr, "%s:%d: %#x where %#x is wanted\n", file, line, (unsigned)given,
+                (unsigned)wanted);
     check(given == wanted, what, file, line);
 }
 
@@ -33,7 +34,8 @@ size_t from_hex(const char *digits, uint8_t *bytes, size_t capacity) {
             digits++;
             continue;
         }
-        check(count < capacity && digit(digits[0]) >= 0 && digit(digits[1]) >= 0, digits, __FILE__, __LINE__);
+        check(count < capacity && digit(digits[0]) >= 0 && digit(digits[1]) >= 0, digits, __FILE__,
+              __LINE__);
         bytes[count++] = (uint8_t)(digit(digits[0]) << 4 | digit(digits[1]));
         digits += 2;
     }
@@ -56,7 +58,8 @@ int holds_utf16(const uint8_t *bytes, size_t length, const char *text) {
     size_t units = strlen(text);
     for (size_t at = 0; at + 2 * units <= length; at++) {
         size_t same = 0;
-        while (same < units && bytes[at + 2 * same] == (uint8_t)text[same] && bytes[at + 2 * same + 1] == 0)
+        while (same < units && bytes[at + 2 * same] == (uint8_t)text[same] &&
+               bytes[at + 2 * same + 1] == 0)
             same++;
         if (same == units)
             return 1;

@@ -28,7 +28,8 @@ static void quarter_round(uint32_t *s, int a, int b, int c, int d) {
     s[c] += s[d], s[b] = rotated(s[b] ^ s[c], 7);
 }
 
-void cipher_block(const uint8_t key[CIPHER_KEY], uint32_t counter, const uint8_t nonce[CIPHER_NONCE], uint8_t block[64]) {
+void cipher_block(const uint8_t key[CIPHER_KEY], uint32_t counter,
+                  const uint8_t nonce[CIPHER_NONCE], uint8_t block[64]) {
     uint32_t first[16] = {0x61707865, 0x3320646e, 0x79622d32, 0x6b206574};
     uint32_t s[16];
     for (int i = 0; i < 8; i++)
@@ -47,7 +48,8 @@ void cipher_block(const uint8_t key[CIPHER_KEY], uint32_t counter, const uint8_t
         store32(block + 4 * i, s[i] + first[i]);
 }
 
-static void apply(const uint8_t *key, const uint8_t *nonce, const uint8_t *from, size_t length, uint8_t *to) {
+static void apply(const uint8_t *key, const uint8_t *nonce, const uint8_t *from, size_t length,
+                  uint8_t *to) {
     uint8_t block[64];
     for (size_t at = 0; at < length; at++) {
         if (at % 64 == 0)
@@ -132,8 +134,8 @@ static void poly_end(poly *p, uint8_t tag[16]) {
     }
 }
 
-static void tag_of(const uint8_t *key, const uint8_t *nonce, const uint8_t *aad, size_t aad_length, const uint8_t *sealed,
-                   size_t length, uint8_t tag[CIPHER_TAG]) {
+static void tag_of(const uint8_t *key, const uint8_t *nonce, const uint8_t *aad, size_t aad_length,
+                   const uint8_t *sealed, size_t length, uint8_t tag[CIPHER_TAG]) {
     uint8_t block[64], lengths[16];
     poly p;
     cipher_block(key, 0, nonce, block);
@@ -146,14 +148,16 @@ static void tag_of(const uint8_t *key, const uint8_t *nonce, const uint8_t *aad,
     poly_end(&p, tag);
 }
 
-void cipher_seal(const uint8_t key[CIPHER_KEY], const uint8_t nonce[CIPHER_NONCE], const uint8_t *aad, size_t aad_length,
-                 const uint8_t *text, size_t length, uint8_t *sealed) {
+void cipher_seal(const uint8_t key[CIPHER_KEY], const uint8_t nonce[CIPHER_NONCE],
+                 const uint8_t *aad, size_t aad_length, const uint8_t *text, size_t length,
+                 uint8_t *sealed) {
     apply(key, nonce, text, length, sealed + CIPHER_TAG);
     tag_of(key, nonce, aad, aad_length, sealed + CIPHER_TAG, length, sealed);
 }
 
-int cipher_open(const uint8_t key[CIPHER_KEY], const uint8_t nonce[CIPHER_NONCE], const uint8_t *aad, size_t aad_length,
-                const uint8_t *sealed, size_t length, uint8_t *text) {
+int cipher_open(const uint8_t key[CIPHER_KEY], const uint8_t nonce[CIPHER_NONCE],
+                const uint8_t *aad, size_t aad_length, const uint8_t *sealed, size_t length,
+                uint8_t *text) {
     uint8_t tag[CIPHER_TAG], differing = 0;
     tag_of(key, nonce, aad, aad_length, sealed + CIPHER_TAG, length, tag);
     for (int i = 0; i < CIPHER_TAG; i++)

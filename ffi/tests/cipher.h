@@ -1,4 +1,5 @@
-/* ChaCha20 and Poly1305 as RFC 8439 joins them, for the mechanism of the tests alone: it is not made against timing. */
+/* ChaCha20 and Poly1305 as RFC 8439 joins them, for the mechanism of the tests alone: it is not
+ * made against timing. */
 #ifndef CIPHER_H
 #define CIPHER_H
 
@@ -10,14 +11,17 @@
 #define CIPHER_TAG 16
 
 /* A block of ChaCha20 (2.3). */
-void cipher_block(const uint8_t key[CIPHER_KEY], uint32_t counter, const uint8_t nonce[CIPHER_NONCE], uint8_t block[64]);
+void cipher_block(const uint8_t key[CIPHER_KEY], uint32_t counter,
+                  const uint8_t nonce[CIPHER_NONCE], uint8_t block[64]);
 
 /* The AEAD of 2.8: writes the tag and, behind it, `length` bytes. */
-void cipher_seal(const uint8_t key[CIPHER_KEY], const uint8_t nonce[CIPHER_NONCE], const uint8_t *aad, size_t aad_length,
-                 const uint8_t *text, size_t length, uint8_t *sealed);
+void cipher_seal(const uint8_t key[CIPHER_KEY], const uint8_t nonce[CIPHER_NONCE],
+                 const uint8_t *aad, size_t aad_length, const uint8_t *text, size_t length,
+                 uint8_t *sealed);
 
 /* 1 where the tag is right, and then `text` has `length` bytes. Else 0, and nothing was written. */
-int cipher_open(const uint8_t key[CIPHER_KEY], const uint8_t nonce[CIPHER_NONCE], const uint8_t *aad, size_t aad_length,
-                const uint8_t *sealed, size_t length, uint8_t *text);
+int cipher_open(const uint8_t key[CIPHER_KEY], const uint8_t nonce[CIPHER_NONCE],
+                const uint8_t *aad, size_t aad_length, const uint8_t *sealed, size_t length,
+                uint8_t *text);
 
 #endif

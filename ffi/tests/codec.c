@@ -1,5 +1,5 @@
-/* The codec: requests, credentials, the early result and the tokens of SPNEGO, by vectors that were spelled by hand or came
- * from other implementations, and buffers of every size. */
+/* The codec: requests, credentials, the early result and the tokens of SPNEGO, by vectors that were
+ * spelled by hand or came from other implementations, and buffers of every size. */
 #include <stdlib.h>
 #include <string.h>
 
@@ -10,19 +10,20 @@
 
 static const uint8_t empty[1];
 
-/* A call that writes bytes, at every capacity: nothing is written where they do not fit, and never anything behind them. */
-#define CHECK_WRITES(call, digits)                                                                                             \
-    do {                                                                                                                       \
-        uint8_t wanted[4096], out[4096 + 1];                                                                                   \
-        size_t size = from_hex(digits, wanted, sizeof wanted), written;                                                        \
-        for (size_t capacity = 0; capacity <= size + 1; capacity++) {                                                          \
-            memset(out, 0xc9, sizeof out);                                                                                     \
-            written = 12345;                                                                                                   \
-            CHECK_STATUS(call, capacity < size ? NEWAKSU_E_BUFFER_TOO_SMALL : NEWAKSU_OK);                                      \
-            CHECK(written == size && out[capacity < size ? 0 : size] == 0xc9);                                                 \
-            if (capacity >= size)                                                                                              \
-                CHECK_BYTES(out, written, digits);                                                                             \
-        }                                                                                                                      \
+/* A call that writes bytes, at every capacity: nothing is written where they do not fit, and never
+ * anything behind them. */
+#define CHECK_WRITES(call, digits)                                                         \
+    do {                                                                                   \
+        uint8_t wanted[4096], out[4096 + 1];                                               \
+        size_t size = from_hex(digits, wanted, sizeof wanted), written;                    \
+        for (size_t capacity = 0; capacity <= size + 1; capacity++) {                      \
+            memset(out, 0xc9, sizeof out);                                                 \
+            written = 12345;                                                               \
+            CHECK_STATUS(call, capacity < size ? NEWAKSU_E_BUFFER_TOO_SMALL : NEWAKSU_OK); \
+            CHECK(written == size && out[capacity < size ? 0 : size] == 0xc9);             \
+            if (capacity >= size)                                                          \
+                CHECK_BYTES(out, written, digits);                                         \
+        }                                                                                  \
     } while (0)
 
 static size_t bytes_of(const char *digits, uint8_t **bytes) {
@@ -66,13 +67,20 @@ static const struct vector vectors[] = {
     {"300f a003020102 a108 3006 3004 a002 0400", 2, "", NULL, NULL, NULL, NULL},
     {"3011 a003020106 a10a 3008 3006 a004 0402 4e31", 6, "4e31", NULL, NULL, NULL, NULL},
     {"300d a003020106 a406 0204 c0070308", 6, NULL, NULL, NULL, "c0070308", NULL},
-    /* of the tests of another implementation: version 6, a sealed proof, the code of a failed logon, a nonce */
-    {"3065 a003020106 a332 0430 01000000d8b30c7e37512184000000006c47c8e302599219d199dfbd0ff571613adf7403effca52316233755ff9120d8"
-     "a406 0204 c00700ea a522 0420 f88dd4b7559a94e5e87f2b2f94c23858a984fc07697df85776c957a31512eb32",
-     6, NULL, NULL, "01000000d8b30c7e37512184000000006c47c8e302599219d199dfbd0ff571613adf7403effca52316233755ff9120d8", "c00700ea",
-     "f88dd4b7559a94e5e87f2b2f94c23858a984fc07697df85776c957a31512eb32"},
+    /* of the tests of another implementation: version 6, a sealed proof, the code of a failed
+       logon, a nonce */
+    {"3065 a003020106 a332 0430 "
+     "01000000d8b30c7e37512184000000006c47c8e302599219d199dfbd0ff571613adf7403effca52316233755ff912"
+     "0d8"
+     "a406 0204 c00700ea a522 0420 "
+     "f88dd4b7559a94e5e87f2b2f94c23858a984fc07697df85776c957a31512eb32",
+     6, NULL, NULL,
+     "01000000d8b30c7e37512184000000006c47c8e302599219d199dfbd0ff571613adf7403effca52316233755ff912"
+     "0d8",
+     "c00700ea", "f88dd4b7559a94e5e87f2b2f94c23858a984fc07697df85776c957a31512eb32"},
     /* version 3 has a code and no nonce */
-    {"301f a003020103 a212 0410" BYTES_16 "a404 0202 0102", 3, NULL, BYTES_16, NULL, "00000102", NULL},
+    {"301f a003020103 a212 0410" BYTES_16 "a404 0202 0102", 3, NULL, BYTES_16, NULL, "00000102",
+     NULL},
 };
 
 static void check_request(newaksu_handle *request, const struct vector *vector) {
@@ -90,7 +98,8 @@ static void check_request(newaksu_handle *request, const struct vector *vector) 
     } else {
         from_hex(vector->code, wanted, sizeof wanted);
         CHECK_STATUS(newaksu_request_error_code(request, &code), NEWAKSU_OK);
-        CHECK(code == ((uint32_t)wanted[0] << 24 | (uint32_t)wanted[1] << 16 | (uint32_t)wanted[2] << 8 | wanted[3]));
+        CHECK(code == ((uint32_t)wanted[0] << 24 | (uint32_t)wanted[1] << 16 |
+                       (uint32_t)wanted[2] << 8 | wanted[3]));
     }
 }
 
@@ -116,7 +125,9 @@ static void build(newaksu_handle *request, const struct vector *vector) {
     if (vector->code == NULL)
         return;
     from_hex(vector->code, code, sizeof code);
-    CHECK_STATUS(newaksu_request_set_error_code(request, (uint32_t)code[0] << 24 | (uint32_t)code[1] << 16 | (uint32_t)code[2] << 8 | code[3]),
+    CHECK_STATUS(newaksu_request_set_error_code(request, (uint32_t)code[0] << 24 |
+                                                             (uint32_t)code[1] << 16 |
+                                                             (uint32_t)code[2] << 8 | code[3]),
                  NEWAKSU_OK);
 }
 
@@ -148,19 +159,24 @@ static void forms_of_a_length(void) {
 
 /* A code is not written below version 3 and at version 5, a nonce below version 5 is not. */
 static void what_a_version_leaves_out(void) {
-    static const char *const written_at[] = {"3005 a003020102", "300d a003020103 a406 0204 c0070308", "300d a003020104 a406 0204 c0070308"};
+    static const char *const written_at[] = {"3005 a003020102",
+                                             "300d a003020103 a406 0204 c0070308",
+                                             "300d a003020104 a406 0204 c0070308"};
     newaksu_handle request = NEWAKSU_EMPTY;
     uint8_t nonce[32] = {0};
     CHECK_STATUS(newaksu_request_new(&request, 2), NEWAKSU_OK);
     CHECK_STATUS(newaksu_request_set_error_code(&request, 0xc0070308), NEWAKSU_OK);
-    CHECK_STATUS(newaksu_request_set_field(&request, NEWAKSU_CLIENT_NONCE, nonce, sizeof nonce), NEWAKSU_OK);
+    CHECK_STATUS(newaksu_request_set_field(&request, NEWAKSU_CLIENT_NONCE, nonce, sizeof nonce),
+                 NEWAKSU_OK);
     for (uint32_t version = 2; version <= 4; version++) {
         CHECK_STATUS(newaksu_request_set_version(&request, version), NEWAKSU_OK);
-        CHECK_WRITES(newaksu_request_encode(&request, out, capacity, &written), written_at[version - 2]);
+        CHECK_WRITES(newaksu_request_encode(&request, out, capacity, &written),
+                     written_at[version - 2]);
     }
     CHECK_STATUS(newaksu_request_set_version(&request, 5), NEWAKSU_OK);
     CHECK_WRITES(newaksu_request_encode(&request, out, capacity, &written),
-                 "3029 a003020105 a522 0420 0000000000000000000000000000000000000000000000000000000000000000");
+                 "3029 a003020105 a522 0420 "
+                 "0000000000000000000000000000000000000000000000000000000000000000");
     CHECK_STATUS(newaksu_request_clear_field(&request, NEWAKSU_CLIENT_NONCE), NEWAKSU_OK);
     CHECK_STATUS(newaksu_request_clear_field(&request, NEWAKSU_ERROR_CODE), NEWAKSU_OK);
     CHECK_WRITES(newaksu_request_encode(&request, out, capacity, &written), "3005 a003020105");
@@ -169,9 +185,18 @@ static void what_a_version_leaves_out(void) {
 
 /* Faults, the first of each kind that the grammar has; the handle keeps what it had. */
 static void faults(void) {
-    static const char *const ends[] = {"", "31", "30", "3080", "308400000001", "308310000100", "3003 a003", "300f a003020102 a108 3006 3004 a002 04",
+    static const char *const ends[] = {"",
+                                       "31",
+                                       "30",
+                                       "3080",
+                                       "308400000001",
+                                       "308310000100",
+                                       "3003 a003",
+                                       "300f a003020102 a108 3006 3004 a002 04",
                                        "3008 a003020106 a28a"};
-    static const char *const invalid[] = {"3007 a003020106 a28a", "300f a003020102 a108 3006 3004 a002 0500", "3003 a10100", "3005 a003040106"};
+    static const char *const invalid[] = {"3007 a003020106 a28a",
+                                          "300f a003020102 a108 3006 3004 a002 0500", "3003 a10100",
+                                          "3005 a003040106"};
     newaksu_handle request = NEWAKSU_EMPTY;
     CHECK_STATUS(decode(&request, vectors[2].bytes), NEWAKSU_OK);
     for (size_t i = 0; i < sizeof ends / sizeof *ends; i++)
@@ -207,7 +232,9 @@ static uint32_t read_pieces(newaksu_handle *reader, const char *digits, size_t s
     uint32_t status;
     CHECK_STATUS(newaksu_reader_new(reader), NEWAKSU_OK);
     for (size_t at = 0; at < length; at += size)
-        CHECK_STATUS(newaksu_reader_feed(reader, bytes + at, length - at < size ? length - at : size), NEWAKSU_OK);
+        CHECK_STATUS(
+            newaksu_reader_feed(reader, bytes + at, length - at < size ? length - at : size),
+            NEWAKSU_OK);
     CHECK_STATUS(newaksu_reader_feed(reader, empty, 0), NEWAKSU_OK);
     status = newaksu_reader_finish(reader);
     free(bytes);
@@ -241,9 +268,11 @@ static void the_longest_request(void) {
     CHECK(written == 1048581);
     CHECK_BYTES(out, 25, "3083100000 a003020106 a2830ffff6 04830ffff1 0000000000");
     CHECK_STATUS(newaksu_request_decode(&request, out, written), NEWAKSU_OK);
-    CHECK_STATUS(newaksu_request_field(&request, NEWAKSU_AUTH_INFO, out, 0, &written), NEWAKSU_E_BUFFER_TOO_SMALL);
+    CHECK_STATUS(newaksu_request_field(&request, NEWAKSU_AUTH_INFO, out, 0, &written),
+                 NEWAKSU_E_BUFFER_TOO_SMALL);
     CHECK(written == most);
-    CHECK_STATUS(newaksu_request_set_field(&request, NEWAKSU_AUTH_INFO, octets, most + 1), NEWAKSU_OK);
+    CHECK_STATUS(newaksu_request_set_field(&request, NEWAKSU_AUTH_INFO, octets, most + 1),
+                 NEWAKSU_OK);
     CHECK_STATUS(newaksu_request_encode(&request, out, 1048581, &written), NEWAKSU_INVALID_DATA);
     CHECK(written == 0);
     CHECK_STATUS(newaksu_release(&request), NEWAKSU_OK);
@@ -253,21 +282,29 @@ static void the_longest_request(void) {
 
 /* The user `a`, and the example of MS-CSSP 2.2.1.2 as it is spelled by hand. */
 static void credentials(void) {
-    static const char *const user_a = "3019 a003020101 a112 0410 300e a002 0400 a104 0402 6100 a202 0400";
-    static const char *const whole = "3027 a003020101 a120 041e 301c a008 0406 44004f004d00 a108 0406 61006e006e00 a206 0404 70007700";
+    static const char *const user_a =
+        "3019 a003020101 a112 0410 300e a002 0400 a104 0402 6100 a202 0400";
+    static const char *const whole = "3027 a003020101 a120 041e 301c a008 0406 44004f004d00 a108 "
+                                     "0406 61006e006e00 a206 0404 70007700";
     newaksu_handle held = NEWAKSU_EMPTY;
     uint8_t *bytes;
     size_t length = bytes_of(whole, &bytes);
     CHECK_STATUS(newaksu_credentials_decode(&held, bytes, length), NEWAKSU_OK);
     free(bytes);
-    CHECK_WRITES(newaksu_credentials_text(&held, NEWAKSU_DOMAIN, out, capacity, &written), "44004f004d00");
-    CHECK_WRITES(newaksu_credentials_text(&held, NEWAKSU_USER, out, capacity, &written), "61006e006e00");
-    CHECK_WRITES(newaksu_credentials_text(&held, NEWAKSU_PASSWORD, out, capacity, &written), "70007700");
+    CHECK_WRITES(newaksu_credentials_text(&held, NEWAKSU_DOMAIN, out, capacity, &written),
+                 "44004f004d00");
+    CHECK_WRITES(newaksu_credentials_text(&held, NEWAKSU_USER, out, capacity, &written),
+                 "61006e006e00");
+    CHECK_WRITES(newaksu_credentials_text(&held, NEWAKSU_PASSWORD, out, capacity, &written),
+                 "70007700");
     CHECK_WRITES(newaksu_credentials_encode(&held, out, capacity, &written), whole);
-    CHECK_STATUS(newaksu_credentials_new(&held, empty, 0, (const uint8_t *)"a\0", 2, empty, 0), NEWAKSU_OK);
+    CHECK_STATUS(newaksu_credentials_new(&held, empty, 0, (const uint8_t *)"a\0", 2, empty, 0),
+                 NEWAKSU_OK);
     CHECK_WRITES(newaksu_credentials_encode(&held, out, capacity, &written), user_a);
-    CHECK_STATUS(newaksu_credentials_new(&held, empty, 0, (const uint8_t *)"a", 1, empty, 0), NEWAKSU_E_INVALID_PARAMETER);
-    CHECK_STATUS(newaksu_credentials_new(&held, empty, 0, (const uint8_t *)"\x00\xd8", 2, empty, 0), NEWAKSU_E_INVALID_PARAMETER);
+    CHECK_STATUS(newaksu_credentials_new(&held, empty, 0, (const uint8_t *)"a", 1, empty, 0),
+                 NEWAKSU_E_INVALID_PARAMETER);
+    CHECK_STATUS(newaksu_credentials_new(&held, empty, 0, (const uint8_t *)"\x00\xd8", 2, empty, 0),
+                 NEWAKSU_E_INVALID_PARAMETER);
     CHECK_WRITES(newaksu_credentials_encode(&held, out, capacity, &written), user_a);
     CHECK_STATUS(newaksu_release(&held), NEWAKSU_OK);
 }
@@ -278,10 +315,14 @@ static void credentials_that_are_none(void) {
         const char *bytes;
         uint32_t status;
     } cases[] = {{"", NEWAKSU_E_INVALID_TOKEN},
-                 {"3019 a003020102 a112 0410 300e a002 0400 a104 0402 6100 a202 0400", NEWAKSU_E_UNSUPPORTED_FUNCTION},
-                 {"3019 a003020103 a112 0410 300e a002 0400 a104 0402 6100 a202 0400", NEWAKSU_E_INVALID_TOKEN},
-                 {"3018 a003020101 a111 040f 300d a002 0400 a103 0401 61 a202 0400", NEWAKSU_E_INVALID_PARAMETER},
-                 {"3019 a003020101 a112 0410 300e a002 0400 a104 0402 00d8 a202 0400", NEWAKSU_E_INVALID_PARAMETER}};
+                 {"3019 a003020102 a112 0410 300e a002 0400 a104 0402 6100 a202 0400",
+                  NEWAKSU_E_UNSUPPORTED_FUNCTION},
+                 {"3019 a003020103 a112 0410 300e a002 0400 a104 0402 6100 a202 0400",
+                  NEWAKSU_E_INVALID_TOKEN},
+                 {"3018 a003020101 a111 040f 300d a002 0400 a103 0401 61 a202 0400",
+                  NEWAKSU_E_INVALID_PARAMETER},
+                 {"3019 a003020101 a112 0410 300e a002 0400 a104 0402 00d8 a202 0400",
+                  NEWAKSU_E_INVALID_PARAMETER}};
     newaksu_handle held = NEWAKSU_EMPTY;
     for (size_t i = 0; i < sizeof cases / sizeof *cases; i++) {
         uint8_t *bytes;
@@ -295,13 +336,17 @@ static void credentials_that_are_none(void) {
 static void early_results(void) {
     uint32_t result = 9;
     CHECK_WRITES(newaksu_early_encode(NEWAKSU_EARLY_SUCCESS, out, capacity, &written), "00000000");
-    CHECK_WRITES(newaksu_early_encode(NEWAKSU_EARLY_ACCESS_DENIED, out, capacity, &written), "05000000");
-    CHECK_STATUS(newaksu_early_decode((const uint8_t *)"\5\0\0\1", 4, &result), NEWAKSU_INVALID_DATA);
-    CHECK_STATUS(newaksu_early_decode((const uint8_t *)"\5\0\0", 3, &result), NEWAKSU_UNEXPECTED_EOF);
+    CHECK_WRITES(newaksu_early_encode(NEWAKSU_EARLY_ACCESS_DENIED, out, capacity, &written),
+                 "05000000");
+    CHECK_STATUS(newaksu_early_decode((const uint8_t *)"\5\0\0\1", 4, &result),
+                 NEWAKSU_INVALID_DATA);
+    CHECK_STATUS(newaksu_early_decode((const uint8_t *)"\5\0\0", 3, &result),
+                 NEWAKSU_UNEXPECTED_EOF);
     CHECK(result == 9);
     CHECK_STATUS(newaksu_early_decode((const uint8_t *)"\5\0\0\0", 4, &result), NEWAKSU_OK);
     CHECK(result == NEWAKSU_EARLY_ACCESS_DENIED);
-    CHECK_STATUS(newaksu_early_decode((const uint8_t *)"\0\0\0\0and more", 12, &result), NEWAKSU_OK);
+    CHECK_STATUS(newaksu_early_decode((const uint8_t *)"\0\0\0\0and more", 12, &result),
+                 NEWAKSU_OK);
     CHECK(result == NEWAKSU_EARLY_SUCCESS);
 }
 

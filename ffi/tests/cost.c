@@ -1,4 +1,5 @@
-/* Decodes or encodes the request of a line of hex many times, so that a counter of instructions can say what one costs.
+/* Decodes or encodes the request of a line of hex many times, so that a counter of instructions can
+ * say what one costs.
  *
  *     cost decode|encode TIMES
  *

@@ -1,5 +1,5 @@
-/* Both ends against each other over a mechanism that encrypts: every pair of versions, every form of a name, both kinds of
- * delegation, and messages that are followed by something. */
+/* Both ends against each other over a mechanism that encrypts: every pair of versions, every form
+ * of a name, both kinds of delegation, and messages that are followed by something. */
 #include <string.h>
 
 #include "check.h"
@@ -14,7 +14,8 @@ static uint32_t tells_code(uint32_t version) {
     return version >= 3 && version != 5;
 }
 
-/* Ends match where both are below version 5 or both are not: below it the proof is the key itself. */
+/* Ends match where both are below version 5 or both are not: below it the proof is the key itself.
+ */
 static void check_versions(const struct exchange *exchange, const struct setup *setup) {
     const newaksu_refusal *told = &exchange->refusals[THE_CLIENT];
     if ((setup->client_version < 5) == (setup->server_version < 5)) {
@@ -52,8 +53,10 @@ static void peers_that_are_too_old(void) {
     check_withheld(&exchange);
     CHECK_STATUS(exchange.status[THE_SERVER], NEWAKSU_E_DOWNGRADE_DETECTED);
     CHECK_STATUS(exchange.status[THE_CLIENT], NEWAKSU_E_INVALID_TOKEN);
-    CHECK(exchange.refusals[THE_CLIENT].has_nstatus == 1 && exchange.refusals[THE_CLIENT].nstatus == DOWNGRADE_CODE);
-    CHECK(exchange.parties[THE_CLIENT].seals_asked == 0 && exchange.parties[THE_SERVER].seals_asked == 0);
+    CHECK(exchange.refusals[THE_CLIENT].has_nstatus == 1 &&
+          exchange.refusals[THE_CLIENT].nstatus == DOWNGRADE_CODE);
+    CHECK(exchange.parties[THE_CLIENT].seals_asked == 0 &&
+          exchange.parties[THE_SERVER].seals_asked == 0);
     exchange_release(&exchange);
     setup.client_version = 6;
     setup.server_version = 4;
@@ -61,7 +64,8 @@ static void peers_that_are_too_old(void) {
     exchange_run(&exchange, NULL, NULL);
     check_withheld(&exchange);
     CHECK_STATUS(exchange.status[THE_CLIENT], NEWAKSU_E_DOWNGRADE_DETECTED);
-    CHECK(strcmp(exchange.refusals[THE_CLIENT].name, "DowngradeDetected") == 0 && exchange.parties[THE_CLIENT].seals_asked == 0);
+    CHECK(strcmp(exchange.refusals[THE_CLIENT].name, "DowngradeDetected") == 0 &&
+          exchange.parties[THE_CLIENT].seals_asked == 0);
     exchange_release(&exchange);
 }
 
@@ -74,8 +78,10 @@ static void delegate_as(const char *name, const char *password, const char *user
     exchange_make(&exchange, &setup);
     exchange_run(&exchange, NULL, NULL);
     check_delegated(&exchange, name, password);
-    CHECK(exchange.parties[THE_SERVER].peers_asked == 1 && exchange.parties[THE_SERVER].steps_asked == 2);
-    CHECK(exchange.parties[THE_CLIENT].steps_asked == 2 && exchange.parties[THE_CLIENT].seals_asked == 2);
+    CHECK(exchange.parties[THE_SERVER].peers_asked == 1 &&
+          exchange.parties[THE_SERVER].steps_asked == 2);
+    CHECK(exchange.parties[THE_CLIENT].steps_asked == 2 &&
+          exchange.parties[THE_CLIENT].seals_asked == 2);
     exchange_release(&exchange);
 }
 
@@ -86,7 +92,8 @@ static void every_form_of_a_name(void) {
     delegate_as("DOM\\ann", "pw", "dom\\ANN");
     delegate_as("ann@example.com", "pw", "Ann@Example.COM");
     delegate_as("D\xc3\x96M\\\xe2\x82\xac\xf0\x9f\x98\x80", "p\xc3\xa4ss", NULL);
-    delegate_as("D\xc3\x96M\\\xe2\x82\xac\xf0\x9f\x98\x80", "p\xc3\xa4ss", "d\xc3\x96m\\\xe2\x82\xac\xf0\x9f\x98\x80");
+    delegate_as("D\xc3\x96M\\\xe2\x82\xac\xf0\x9f\x98\x80", "p\xc3\xa4ss",
+                "d\xc3\x96m\\\xe2\x82\xac\xf0\x9f\x98\x80");
     memset(name, 'n', sizeof name);
     memset(password, 'p', sizeof password);
     name[sizeof name - 1] = password[sizeof password - 1] = 0;
@@ -143,7 +150,8 @@ static void add_field(newaksu_handle *request, uint32_t field) {
         CHECK_STATUS(newaksu_request_set_field(request, field, junk, sizeof junk), NEWAKSU_OK);
 }
 
-/* Puts sealed fields into a message where there are none, as zeros: what a host hands its end is of that form. */
+/* Puts sealed fields into a message where there are none, as zeros: what a host hands its end is of
+ * that form. */
 static void add_fields(void *context, int number, uint8_t *message, size_t *length) {
     newaksu_handle request = NEWAKSU_EMPTY;
     (void)context;
@@ -162,7 +170,8 @@ static void fields_that_are_not_due(void) {
     exchange_make(&exchange, &setup);
     exchange_run(&exchange, add_fields, NULL);
     check_delegated(&exchange, setup.name, setup.password);
-    CHECK(exchange.parties[THE_CLIENT].unseals_asked == 1 && exchange.parties[THE_SERVER].unseals_asked == 2);
+    CHECK(exchange.parties[THE_CLIENT].unseals_asked == 1 &&
+          exchange.parties[THE_SERVER].unseals_asked == 2);
     exchange_make(&usual, &setup);
     exchange_run(&usual, NULL, NULL);
     for (int i = 0; i < 5; i++)
@@ -179,13 +188,16 @@ static void nonces_that_are_drawn(void) {
     exchange_make(&second, &setup);
     exchange_run(&first, NULL, NULL);
     exchange_run(&second, NULL, NULL);
-    CHECK(first.lengths[2] == second.lengths[2] && memcmp(first.messages[2], second.messages[2], first.lengths[2]) != 0);
-    CHECK(memcmp(first.messages[2] + first.lengths[2] - 32, second.messages[2] + second.lengths[2] - 32, 32) != 0);
+    CHECK(first.lengths[2] == second.lengths[2] &&
+          memcmp(first.messages[2], second.messages[2], first.lengths[2]) != 0);
+    CHECK(memcmp(first.messages[2] + first.lengths[2] - 32,
+                 second.messages[2] + second.lengths[2] - 32, 32) != 0);
     exchange_release(&first);
     exchange_release(&second);
 }
 
-/* A mechanism of two tokens: the server waits for the client's proof once its own token ended the authentication. */
+/* A mechanism of two tokens: the server waits for the client's proof once its own token ended the
+ * authentication. */
 static void two_tokens(uint32_t version, uint8_t flipped) {
     struct setup setup = usual_setup();
     struct exchange exchange;
@@ -196,7 +208,8 @@ static void two_tokens(uint32_t version, uint8_t flipped) {
     exchange.parties[THE_CLIENT].two_tokens = exchange.parties[THE_SERVER].two_tokens = 1;
     exchange_turn(&exchange, THE_CLIENT, NULL, 0);
     exchange_turn(&exchange, THE_SERVER, exchange.messages[0], exchange.lengths[0]);
-    CHECK_STATUS(newaksu_end_state(newaksu_host_end(exchange.ends[THE_SERVER]), &state), NEWAKSU_OK);
+    CHECK_STATUS(newaksu_end_state(newaksu_host_end(exchange.ends[THE_SERVER]), &state),
+                 NEWAKSU_OK);
     CHECK(state == NEWAKSU_STATE_PUB_KEY_INFO);
     exchange_turn(&exchange, THE_CLIENT, exchange.messages[1], exchange.lengths[1]);
     /* the first byte of the proof's signature: behind the version, and a3 LL 04 LL */
@@ -210,7 +223,8 @@ static void two_tokens(uint32_t version, uint8_t flipped) {
         exchange_turn(&exchange, THE_SERVER, exchange.messages[4], exchange.lengths[4]);
         check_delegated(&exchange, setup.name, setup.password);
     }
-    CHECK(exchange.parties[THE_SERVER].steps_asked == 1 && exchange.parties[THE_CLIENT].steps_asked == 2);
+    CHECK(exchange.parties[THE_SERVER].steps_asked == 1 &&
+          exchange.parties[THE_CLIENT].steps_asked == 2);
     exchange_release(&exchange);
 }
 
@@ -223,7 +237,8 @@ static void a_client_that_ends_at_once(void) {
     exchange_run(&exchange, NULL, NULL);
     check_withheld(&exchange);
     CHECK_STATUS(exchange.status[THE_CLIENT], NEWAKSU_E_INTERNAL_ERROR);
-    CHECK(strcmp(exchange.refusals[THE_CLIENT].reason, "the context ended before any request came") == 0);
+    CHECK(strcmp(exchange.refusals[THE_CLIENT].reason,
+                 "the context ended before any request came") == 0);
     exchange_release(&exchange);
 }
 

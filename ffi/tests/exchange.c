@@ -31,7 +31,8 @@ static void make_client(struct exchange *exchange, const struct setup *setup) {
     settings.user_length = strlen(setup->name);
     settings.password = setup->password;
     settings.password_length = strlen(setup->password);
-    CHECK_STATUS(newaksu_host_client(&settings, &party_mechanism, &exchange->parties[THE_CLIENT], &exchange->ends[THE_CLIENT]),
+    CHECK_STATUS(newaksu_host_client(&settings, &party_mechanism, &exchange->parties[THE_CLIENT],
+                                     &exchange->ends[THE_CLIENT]),
                  NEWAKSU_OK);
 }
 
@@ -47,7 +48,8 @@ static void make_server(struct exchange *exchange, const struct setup *setup) {
     settings.users = &setup->user;
     settings.user_lengths = &user_length;
     settings.users_count = setup->user == NULL ? 0 : 1;
-    CHECK_STATUS(newaksu_host_server(&settings, &party_mechanism, &exchange->parties[THE_SERVER], &exchange->ends[THE_SERVER]),
+    CHECK_STATUS(newaksu_host_server(&settings, &party_mechanism, &exchange->parties[THE_SERVER],
+                                     &exchange->ends[THE_SERVER]),
                  NEWAKSU_OK);
 }
 
@@ -66,12 +68,15 @@ void exchange_turn(struct exchange *exchange, int end, const uint8_t *message, s
     if (alone != NULL)
         memcpy(alone, message, length);
     CHECK(exchange->sent < MOST_MESSAGES);
-    exchange->status[end] = newaksu_host_process(exchange->ends[end], alone != NULL || length == 0 ? alone : message, length, &turn);
+    exchange->status[end] = newaksu_host_process(
+        exchange->ends[end], alone != NULL || length == 0 ? alone : message, length, &turn);
     exchange->progress[end] = turn.progress;
     free(alone);
-    CHECK((exchange->status[end] == NEWAKSU_OK) == (turn.progress == NEWAKSU_CONTINUES || turn.progress == NEWAKSU_FINISHED));
+    CHECK((exchange->status[end] == NEWAKSU_OK) ==
+          (turn.progress == NEWAKSU_CONTINUES || turn.progress == NEWAKSU_FINISHED));
     if (turn.progress == NEWAKSU_REFUSED)
-        CHECK_STATUS(newaksu_host_refusal(exchange->ends[end], &exchange->refusals[end]), NEWAKSU_OK);
+        CHECK_STATUS(newaksu_host_refusal(exchange->ends[end], &exchange->refusals[end]),
+                     NEWAKSU_OK);
     if (turn.send_length == 0)
         return;
     CHECK(turn.send_length <= LONGEST_MESSAGE);
@@ -85,7 +90,8 @@ void exchange_run(struct exchange *exchange, tamper change, void *context) {
     for (int end = THE_CLIENT;; end = 1 - end) {
         int before = exchange->sent;
         exchange_turn(exchange, end, delivered, length);
-        if (exchange->sent == before || (end == THE_CLIENT && exchange->progress[end] == NEWAKSU_REFUSED))
+        if (exchange->sent == before ||
+            (end == THE_CLIENT && exchange->progress[end] == NEWAKSU_REFUSED))
             return;
         length = exchange->lengths[before];
         memcpy(delivered, exchange->messages[before], length);
@@ -110,13 +116,18 @@ void check_delegated(const struct exchange *exchange, const char *name, const ch
     size_t user_length, secret_length;
     CHECK_STATUS(exchange->status[THE_CLIENT], NEWAKSU_OK);
     CHECK_STATUS(exchange->status[THE_SERVER], NEWAKSU_OK);
-    CHECK(exchange->progress[THE_CLIENT] == NEWAKSU_FINISHED && exchange->progress[THE_SERVER] == NEWAKSU_FINISHED);
-    CHECK_STATUS(newaksu_host_identity(exchange->ends[THE_SERVER], &user, &user_length, &secret, &secret_length), NEWAKSU_OK);
+    CHECK(exchange->progress[THE_CLIENT] == NEWAKSU_FINISHED &&
+          exchange->progress[THE_SERVER] == NEWAKSU_FINISHED);
+    CHECK_STATUS(newaksu_host_identity(exchange->ends[THE_SERVER], &user, &user_length, &secret,
+                                       &secret_length),
+                 NEWAKSU_OK);
     CHECK(is_text(user, user_length, name) && is_text(secret, secret_length, password));
-    CHECK_STATUS(newaksu_host_identity(exchange->ends[THE_CLIENT], &user, &user_length, &secret, &secret_length),
+    CHECK_STATUS(newaksu_host_identity(exchange->ends[THE_CLIENT], &user, &user_length, &secret,
+                                       &secret_length),
                  NEWAKSU_E_OUT_OF_SEQUENCE);
     for (int i = 0; i < exchange->sent; i++)
-        CHECK(password[0] == 0 || !holds_utf16(exchange->messages[i], exchange->lengths[i], password));
+        CHECK(password[0] == 0 ||
+              !holds_utf16(exchange->messages[i], exchange->lengths[i], password));
 }
 
 void check_withheld(const struct exchange *exchange) {
@@ -124,8 +135,10 @@ void check_withheld(const struct exchange *exchange) {
     size_t user_length, secret_length;
     CHECK(!exchange->parties[THE_CLIENT].saw_password);
     CHECK(exchange->progress[THE_CLIENT] != NEWAKSU_FINISHED);
-    CHECK_STATUS(newaksu_host_identity(exchange->ends[THE_SERVER], &user, &user_length, &secret, &secret_length),
+    CHECK_STATUS(newaksu_host_identity(exchange->ends[THE_SERVER], &user, &user_length, &secret,
+                                       &secret_length),
                  NEWAKSU_E_OUT_OF_SEQUENCE);
     for (int i = 0; i < exchange->sent; i++)
-        CHECK(!holds_utf16(exchange->messages[i], exchange->lengths[i], exchange->parties[THE_CLIENT].password));
+        CHECK(!holds_utf16(exchange->messages[i], exchange->lengths[i],
+                           exchange->parties[THE_CLIENT].password));
 }

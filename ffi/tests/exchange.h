@@ -41,7 +41,8 @@ struct setup usual_setup(void);
 /* Makes both ends. */
 void exchange_make(struct exchange *exchange, const struct setup *setup);
 
-/* Has them send each other messages until one is finished or refuses, and what that sent was delivered. */
+/* Has them send each other messages until one is finished or refuses, and what that sent was
+ * delivered. */
 void exchange_run(struct exchange *exchange, tamper change, void *context);
 
 /* One call of an end. What it sends is kept as the next message. */
@@ -49,10 +50,12 @@ void exchange_turn(struct exchange *exchange, int end, const uint8_t *message, s
 
 void exchange_release(struct exchange *exchange);
 
-/* The server has these credentials, the client is done, and nothing of the password went over the channel in clear. */
+/* The server has these credentials, the client is done, and nothing of the password went over the
+ * channel in clear. */
 void check_delegated(const struct exchange *exchange, const char *name, const char *password);
 
-/* The server has no credentials, and the client's were never given out, not even to its mechanism. */
+/* The server has no credentials, and the client's were never given out, not even to its mechanism.
+ */
 void check_withheld(const struct exchange *exchange);
 
 #endif

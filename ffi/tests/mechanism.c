@@ -6,10 +6,11 @@
  *
  * or, where it has two:
  *
- *     client   "K1", what it drew, a tag of 16 bytes under the password, and the user's name, which the tag covers
- *     server   "K2" and what it drew, 16 bytes
+ *     client   "K1", what it drew, a tag of 16 bytes under the password, and the user's name, which
+ * the tag covers server   "K2" and what it drew, 16 bytes
  *
- * A blob is the tag of its text and the encrypted text; the nonce is the direction and the number of the message. */
+ * A blob is the tag of its text and the encrypted text; the nonce is the direction and the number
+ * of the message. */
 #include "mechanism.h"
 
 #include <string.h>
@@ -21,7 +22,8 @@
 #define T3_HEAD (2 + CIPHER_TAG)
 #define K1_HEAD (2 + DRAWN + CIPHER_TAG)
 
-void party_init(struct party *party, int is_server, const char *name, const char *password, uint8_t drawn) {
+void party_init(struct party *party, int is_server, const char *name, const char *password,
+                uint8_t drawn) {
     memset(party, 0, sizeof *party);
     party->is_server = is_server;
     strncpy(party->name, name, sizeof party->name - 1);
@@ -33,10 +35,12 @@ static void password_key(const struct party *party, uint8_t key[CIPHER_KEY]) {
     memcpy(key, party->password, CIPHER_KEY);
 }
 
-/* The key of both: a block of ChaCha20 under the password, and one under that for each of what was drawn. */
+/* The key of both: a block of ChaCha20 under the password, and one under that for each of what was
+ * drawn. */
 static void derive(struct party *party) {
     uint8_t block[64] = {0}, nonce[CIPHER_NONCE] = {0};
-    const uint8_t *drawn[2] = {party->is_server ? party->peer : party->own, party->is_server ? party->own : party->peer};
+    const uint8_t *drawn[2] = {party->is_server ? party->peer : party->own,
+                               party->is_server ? party->own : party->peer};
     password_key(party, block);
     for (int i = 0; i < 2; i++) {
         memcpy(nonce, drawn[i], sizeof nonce);
@@ -77,7 +81,8 @@ static uint32_t write_t3(struct party *party, newaksu_bytes *output) {
 
 static uint32_t read_t3(struct party *party, const uint8_t *token, size_t length) {
     uint8_t nonce[CIPHER_NONCE];
-    if (length < T3_HEAD || length - T3_HEAD >= sizeof party->peer_name || memcmp(token, "T3", 2) != 0)
+    if (length < T3_HEAD || length - T3_HEAD >= sizeof party->peer_name ||
+        memcmp(token, "T3", 2) != 0)
         return NEWAKSU_E_INVALID_TOKEN;
     t3_nonce(nonce);
     if (!cipher_open(party->key, nonce, token + T3_HEAD, length - T3_HEAD, token + 2, 0, NULL))
@@ -96,9 +101,11 @@ static uint32_t write_k1(struct party *party, newaksu_bytes *output) {
     return newaksu_bytes_append(output, party->name, strlen(party->name));
 }
 
-static uint32_t read_k1(struct party *party, const uint8_t *token, size_t length, newaksu_bytes *output) {
+static uint32_t read_k1(struct party *party, const uint8_t *token, size_t length,
+                        newaksu_bytes *output) {
     uint8_t key[CIPHER_KEY], nonce[CIPHER_NONCE];
-    if (party->stage != 0 || length < K1_HEAD || length - K1_HEAD >= sizeof party->peer_name || memcmp(token, "K1", 2) != 0)
+    if (party->stage != 0 || length < K1_HEAD || length - K1_HEAD >= sizeof party->peer_name ||
+        memcmp(token, "K1", 2) != 0)
         return NEWAKSU_E_INVALID_TOKEN;
     password_key(party, key);
     t3_nonce(nonce);
@@ -112,12 +119,14 @@ static uint32_t read_k1(struct party *party, const uint8_t *token, size_t length
 }
 
 /* A client of two tokens: its second step says nothing. */
-static uint32_t step_of_two(struct party *party, const uint8_t *token, size_t length, newaksu_bytes *output) {
+static uint32_t step_of_two(struct party *party, const uint8_t *token, size_t length,
+                            newaksu_bytes *output) {
     if (party->is_server)
         return read_k1(party, token, length, output);
     if (party->stage == 0 && length == 0) {
         party->stage = 1;
-        return write_k1(party, output) == NEWAKSU_OK ? NEWAKSU_CONTINUE_NEEDED : NEWAKSU_E_INSUFFICIENT_MEMORY;
+        return write_k1(party, output) == NEWAKSU_OK ? NEWAKSU_CONTINUE_NEEDED
+                                                     : NEWAKSU_E_INSUFFICIENT_MEMORY;
     }
     if (party->stage != 1 || !is_drawn("K2", token, length))
         return NEWAKSU_E_INVALID_TOKEN;
@@ -127,10 +136,12 @@ static uint32_t step_of_two(struct party *party, const uint8_t *token, size_t le
     return NEWAKSU_OK;
 }
 
-static uint32_t client_step(struct party *party, const uint8_t *token, size_t length, newaksu_bytes *output) {
+static uint32_t client_step(struct party *party, const uint8_t *token, size_t length,
+                            newaksu_bytes *output) {
     if (party->stage == 0 && length == 0) {
         party->stage = 1;
-        return write_drawn(party, "T1", output) == NEWAKSU_OK ? NEWAKSU_CONTINUE_NEEDED : NEWAKSU_E_INSUFFICIENT_MEMORY;
+        return write_drawn(party, "T1", output) == NEWAKSU_OK ? NEWAKSU_CONTINUE_NEEDED
+                                                              : NEWAKSU_E_INSUFFICIENT_MEMORY;
     }
     if (party->stage != 1 || !is_drawn("T2", token, length))
         return NEWAKSU_E_INVALID_TOKEN;
@@ -140,12 +151,14 @@ static uint32_t client_step(struct party *party, const uint8_t *token, size_t le
     return write_t3(party, output);
 }
 
-static uint32_t server_step(struct party *party, const uint8_t *token, size_t length, newaksu_bytes *output) {
+static uint32_t server_step(struct party *party, const uint8_t *token, size_t length,
+                            newaksu_bytes *output) {
     if (party->stage == 0 && is_drawn("T1", token, length)) {
         party->stage = 1;
         memcpy(party->peer, token + 2, DRAWN);
         derive(party);
-        return write_drawn(party, "T2", output) == NEWAKSU_OK ? NEWAKSU_CONTINUE_NEEDED : NEWAKSU_E_INSUFFICIENT_MEMORY;
+        return write_drawn(party, "T2", output) == NEWAKSU_OK ? NEWAKSU_CONTINUE_NEEDED
+                                                              : NEWAKSU_E_INSUFFICIENT_MEMORY;
     }
     if (party->stage != 1)
         return NEWAKSU_E_INVALID_TOKEN;
@@ -165,7 +178,8 @@ static uint32_t step(void *context, const uint8_t *token, size_t length, newaksu
         return NEWAKSU_OK;
     if (party->two_tokens)
         return step_of_two(party, token, length, output);
-    return party->is_server ? server_step(party, token, length, output) : client_step(party, token, length, output);
+    return party->is_server ? server_step(party, token, length, output)
+                            : client_step(party, token, length, output);
 }
 
 static uint32_t peer(void *context, newaksu_bytes *name) {
@@ -187,7 +201,8 @@ static uint32_t seal(void *context, const uint8_t *text, size_t length, newaksu_
         return party->refuse_seal;
     nonce_of(nonce, party->is_server, party->seals++);
     cipher_seal(party->key, nonce, NULL, 0, text, length, sealed);
-    return newaksu_bytes_append(blob, sealed, party->seals_short ? CIPHER_TAG - 1 : length + CIPHER_TAG);
+    return newaksu_bytes_append(blob, sealed,
+                                party->seals_short ? CIPHER_TAG - 1 : length + CIPHER_TAG);
 }
 
 static uint32_t unseal(void *context, const uint8_t *blob, size_t length, newaksu_bytes *text) {

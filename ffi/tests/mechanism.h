@@ -1,5 +1,5 @@
-/* A mechanism for the tests, of three tokens as NTLM's or two as Kerberos's, which really encrypts: by ChaCha20-Poly1305, under a key that both
- * ends derive of the password and of what each drew. */
+/* A mechanism for the tests, of three tokens as NTLM's or two as Kerberos's, which really encrypts:
+ * by ChaCha20-Poly1305, under a key that both ends derive of the password and of what each drew. */
 #ifndef MECHANISM_H
 #define MECHANISM_H
 
@@ -40,7 +40,8 @@ struct party {
 };
 
 /* A client's or a server's party, which draws `drawn` and zeros. */
-void party_init(struct party *party, int is_server, const char *name, const char *password, uint8_t drawn);
+void party_init(struct party *party, int is_server, const char *name, const char *password,
+                uint8_t drawn);
 
 extern const newaksu_mechanism party_mechanism;
 

@@ -1,5 +1,6 @@
-/* Each allocation of an exchange fails in turn, and no block that is freed holds the password any more. The linker puts the
- * calls of this file in the place of malloc, calloc and free, for the archive too. */
+/* Each allocation of an exchange fails in turn, and no block that is freed holds the password any
+ * more. The linker puts the calls of this file in the place of malloc, calloc and free, for the
+ * archive too. */
 #define _GNU_SOURCE
 #include <malloc.h>
 #include <stdlib.h>
@@ -35,7 +36,9 @@ void *__wrap_calloc(size_t count, size_t size) {
 
 void __wrap_free(void *block) {
     size_t length = block == NULL ? 0 : malloc_usable_size(block);
-    if (length != 0 && secret[0] != 0 && (memmem(block, length, secret, strlen(secret)) != NULL || holds_utf16(block, length, secret)))
+    if (length != 0 && secret[0] != 0 &&
+        (memmem(block, length, secret, strlen(secret)) != NULL ||
+         holds_utf16(block, length, secret)))
         leaking++;
     __real_free(block);
 }
@@ -77,7 +80,8 @@ static int is_memory(uint32_t status) {
     return status == NEWAKSU_E_INSUFFICIENT_MEMORY;
 }
 
-/* Whichever allocation fails, an end says so and goes no further, or it was one whose failure costs nothing. */
+/* Whichever allocation fails, an end says so and goes no further, or it was one whose failure costs
+ * nothing. */
 static void each_allocation_fails(void) {
     struct setup setup = setup_of_secret();
     struct exchange exchange;
@@ -107,7 +111,8 @@ static void making_fails(void) {
     size_t length = 3;
     newaksu_client_settings_init(&client);
     newaksu_server_settings_init(&server);
-    client.user = user, client.user_length = length, client.password = secret, client.password_length = strlen(secret);
+    client.user = user, client.user_length = length, client.password = secret,
+    client.password_length = strlen(secret);
     server.users = &user, server.user_lengths = &length, server.users_count = 1;
     for (int end = 0; end < 2; end++) {
         party_init(&parties[end], end, "ann", secret, 1);
@@ -115,8 +120,9 @@ static void making_fails(void) {
             newaksu_host *host = (newaksu_host *)&parties;
             uint32_t status;
             counted = 0, failing = number;
-            status = end == THE_CLIENT ? newaksu_host_client(&client, &party_mechanism, &parties[end], &host)
-                                       : newaksu_host_server(&server, &party_mechanism, &parties[end], &host);
+            status = end == THE_CLIENT
+                         ? newaksu_host_client(&client, &party_mechanism, &parties[end], &host)
+                         : newaksu_host_server(&server, &party_mechanism, &parties[end], &host);
             failing = 0;
             if (counted < number) {
                 CHECK_STATUS(status, NEWAKSU_OK);

@@ -1,5 +1,5 @@
-/* Handles that are empty, released, or of another kind; numbers that are none; settings that cannot be. Each gets a status,
- * and nothing is written. */
+/* Handles that are empty, released, or of another kind; numbers that are none; settings that cannot
+ * be. Each gets a status, and nothing is written. */
 #include <string.h>
 
 #include "check.h"
@@ -24,41 +24,41 @@ struct outputs {
 };
 
 /* Each call that uses an object, by the kinds that it takes. */
-#define CALLS(X)                                                                                                               \
-    X(KIND(REQUEST), newaksu_request_encode(h, o->bytes, 64, &o->written))                                                     \
-    X(KIND(REQUEST), newaksu_request_version(h, &o->numbers[0]))                                                               \
-    X(KIND(REQUEST), newaksu_request_set_version(h, 6))                                                                        \
-    X(KIND(REQUEST), newaksu_request_field(h, NEWAKSU_AUTH_INFO, o->bytes, 64, &o->written))                                   \
-    X(KIND(REQUEST), newaksu_request_set_field(h, NEWAKSU_AUTH_INFO, empty, 3))                                                \
-    X(KIND(REQUEST), newaksu_request_clear_field(h, NEWAKSU_AUTH_INFO))                                                        \
-    X(KIND(REQUEST), newaksu_request_error_code(h, &o->numbers[0]))                                                            \
-    X(KIND(REQUEST), newaksu_request_set_error_code(h, 7))                                                                     \
-    X(KIND(READER), newaksu_reader_feed(h, empty, 3))                                                                          \
-    X(KIND(READER), newaksu_reader_finish(h))                                                                                  \
-    X(KIND(CREDENTIALS), newaksu_credentials_encode(h, o->bytes, 64, &o->written))                                             \
-    X(KIND(CREDENTIALS), newaksu_credentials_text(h, NEWAKSU_USER, o->bytes, 64, &o->written))                                 \
-    X(KIND(INIT), newaksu_init_encode(h, o->bytes, 64, &o->written))                                                           \
-    X(KIND(INIT), newaksu_init_mech_count(h, &o->size))                                                                        \
-    X(KIND(INIT), newaksu_init_mech(h, 0, o->bytes, 64, &o->written))                                                          \
-    X(KIND(INIT), newaksu_init_add_mech(h, empty, 3))                                                                          \
-    X(KIND(INIT), newaksu_init_token(h, o->bytes, 64, &o->written))                                                            \
-    X(KIND(INIT), newaksu_init_set_token(h, empty, 3))                                                                         \
-    X(KIND(INIT), newaksu_init_mech_list(h, o->bytes, 64, &o->written))                                                        \
-    X(KIND(TARG), newaksu_targ_encode(h, o->bytes, 64, &o->written))                                                           \
-    X(KIND(TARG), newaksu_targ_state(h, &o->numbers[0]))                                                                       \
-    X(KIND(TARG), newaksu_targ_set_state(h, 1))                                                                                \
-    X(KIND(TARG), newaksu_targ_field(h, NEWAKSU_RESPONSE_TOKEN, o->bytes, 64, &o->written))                                    \
-    X(KIND(TARG), newaksu_targ_set_field(h, NEWAKSU_RESPONSE_TOKEN, empty, 3))                                                 \
-    X(KIND(IDENTITIES), newaksu_identities_add(h, (const uint8_t *)"ann", 3, empty, 0))                                        \
-    X(CLIENTS, newaksu_client_process(h, empty, 0, empty, 0, 0, empty, 0))                                                     \
-    X(SERVERS, newaksu_server_process(h, empty, 0, empty, 0, 0, empty, 0))                                                     \
-    X(ENDS, newaksu_end_state(h, &o->numbers[0]))                                                                              \
-    X(ENDS, newaksu_end_outcome(h, &o->numbers[0]))                                                                            \
-    X(ENDS, newaksu_end_sealing(h, &o->numbers[0], o->bytes, 64, &o->written))                                                 \
-    X(ENDS, newaksu_end_message(h, empty, 0, o->bytes, 64, &o->written))                                                       \
-    X(ENDS, newaksu_end_acts(h, &o->acts))                                                                                     \
-    X(ENDS, newaksu_end_refusal(h, &o->numbers[0], &o->numbers[1], &o->numbers[2]))                                            \
-    X(ENDS, newaksu_end_reason(h, o->bytes, 64, &o->written))                                                                  \
+#define CALLS(X)                                                                               \
+    X(KIND(REQUEST), newaksu_request_encode(h, o->bytes, 64, &o->written))                     \
+    X(KIND(REQUEST), newaksu_request_version(h, &o->numbers[0]))                               \
+    X(KIND(REQUEST), newaksu_request_set_version(h, 6))                                        \
+    X(KIND(REQUEST), newaksu_request_field(h, NEWAKSU_AUTH_INFO, o->bytes, 64, &o->written))   \
+    X(KIND(REQUEST), newaksu_request_set_field(h, NEWAKSU_AUTH_INFO, empty, 3))                \
+    X(KIND(REQUEST), newaksu_request_clear_field(h, NEWAKSU_AUTH_INFO))                        \
+    X(KIND(REQUEST), newaksu_request_error_code(h, &o->numbers[0]))                            \
+    X(KIND(REQUEST), newaksu_request_set_error_code(h, 7))                                     \
+    X(KIND(READER), newaksu_reader_feed(h, empty, 3))                                          \
+    X(KIND(READER), newaksu_reader_finish(h))                                                  \
+    X(KIND(CREDENTIALS), newaksu_credentials_encode(h, o->bytes, 64, &o->written))             \
+    X(KIND(CREDENTIALS), newaksu_credentials_text(h, NEWAKSU_USER, o->bytes, 64, &o->written)) \
+    X(KIND(INIT), newaksu_init_encode(h, o->bytes, 64, &o->written))                           \
+    X(KIND(INIT), newaksu_init_mech_count(h, &o->size))                                        \
+    X(KIND(INIT), newaksu_init_mech(h, 0, o->bytes, 64, &o->written))                          \
+    X(KIND(INIT), newaksu_init_add_mech(h, empty, 3))                                          \
+    X(KIND(INIT), newaksu_init_token(h, o->bytes, 64, &o->written))                            \
+    X(KIND(INIT), newaksu_init_set_token(h, empty, 3))                                         \
+    X(KIND(INIT), newaksu_init_mech_list(h, o->bytes, 64, &o->written))                        \
+    X(KIND(TARG), newaksu_targ_encode(h, o->bytes, 64, &o->written))                           \
+    X(KIND(TARG), newaksu_targ_state(h, &o->numbers[0]))                                       \
+    X(KIND(TARG), newaksu_targ_set_state(h, 1))                                                \
+    X(KIND(TARG), newaksu_targ_field(h, NEWAKSU_RESPONSE_TOKEN, o->bytes, 64, &o->written))    \
+    X(KIND(TARG), newaksu_targ_set_field(h, NEWAKSU_RESPONSE_TOKEN, empty, 3))                 \
+    X(KIND(IDENTITIES), newaksu_identities_add(h, (const uint8_t *)"ann", 3, empty, 0))        \
+    X(CLIENTS, newaksu_client_process(h, empty, 0, empty, 0, 0, empty, 0))                     \
+    X(SERVERS, newaksu_server_process(h, empty, 0, empty, 0, 0, empty, 0))                     \
+    X(ENDS, newaksu_end_state(h, &o->numbers[0]))                                              \
+    X(ENDS, newaksu_end_outcome(h, &o->numbers[0]))                                            \
+    X(ENDS, newaksu_end_sealing(h, &o->numbers[0], o->bytes, 64, &o->written))                 \
+    X(ENDS, newaksu_end_message(h, empty, 0, o->bytes, 64, &o->written))                       \
+    X(ENDS, newaksu_end_acts(h, &o->acts))                                                     \
+    X(ENDS, newaksu_end_refusal(h, &o->numbers[0], &o->numbers[1], &o->numbers[2]))            \
+    X(ENDS, newaksu_end_reason(h, o->bytes, 64, &o->written))                                  \
     X(ENDS, newaksu_server_identity(h, NEWAKSU_IDENTITY_NAME, o->bytes, 64, &o->written))
 
 #define COUNT(kinds, expression) +1
@@ -72,24 +72,29 @@ static uint32_t kinds_of(int which) {
 
 static uint32_t call(int which, newaksu_handle *h, struct outputs *o) {
     int at = 0;
-#define CALL(kinds, expression)                                                                                                \
-    if (which == at++)                                                                                                         \
+#define CALL(kinds, expression) \
+    if (which == at++)          \
         return expression;
     CALLS(CALL)
     return 0;
 }
 
 static void new_end(newaksu_handle *handle, uint32_t kind) {
-    static const newaksu_client_options client[2] = {{NEWAKSU_HOST, 6, 5, 0}, {NEWAKSU_PLAIN_NTLM, 6, 5, 0}};
-    static const newaksu_server_options server[2] = {{NEWAKSU_HOST, 6, 5}, {NEWAKSU_PLAIN_NTLM, 6, 5}};
+    static const newaksu_client_options client[2] = {{NEWAKSU_HOST, 6, 5, 0},
+                                                     {NEWAKSU_PLAIN_NTLM, 6, 5, 0}};
+    static const newaksu_server_options server[2] = {{NEWAKSU_HOST, 6, 5},
+                                                     {NEWAKSU_PLAIN_NTLM, 6, 5}};
     newaksu_handle known = NEWAKSU_EMPTY;
     int plain = kind == NEWAKSU_KIND_PLAIN_CLIENT || kind == NEWAKSU_KIND_PLAIN_SERVER;
     if (kind == NEWAKSU_KIND_CLIENT || kind == NEWAKSU_KIND_PLAIN_CLIENT) {
-        CHECK_STATUS(newaksu_client_new(handle, &client[plain], empty, 3, empty, 0, empty, 32, (const uint8_t *)"ann", 3, empty, 0), NEWAKSU_OK);
+        CHECK_STATUS(newaksu_client_new(handle, &client[plain], empty, 3, empty, 0, empty, 32,
+                                        (const uint8_t *)"ann", 3, empty, 0),
+                     NEWAKSU_OK);
         return;
     }
     CHECK_STATUS(newaksu_identities_new(&known), NEWAKSU_OK);
-    CHECK_STATUS(newaksu_server_new(handle, &known, &server[plain], empty, 3, empty, 8), NEWAKSU_OK);
+    CHECK_STATUS(newaksu_server_new(handle, &known, &server[plain], empty, 3, empty, 8),
+                 NEWAKSU_OK);
     CHECK_STATUS(newaksu_release(&known), NEWAKSU_OK);
 }
 
@@ -131,7 +136,8 @@ static void check_untouched(const struct outputs *outputs) {
     memset(&before, 0xc9, sizeof before);
     CHECK(memcmp(outputs->bytes, before.bytes, sizeof before.bytes) == 0);
     CHECK(outputs->written == 0 || outputs->written == before.written);
-    CHECK(outputs->size == before.size && memcmp(outputs->numbers, before.numbers, sizeof before.numbers) == 0);
+    CHECK(outputs->size == before.size &&
+          memcmp(outputs->numbers, before.numbers, sizeof before.numbers) == 0);
     CHECK(memcmp(&outputs->acts, &before.acts, sizeof before.acts) == 0);
 }
 
@@ -145,12 +151,14 @@ static void check_invalid(int which, newaksu_handle *handle) {
     struct outputs outputs;
     void *at = handle->at;
     memset(&outputs, 0xc9, sizeof outputs);
-    check_status(call(which, handle, &outputs), NEWAKSU_E_INVALID_HANDLE, name_of(which), __FILE__, __LINE__);
+    check_status(call(which, handle, &outputs), NEWAKSU_E_INVALID_HANDLE, name_of(which), __FILE__,
+                 __LINE__);
     check_untouched(&outputs);
     CHECK(handle->at == at);
 }
 
-/* Every call with an object of every kind that it does not take, with none, and with one that was released. */
+/* Every call with an object of every kind that it does not take, with none, and with one that was
+ * released. */
 static void every_call_with_every_kind(void) {
     newaksu_handle handle = NEWAKSU_EMPTY;
     for (uint32_t kind = 0; kind < KINDS; kind++)
@@ -176,26 +184,44 @@ static void what_cannot_be_made(void) {
     newaksu_handle handle = NEWAKSU_EMPTY, known = NEWAKSU_EMPTY, nothing = NEWAKSU_EMPTY;
     newaksu_client_options client = {NEWAKSU_HOST, 6, 5, 0};
     newaksu_server_options server = {7, 6, 5};
-    const uint8_t *ann = (const uint8_t *)"ann", *mixed = (const uint8_t *)"D\\a@b", *bad = (const uint8_t *)"\xff";
+    const uint8_t *ann = (const uint8_t *)"ann", *mixed = (const uint8_t *)"D\\a@b",
+                  *bad = (const uint8_t *)"\xff";
     void *at;
     make(&handle, NEWAKSU_KIND_REQUEST);
     make(&known, NEWAKSU_KIND_IDENTITIES);
     at = handle.at;
-    CHECK_STATUS(newaksu_client_new(&handle, &client, empty, 0, empty, 0, empty, 31, ann, 3, ann, 3), NEWAKSU_E_INVALID_PARAMETER);
-    CHECK_STATUS(newaksu_client_new(&handle, &client, empty, 0, empty, 0, empty, 32, bad, 1, ann, 3), NEWAKSU_E_INVALID_PARAMETER);
-    CHECK_STATUS(newaksu_client_new(&handle, &client, empty, 0, empty, 0, empty, 32, ann, 3, bad, 1), NEWAKSU_E_INVALID_PARAMETER);
-    CHECK_STATUS(newaksu_client_new(&handle, &client, empty, 0, bad, 1, empty, 32, ann, 3, ann, 3), NEWAKSU_E_INVALID_PARAMETER);
-    CHECK_STATUS(newaksu_client_new(&handle, &client, empty, 0, empty, 0, empty, 32, mixed, 5, ann, 3), NEWAKSU_E_UNKNOWN_CREDENTIALS);
+    CHECK_STATUS(
+        newaksu_client_new(&handle, &client, empty, 0, empty, 0, empty, 31, ann, 3, ann, 3),
+        NEWAKSU_E_INVALID_PARAMETER);
+    CHECK_STATUS(
+        newaksu_client_new(&handle, &client, empty, 0, empty, 0, empty, 32, bad, 1, ann, 3),
+        NEWAKSU_E_INVALID_PARAMETER);
+    CHECK_STATUS(
+        newaksu_client_new(&handle, &client, empty, 0, empty, 0, empty, 32, ann, 3, bad, 1),
+        NEWAKSU_E_INVALID_PARAMETER);
+    CHECK_STATUS(newaksu_client_new(&handle, &client, empty, 0, bad, 1, empty, 32, ann, 3, ann, 3),
+                 NEWAKSU_E_INVALID_PARAMETER);
+    CHECK_STATUS(
+        newaksu_client_new(&handle, &client, empty, 0, empty, 0, empty, 32, mixed, 5, ann, 3),
+        NEWAKSU_E_UNKNOWN_CREDENTIALS);
     client.delegation = 2;
-    CHECK_STATUS(newaksu_client_new(&handle, &client, empty, 0, empty, 0, empty, 32, ann, 3, ann, 3), NEWAKSU_E_INVALID_PARAMETER);
+    CHECK_STATUS(
+        newaksu_client_new(&handle, &client, empty, 0, empty, 0, empty, 32, ann, 3, ann, 3),
+        NEWAKSU_E_INVALID_PARAMETER);
     client.delegation = 0, client.mechanism = 2;
-    CHECK_STATUS(newaksu_client_new(&handle, &client, empty, 0, empty, 0, empty, 32, ann, 3, ann, 3), NEWAKSU_E_INVALID_PARAMETER);
-    CHECK_STATUS(newaksu_server_new(&handle, &known, &server, empty, 0, empty, 8), NEWAKSU_E_INVALID_PARAMETER);
+    CHECK_STATUS(
+        newaksu_client_new(&handle, &client, empty, 0, empty, 0, empty, 32, ann, 3, ann, 3),
+        NEWAKSU_E_INVALID_PARAMETER);
+    CHECK_STATUS(newaksu_server_new(&handle, &known, &server, empty, 0, empty, 8),
+                 NEWAKSU_E_INVALID_PARAMETER);
     server.mechanism = NEWAKSU_PLAIN_NTLM;
-    CHECK_STATUS(newaksu_server_new(&handle, &known, &server, empty, 0, empty, 7), NEWAKSU_E_INVALID_PARAMETER);
-    CHECK_STATUS(newaksu_server_new(&handle, &nothing, &server, empty, 0, empty, 8), NEWAKSU_E_INVALID_HANDLE);
+    CHECK_STATUS(newaksu_server_new(&handle, &known, &server, empty, 0, empty, 7),
+                 NEWAKSU_E_INVALID_PARAMETER);
+    CHECK_STATUS(newaksu_server_new(&handle, &nothing, &server, empty, 0, empty, 8),
+                 NEWAKSU_E_INVALID_HANDLE);
     server.mechanism = NEWAKSU_HOST;
-    CHECK_STATUS(newaksu_server_new(&known, &handle, &server, empty, 0, empty, 0), NEWAKSU_E_INVALID_HANDLE);
+    CHECK_STATUS(newaksu_server_new(&known, &handle, &server, empty, 0, empty, 0),
+                 NEWAKSU_E_INVALID_HANDLE);
     CHECK_STATUS(newaksu_identities_add(&known, mixed, 5, empty, 0), NEWAKSU_E_UNKNOWN_CREDENTIALS);
     CHECK_STATUS(newaksu_identities_add(&known, bad, 1, empty, 0), NEWAKSU_E_INVALID_PARAMETER);
     CHECK_STATUS(newaksu_identities_add(&known, ann, 3, bad, 1), NEWAKSU_E_INVALID_PARAMETER);
@@ -212,16 +238,20 @@ static void numbers_that_are_none(void) {
     make(&targ, NEWAKSU_KIND_TARG);
     make(&credentials, NEWAKSU_KIND_CREDENTIALS);
     CHECK_STATUS(newaksu_request_field(&request, 0, out, 8, &written), NEWAKSU_E_INVALID_PARAMETER);
-    CHECK_STATUS(newaksu_request_field(&request, NEWAKSU_ERROR_CODE, out, 8, &written), NEWAKSU_E_INVALID_PARAMETER);
+    CHECK_STATUS(newaksu_request_field(&request, NEWAKSU_ERROR_CODE, out, 8, &written),
+                 NEWAKSU_E_INVALID_PARAMETER);
     CHECK_STATUS(newaksu_request_field(&request, 6, out, 8, &written), NEWAKSU_E_INVALID_PARAMETER);
     CHECK_STATUS(newaksu_request_set_field(&request, 6, empty, 1), NEWAKSU_E_INVALID_PARAMETER);
-    CHECK_STATUS(newaksu_request_set_field(&request, NEWAKSU_ERROR_CODE, empty, 1), NEWAKSU_E_INVALID_PARAMETER);
-    CHECK_STATUS(newaksu_request_set_field(&request, NEWAKSU_CLIENT_NONCE, empty, 31), NEWAKSU_E_INVALID_PARAMETER);
+    CHECK_STATUS(newaksu_request_set_field(&request, NEWAKSU_ERROR_CODE, empty, 1),
+                 NEWAKSU_E_INVALID_PARAMETER);
+    CHECK_STATUS(newaksu_request_set_field(&request, NEWAKSU_CLIENT_NONCE, empty, 31),
+                 NEWAKSU_E_INVALID_PARAMETER);
     CHECK_STATUS(newaksu_request_clear_field(&request, 6), NEWAKSU_E_INVALID_PARAMETER);
     CHECK_STATUS(newaksu_targ_set_state(&targ, 3), NEWAKSU_E_INVALID_PARAMETER);
     CHECK_STATUS(newaksu_targ_field(&targ, 4, out, 8, &written), NEWAKSU_E_INVALID_PARAMETER);
     CHECK_STATUS(newaksu_targ_set_field(&targ, 0, empty, 1), NEWAKSU_E_INVALID_PARAMETER);
-    CHECK_STATUS(newaksu_credentials_text(&credentials, 3, out, 8, &written), NEWAKSU_E_INVALID_PARAMETER);
+    CHECK_STATUS(newaksu_credentials_text(&credentials, 3, out, 8, &written),
+                 NEWAKSU_E_INVALID_PARAMETER);
     CHECK_STATUS(newaksu_early_encode(1, out, 8, &written), NEWAKSU_E_INVALID_PARAMETER);
     CHECK_STATUS(newaksu_release(&request), NEWAKSU_OK);
     CHECK_STATUS(newaksu_release(&targ), NEWAKSU_OK);
@@ -237,17 +267,23 @@ static void arguments_of_a_turn(void) {
     uint32_t outcome = 9;
     make(&client, NEWAKSU_KIND_CLIENT);
     make(&plain, NEWAKSU_KIND_PLAIN_CLIENT);
-    CHECK_STATUS(newaksu_client_process(&client, empty, 0, envelope, 2, 0, empty, 1), NEWAKSU_E_INVALID_PARAMETER);
-    CHECK_STATUS(newaksu_client_process(&client, empty, 0, envelope, 2, 1, empty, 1), NEWAKSU_E_INVALID_PARAMETER);
-    CHECK_STATUS(newaksu_client_process(&plain, empty, 0, envelope, 2, 0, empty, 0), NEWAKSU_E_INVALID_PARAMETER);
-    CHECK_STATUS(newaksu_client_process(&client, empty, 3, envelope, 2, 0, empty, 0), NEWAKSU_UNEXPECTED_EOF);
+    CHECK_STATUS(newaksu_client_process(&client, empty, 0, envelope, 2, 0, empty, 1),
+                 NEWAKSU_E_INVALID_PARAMETER);
+    CHECK_STATUS(newaksu_client_process(&client, empty, 0, envelope, 2, 1, empty, 1),
+                 NEWAKSU_E_INVALID_PARAMETER);
+    CHECK_STATUS(newaksu_client_process(&plain, empty, 0, envelope, 2, 0, empty, 0),
+                 NEWAKSU_E_INVALID_PARAMETER);
+    CHECK_STATUS(newaksu_client_process(&client, empty, 3, envelope, 2, 0, empty, 0),
+                 NEWAKSU_UNEXPECTED_EOF);
     CHECK_STATUS(newaksu_end_outcome(&client, &outcome), NEWAKSU_OK);
     CHECK(outcome == NEWAKSU_OUTCOME_NONE);
     CHECK_STATUS(newaksu_client_process(&client, empty, 0, envelope, 2, 0, empty, 0), NEWAKSU_OK);
     /* nothing is to be sealed, so no blob is taken */
-    CHECK_STATUS(newaksu_end_message(&client, empty, 16, out, sizeof out, &written), NEWAKSU_E_INVALID_PARAMETER);
+    CHECK_STATUS(newaksu_end_message(&client, empty, 16, out, sizeof out, &written),
+                 NEWAKSU_E_INVALID_PARAMETER);
     /* by hand: version 6 and the token 54 */
-    CHECK_STATUS(newaksu_end_message(&client, empty, 0, out, 17, &written), NEWAKSU_E_BUFFER_TOO_SMALL);
+    CHECK_STATUS(newaksu_end_message(&client, empty, 0, out, 17, &written),
+                 NEWAKSU_E_BUFFER_TOO_SMALL);
     CHECK(written == 18);
     CHECK_STATUS(newaksu_end_message(&client, empty, 0, out, sizeof out, &written), NEWAKSU_OK);
     CHECK_BYTES(out, written, "3010 a003020106 a109 3007 3005 a003 0401 54");
@@ -267,17 +303,23 @@ static void settings_of_a_host(void) {
     newaksu_server_settings_init(&server);
     client.user = "ann", client.user_length = 3;
     client.public_key_length = 1;
-    CHECK_STATUS(newaksu_host_client(&client, &party_mechanism, &party, &host), NEWAKSU_E_INVALID_PARAMETER);
+    CHECK_STATUS(newaksu_host_client(&client, &party_mechanism, &party, &host),
+                 NEWAKSU_E_INVALID_PARAMETER);
     client.public_key_length = 0, client.password_length = 1;
-    CHECK_STATUS(newaksu_host_client(&client, &party_mechanism, &party, &host), NEWAKSU_E_INVALID_PARAMETER);
+    CHECK_STATUS(newaksu_host_client(&client, &party_mechanism, &party, &host),
+                 NEWAKSU_E_INVALID_PARAMETER);
     client.password = "\xc0", client.password_length = 1;
-    CHECK_STATUS(newaksu_host_client(&client, &party_mechanism, &party, &host), NEWAKSU_E_INVALID_PARAMETER);
+    CHECK_STATUS(newaksu_host_client(&client, &party_mechanism, &party, &host),
+                 NEWAKSU_E_INVALID_PARAMETER);
     client.password = NULL, client.password_length = 0, client.delegation = 7;
-    CHECK_STATUS(newaksu_host_client(&client, &party_mechanism, &party, &host), NEWAKSU_E_INVALID_PARAMETER);
+    CHECK_STATUS(newaksu_host_client(&client, &party_mechanism, &party, &host),
+                 NEWAKSU_E_INVALID_PARAMETER);
     client.delegation = NEWAKSU_WITH_CREDENTIALS, mechanism.unseal = NULL;
-    CHECK_STATUS(newaksu_host_client(&client, &mechanism, &party, &host), NEWAKSU_E_INVALID_PARAMETER);
+    CHECK_STATUS(newaksu_host_client(&client, &mechanism, &party, &host),
+                 NEWAKSU_E_INVALID_PARAMETER);
     mechanism = party_mechanism, mechanism.peer = NULL;
-    CHECK_STATUS(newaksu_host_server(&server, &mechanism, &party, &host), NEWAKSU_E_INVALID_PARAMETER);
+    CHECK_STATUS(newaksu_host_server(&server, &mechanism, &party, &host),
+                 NEWAKSU_E_INVALID_PARAMETER);
     CHECK(host == NULL && party.releases == 0);
     CHECK_STATUS(newaksu_host_client(&client, &mechanism, &party, &host), NEWAKSU_OK);
     CHECK(newaksu_host_end(host)->at != NULL && party.steps_asked == 0);

@@ -1,8 +1,9 @@
 /* Mutated requests, and what the codec of the archive reads of them.
  *
  *     mutated inputs SEED COUNT    writes so many requests, a line of hex each
- *     mutated answers              reads such lines, and writes a line for each: version, negoTokens, authInfo, pubKeyAuth,
- *                                  code, nonce and the shortest spelling of the request that it begins with, or the fault
+ *     mutated answers              reads such lines, and writes a line for each: version,
+ * negoTokens, authInfo, pubKeyAuth, code, nonce and the shortest spelling of the request that it
+ * begins with, or the fault
  *
  * The answers are those of `sspi_bench show COUNT`, line by line. */
 #include <stdio.h>
@@ -31,13 +32,19 @@ static uint32_t draw(uint32_t below) {
 }
 
 /* The fields of a request in their order, by several versions. */
-static const char *const versions[] = {"a003020102", "a003020103", "a003020104", "a003020105", "a003020106", "a006020400000006", "a003020100"};
-static const char *const tokens[] = {"a108 3006 3004 a002 0400", "a10a 3008 3006 a004 0402 4e31", "a114 3012 3006 a004 0402 4e31 3008 a006 0404 4e324e32"};
-static const char *const infos[] = {"a202 0400", "a207 0405 0102030405", "a219 0417 3015a003020101a10e040c300aa0020400a1020400a202"};
-static const char *const keys[] = {"a306 0404 deadbeef", "a312 0410 000102030405060708090a0b0c0d0e0f"};
+static const char *const versions[] = {"a003020102", "a003020103",       "a003020104", "a003020105",
+                                       "a003020106", "a006020400000006", "a003020100"};
+static const char *const tokens[] = {"a108 3006 3004 a002 0400", "a10a 3008 3006 a004 0402 4e31",
+                                     "a114 3012 3006 a004 0402 4e31 3008 a006 0404 4e324e32"};
+static const char *const infos[] = {"a202 0400", "a207 0405 0102030405",
+                                    "a219 0417 3015a003020101a10e040c300aa0020400a1020400a202"};
+static const char *const keys[] = {"a306 0404 deadbeef",
+                                   "a312 0410 000102030405060708090a0b0c0d0e0f"};
 static const char *const codes[] = {"a406 0204 c0070308", "a403 0201 00", "a404 0202 0102"};
-static const char *const nonce = "a522 0420 f88dd4b7559a94e5e87f2b2f94c23858a984fc07697df85776c957a31512eb32";
-static const uint8_t telling[] = {0x30, 0x02, 0x04, 0xa0, 0xa1, 0xa2, 0xa3, 0xa4, 0xa5, 0x80, 0x81, 0x82, 0x83, 0x84, 0x00, 0x7f, 0xff};
+static const char *const nonce =
+    "a522 0420 f88dd4b7559a94e5e87f2b2f94c23858a984fc07697df85776c957a31512eb32";
+static const uint8_t telling[] = {0x30, 0x02, 0x04, 0xa0, 0xa1, 0xa2, 0xa3, 0xa4, 0xa5,
+                                  0x80, 0x81, 0x82, 0x83, 0x84, 0x00, 0x7f, 0xff};
 
 #define PICK(list) (list)[draw(sizeof(list) / sizeof *(list))]
 
@@ -176,17 +183,21 @@ static void put_request(newaksu_handle *request) {
 }
 
 /* What the same bytes are in pieces is what they are whole. */
-static void check_pieces(newaksu_handle *whole, uint32_t status, const uint8_t *bytes, size_t length) {
+static void check_pieces(newaksu_handle *whole, uint32_t status, const uint8_t *bytes,
+                         size_t length) {
     newaksu_handle reader = NEWAKSU_EMPTY;
     uint8_t first[LONGEST], second[LONGEST];
     size_t written[2], size = 1 + draw(20);
     CHECK_STATUS(newaksu_reader_new(&reader), NEWAKSU_OK);
     for (size_t at = 0; at < length; at += size)
-        CHECK_STATUS(newaksu_reader_feed(&reader, bytes + at, length - at < size ? length - at : size), NEWAKSU_OK);
+        CHECK_STATUS(
+            newaksu_reader_feed(&reader, bytes + at, length - at < size ? length - at : size),
+            NEWAKSU_OK);
     CHECK_STATUS(newaksu_reader_finish(&reader), status);
     if (status == NEWAKSU_OK) {
         CHECK_STATUS(newaksu_request_encode(whole, first, sizeof first, &written[0]), NEWAKSU_OK);
-        CHECK_STATUS(newaksu_request_encode(&reader, second, sizeof second, &written[1]), NEWAKSU_OK);
+        CHECK_STATUS(newaksu_request_encode(&reader, second, sizeof second, &written[1]),
+                     NEWAKSU_OK);
         CHECK(written[0] == written[1] && memcmp(first, second, written[0]) == 0);
     }
     CHECK_STATUS(newaksu_release(&reader), NEWAKSU_OK);
@@ -204,10 +215,13 @@ static void answer(const char *line) {
     if (status == NEWAKSU_OK)
         put_request(&request);
     else
-        printf("%s", status == NEWAKSU_UNEXPECTED_EOF ? "UnexpectedEof" : status == NEWAKSU_INVALID_DATA ? "InvalidData" : "another");
+        printf("%s", status == NEWAKSU_UNEXPECTED_EOF ? "UnexpectedEof"
+                     : status == NEWAKSU_INVALID_DATA ? "InvalidData"
+                                                      : "another");
     putchar('\n');
     check_pieces(&request, status, bytes, length);
-    CHECK_STATUS(newaksu_release(&request), status == NEWAKSU_OK ? NEWAKSU_OK : NEWAKSU_E_INVALID_HANDLE);
+    CHECK_STATUS(newaksu_release(&request),
+                 status == NEWAKSU_OK ? NEWAKSU_OK : NEWAKSU_E_INVALID_HANDLE);
     free(bytes);
 }
 

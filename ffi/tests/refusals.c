@@ -1,11 +1,12 @@
-/* Exchanges that go wrong: another key of the channel, a wrong password, changed, cut and replayed messages, a mechanism that
- * fails. Each is refused as the proved ends refuse, and no credentials are given out in any. */
+/* Exchanges that go wrong: another key of the channel, a wrong password, changed, cut and replayed
+ * messages, a mechanism that fails. Each is refused as the proved ends refuse, and no credentials
+ * are given out in any. */
 #include <string.h>
 
 #include "check.h"
 #include "exchange.h"
 
-#define ERROR_CODE(status) (((status) & 0xffffu) | 0xc0070000u)
+#define ERROR_CODE(status) (((status)&0xffffu) | 0xc0070000u)
 
 /* The server refused with this, and the client was told so. */
 static void check_server_refused(const struct exchange *exchange, uint32_t status) {
@@ -13,15 +14,18 @@ static void check_server_refused(const struct exchange *exchange, uint32_t statu
     CHECK_STATUS(exchange->status[THE_SERVER], status);
     CHECK(exchange->progress[THE_SERVER] == NEWAKSU_REFUSED);
     CHECK_STATUS(exchange->status[THE_CLIENT], NEWAKSU_E_INVALID_TOKEN);
-    CHECK(exchange->refusals[THE_CLIENT].has_nstatus == 1 && exchange->refusals[THE_CLIENT].nstatus == ERROR_CODE(status));
-    CHECK(exchange->refusals[THE_SERVER].status == status && exchange->refusals[THE_SERVER].has_nstatus == 0);
+    CHECK(exchange->refusals[THE_CLIENT].has_nstatus == 1 &&
+          exchange->refusals[THE_CLIENT].nstatus == ERROR_CODE(status));
+    CHECK(exchange->refusals[THE_SERVER].status == status &&
+          exchange->refusals[THE_SERVER].has_nstatus == 0);
     CHECK(exchange->refusals[THE_SERVER].reason[0] != 0);
 }
 
 static void check_client_refused(const struct exchange *exchange, uint32_t status) {
     check_withheld(exchange);
     CHECK_STATUS(exchange->status[THE_CLIENT], status);
-    CHECK(exchange->refusals[THE_CLIENT].status == status && exchange->refusals[THE_CLIENT].has_nstatus == 0);
+    CHECK(exchange->refusals[THE_CLIENT].status == status &&
+          exchange->refusals[THE_CLIENT].has_nstatus == 0);
 }
 
 /* Whoever stands between two channels has another key on each. */
@@ -44,7 +48,8 @@ static void a_wrong_password(void) {
     exchange_make(&exchange, &setup);
     exchange_run(&exchange, NULL, NULL);
     check_server_refused(&exchange, NEWAKSU_E_LOGON_DENIED);
-    CHECK(exchange.parties[THE_SERVER].unseals_asked == 0 && exchange.parties[THE_SERVER].peers_asked == 0);
+    CHECK(exchange.parties[THE_SERVER].unseals_asked == 0 &&
+          exchange.parties[THE_SERVER].peers_asked == 0);
     exchange_release(&exchange);
 }
 
@@ -60,10 +65,12 @@ static void flip(void *context, int number, uint8_t *message, size_t *length) {
         message[flip->at] ^= flip->bits;
 }
 
-/* The sealed octets of pubKeyAuth stand behind a3 LL 04 LL, or of authInfo behind a2: the place of the last of them. */
+/* The sealed octets of pubKeyAuth stand behind a3 LL 04 LL, or of authInfo behind a2: the place of
+ * the last of them. */
 static size_t last_of_blob(const uint8_t *message, size_t length, uint8_t tag) {
     for (size_t at = 0; at + 4 < length; at++)
-        if (message[at] == tag && message[at + 2] == 0x04 && message[at + 1] == message[at + 3] + 2 && message[at + 3] >= 48)
+        if (message[at] == tag && message[at + 2] == 0x04 &&
+            message[at + 1] == message[at + 3] + 2 && message[at + 3] >= 48)
             return at + 3 + message[at + 3];
     CHECK(!"no blob");
     return 0;
@@ -95,7 +102,8 @@ static void changed_proofs(void) {
     changed_blob(2, 0xa3, 6, NEWAKSU_E_MESSAGE_ALTERED);
 }
 
-/* The client's credentials were changed: they were given out, since the server had proved itself, and the server has none. */
+/* The client's credentials were changed: they were given out, since the server had proved itself,
+ * and the server has none. */
 static void changed_credentials(void) {
     struct setup setup = usual_setup();
     struct exchange exchange;
@@ -112,8 +120,8 @@ static void changed_credentials(void) {
     exchange_release(&exchange);
 }
 
-/* One byte of one message is another. Either the credentials come as they were sent, or they are withheld, unless the message
- * was the one that carries them. */
+/* One byte of one message is another. Either the credentials come as they were sent, or they are
+ * withheld, unless the message was the one that carries them. */
 static void every_byte_changed(void) {
     static const uint8_t bits[] = {0x01, 0x80, 0xff};
     struct setup setup = usual_setup();
@@ -132,7 +140,8 @@ static void every_byte_changed(void) {
             }
 }
 
-/* A message that is cut anywhere has not come yet: the end is as it was, and takes it once it is whole. */
+/* A message that is cut anywhere has not come yet: the end is as it was, and takes it once it is
+ * whole. */
 static void every_message_cut(void) {
     struct setup setup = usual_setup();
     struct exchange exchange;
@@ -161,7 +170,8 @@ static void replay(int until, int number, int end, uint32_t status, const char *
     exchange_make(&exchange, &setup);
     exchange_turn(&exchange, THE_CLIENT, NULL, 0);
     for (int i = 0; i < until; i++)
-        exchange_turn(&exchange, i % 2 == 0 ? THE_SERVER : THE_CLIENT, exchange.messages[i], exchange.lengths[i]);
+        exchange_turn(&exchange, i % 2 == 0 ? THE_SERVER : THE_CLIENT, exchange.messages[i],
+                      exchange.lengths[i]);
     exchange_turn(&exchange, end, exchange.messages[number], exchange.lengths[number]);
     CHECK_STATUS(exchange.status[end], status);
     CHECK(exchange.progress[end] == NEWAKSU_REFUSED);
@@ -219,7 +229,8 @@ struct failing {
     uint32_t step, seal, unseal, peer;
 };
 
-static void run_failing(int end, const struct failing *failing, int seals_short, struct exchange *exchange) {
+static void run_failing(int end, const struct failing *failing, int seals_short,
+                        struct exchange *exchange) {
     struct setup setup = usual_setup();
     struct party *party;
     exchange_make(exchange, &setup);
@@ -232,16 +243,19 @@ static void run_failing(int end, const struct failing *failing, int seals_short,
     exchange_run(exchange, NULL, NULL);
 }
 
-/* A mechanism that fails ends its exchange, and what a server says of it has the mechanism's code. */
+/* A mechanism that fails ends its exchange, and what a server says of it has the mechanism's code.
+ */
 static void a_server_whose_mechanism_fails(void) {
     static const struct failing cases[] = {
-        {NEWAKSU_E_INTERNAL_ERROR, 0, 0, 0}, {NEWAKSU_E_LOGON_DENIED, 0, 0, 0}, {NEWAKSU_E_INSUFFICIENT_MEMORY, 0, 0, 0},
-        {0, NEWAKSU_E_CONTEXT_EXPIRED, 0, 0}, {0, 0, NEWAKSU_E_MESSAGE_ALTERED, 0}, {0, 0, 0, NEWAKSU_E_NO_CREDENTIALS},
+        {NEWAKSU_E_INTERNAL_ERROR, 0, 0, 0},      {NEWAKSU_E_LOGON_DENIED, 0, 0, 0},
+        {NEWAKSU_E_INSUFFICIENT_MEMORY, 0, 0, 0}, {0, NEWAKSU_E_CONTEXT_EXPIRED, 0, 0},
+        {0, 0, NEWAKSU_E_MESSAGE_ALTERED, 0},     {0, 0, 0, NEWAKSU_E_NO_CREDENTIALS},
     };
     struct exchange exchange;
     for (size_t i = 0; i < sizeof cases / sizeof *cases; i++) {
         run_failing(THE_SERVER, &cases[i], 0, &exchange);
-        check_server_refused(&exchange, cases[i].step | cases[i].seal | cases[i].unseal | cases[i].peer);
+        check_server_refused(&exchange,
+                             cases[i].step | cases[i].seal | cases[i].unseal | cases[i].peer);
         exchange_release(&exchange);
     }
     run_failing(THE_SERVER, &(struct failing){0, 0, 0, 0}, 1, &exchange);
@@ -258,8 +272,9 @@ static void a_server_whose_mechanism_fails(void) {
 }
 
 static void a_client_whose_mechanism_fails(void) {
-    static const struct failing cases[] = {
-        {NEWAKSU_E_NO_CREDENTIALS, 0, 0, 0}, {0, NEWAKSU_E_CONTEXT_EXPIRED, 0, 0}, {0, 0, NEWAKSU_E_MESSAGE_ALTERED, 0}};
+    static const struct failing cases[] = {{NEWAKSU_E_NO_CREDENTIALS, 0, 0, 0},
+                                           {0, NEWAKSU_E_CONTEXT_EXPIRED, 0, 0},
+                                           {0, 0, NEWAKSU_E_MESSAGE_ALTERED, 0}};
     struct exchange exchange;
     for (size_t i = 0; i < sizeof cases / sizeof *cases; i++) {
         run_failing(THE_CLIENT, &cases[i], 0, &exchange);
@@ -276,12 +291,14 @@ static void a_server_that_tells_an_error(void) {
     struct setup setup = usual_setup();
     struct exchange exchange;
     uint8_t told[64];
-    size_t length = from_hex("301b a003020106 a10c 300a 3008 a006 0404 54320000 a406 0204 c000006d", told, sizeof told);
+    size_t length = from_hex("301b a003020106 a10c 300a 3008 a006 0404 54320000 a406 0204 c000006d",
+                             told, sizeof told);
     exchange_make(&exchange, &setup);
     exchange_turn(&exchange, THE_CLIENT, NULL, 0);
     exchange_turn(&exchange, THE_CLIENT, told, length);
     CHECK_STATUS(exchange.status[THE_CLIENT], NEWAKSU_E_INVALID_TOKEN);
-    CHECK(exchange.refusals[THE_CLIENT].has_nstatus == 1 && exchange.refusals[THE_CLIENT].nstatus == 0xc000006du);
+    CHECK(exchange.refusals[THE_CLIENT].has_nstatus == 1 &&
+          exchange.refusals[THE_CLIENT].nstatus == 0xc000006du);
     CHECK(exchange.parties[THE_CLIENT].steps_asked == 1);
     check_withheld(&exchange);
     exchange_release(&exchange);

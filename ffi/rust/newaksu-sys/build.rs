@@ -27,11 +27,15 @@ fn folder_of_package() -> String {
         .args(["--variable=libdir", "--print-errors", &wanted])
         .output();
     match ran {
-        Ok(output) if output.status.success() => String::from_utf8_lossy(&output.stdout).trim().to_owned(),
+        Ok(output) if output.status.success() => {
+            String::from_utf8_lossy(&output.stdout).trim().to_owned()
+        }
         Ok(output) => panic!(
-            "libnewaksu was not found: set NEWAKSU_LIB_DIR to the folder of libnewaksu.a, or install it. {}",
+            "libnewaksu was not found: set NEWAKSU_LIB_DIR to its folder, or install it. {}",
             String::from_utf8_lossy(&output.stderr)
         ),
-        Err(error) => panic!("set NEWAKSU_LIB_DIR to the folder of libnewaksu.a; pkg-config did not run: {error}"),
+        Err(error) => {
+            panic!("set NEWAKSU_LIB_DIR to the folder of libnewaksu.a: no pkg-config: {error}")
+        }
     }
 }

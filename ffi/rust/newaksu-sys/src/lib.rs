@@ -1,12 +1,13 @@
-//! The C interface of libnewaksu, as `newaksu.h` has it: what each call does, its errors and what the caller owes stand there.
-//! The crate `newaksu` is the safe one over it.
+//! The C interface of libnewaksu, as `newaksu.h` has it: what each call does, its errors and what
+//! the caller owes stand there. The crate `newaksu` is the safe one over it.
 
 #![no_std]
 #![allow(non_camel_case_types)]
 
 use core::ffi::c_void;
 
-/// One word that owns an object; `at` is null where it is empty. It may be moved and is never copied.
+/// One word that owns an object; `at` is null where it is empty. It may be moved and is never
+/// copied.
 #[repr(C)]
 #[derive(Debug)]
 pub struct newaksu_handle {
@@ -25,9 +26,9 @@ pub const NEWAKSU_EMPTY: newaksu_handle = newaksu_handle {
 pub struct newaksu_client_options {
     /// `NEWAKSU_HOST` or `NEWAKSU_PLAIN_NTLM`.
     pub mechanism: u32,
-    /// The version of CredSSP that the end speaks, usually 6.
+    /// The version of CredSSP that the end speaks.
     pub version: u32,
-    /// The least version of a peer that it takes, usually 5, and 0 for every.
+    /// The least version of a peer that it takes.
     pub least_version: u32,
     /// `NEWAKSU_WITH_CREDENTIALS` or `NEWAKSU_CREDENTIAL_LESS`.
     pub delegation: u32,
@@ -65,15 +66,15 @@ pub struct newaksu_acts {
     pub opened: u32,
 }
 
-/// Ok.
+/// It is done.
 pub const NEWAKSU_OK: u32 = 0;
 /// The bytes end before the element does.
 pub const NEWAKSU_UNEXPECTED_EOF: u32 = 1;
 /// A wrong tag or a refused length; of an encoder, a content of more than 1048576 bytes.
 pub const NEWAKSU_INVALID_DATA: u32 = 2;
-/// A source or a sink failed: no call here has one.
+/// A source failed: no call here has one.
 pub const NEWAKSU_READ_FAULT: u32 = 3;
-/// Write fault.
+/// A sink failed: no call here has one.
 pub const NEWAKSU_WRITE_FAULT: u32 = 4;
 /// There is no such field, text, message, identity or refusal.
 pub const NEWAKSU_ABSENT: u32 = 6;
@@ -81,53 +82,54 @@ pub const NEWAKSU_ABSENT: u32 = 6;
 pub const NEWAKSU_E_INSUFFICIENT_MEMORY: u32 = 0x8009_0300;
 /// The handle is empty, or holds an object of another kind.
 pub const NEWAKSU_E_INVALID_HANDLE: u32 = 0x8009_0301;
-/// E unsupported function.
+/// SEC_E_UNSUPPORTED_FUNCTION of winerror.h.
 pub const NEWAKSU_E_UNSUPPORTED_FUNCTION: u32 = 0x8009_0302;
-/// E internal error.
+/// SEC_E_INTERNAL_ERROR of winerror.h.
 pub const NEWAKSU_E_INTERNAL_ERROR: u32 = 0x8009_0304;
-/// E invalid token.
+/// SEC_E_INVALID_TOKEN of winerror.h.
 pub const NEWAKSU_E_INVALID_TOKEN: u32 = 0x8009_0308;
-/// E logon denied.
+/// SEC_E_LOGON_DENIED of winerror.h.
 pub const NEWAKSU_E_LOGON_DENIED: u32 = 0x8009_030c;
-/// E unknown credentials.
+/// SEC_E_UNKNOWN_CREDENTIALS of winerror.h.
 pub const NEWAKSU_E_UNKNOWN_CREDENTIALS: u32 = 0x8009_030d;
-/// E no credentials.
+/// SEC_E_NO_CREDENTIALS of winerror.h.
 pub const NEWAKSU_E_NO_CREDENTIALS: u32 = 0x8009_030e;
-/// E message altered.
+/// SEC_E_MESSAGE_ALTERED of winerror.h.
 pub const NEWAKSU_E_MESSAGE_ALTERED: u32 = 0x8009_030f;
-/// E out of sequence.
+/// SEC_E_OUT_OF_SEQUENCE of winerror.h.
 pub const NEWAKSU_E_OUT_OF_SEQUENCE: u32 = 0x8009_0310;
-/// E context expired.
+/// SEC_E_CONTEXT_EXPIRED of winerror.h.
 pub const NEWAKSU_E_CONTEXT_EXPIRED: u32 = 0x8009_0317;
 /// The buffer is too small, and `*written` is the capacity that is needed.
 pub const NEWAKSU_E_BUFFER_TOO_SMALL: u32 = 0x8009_0321;
-/// E downgrade detected.
+/// SEC_E_DOWNGRADE_DETECTED of winerror.h.
 pub const NEWAKSU_E_DOWNGRADE_DETECTED: u32 = 0x8009_0350;
-/// A number that is none of those listed, a text that is not in its encoding, or a length that it must not have.
+/// A number that is none of those listed, a text that is not in its encoding, or a length that it
+/// must not have.
 pub const NEWAKSU_E_INVALID_PARAMETER: u32 = 0x8009_035d;
 /// No error: a step of a mechanism wants another token (SEC_I_CONTINUE_NEEDED).
 pub const NEWAKSU_CONTINUE_NEEDED: u32 = 0x0009_0312;
-/// Kind empty.
+/// The handle is empty.
 pub const NEWAKSU_KIND_EMPTY: u32 = 0;
-/// Kind request.
+/// A TSRequest.
 pub const NEWAKSU_KIND_REQUEST: u32 = 1;
-/// Kind reader.
+/// A reader of a TSRequest.
 pub const NEWAKSU_KIND_READER: u32 = 2;
-/// Kind init.
+/// A NegTokenInit.
 pub const NEWAKSU_KIND_INIT: u32 = 3;
-/// Kind targ.
+/// A NegTokenResp.
 pub const NEWAKSU_KIND_TARG: u32 = 4;
-/// Kind credentials.
+/// TSCredentials.
 pub const NEWAKSU_KIND_CREDENTIALS: u32 = 5;
-/// Kind identities.
+/// A list of users.
 pub const NEWAKSU_KIND_IDENTITIES: u32 = 6;
-/// Kind client.
+/// A client over the caller's mechanism.
 pub const NEWAKSU_KIND_CLIENT: u32 = 7;
-/// Kind server.
+/// A server over the caller's mechanism.
 pub const NEWAKSU_KIND_SERVER: u32 = 8;
-/// Kind plain client.
+/// A client over plain NTLM.
 pub const NEWAKSU_KIND_PLAIN_CLIENT: u32 = 9;
-/// Kind plain server.
+/// A server over plain NTLM.
 pub const NEWAKSU_KIND_PLAIN_SERVER: u32 = 10;
 /// The first token; further ones are not read.
 pub const NEWAKSU_NEGO_TOKENS: u32 = 1;
@@ -139,51 +141,51 @@ pub const NEWAKSU_PUB_KEY_AUTH: u32 = 3;
 pub const NEWAKSU_ERROR_CODE: u32 = 4;
 /// 32 bytes.
 pub const NEWAKSU_CLIENT_NONCE: u32 = 5;
-/// Domain.
+/// The domain of TSCredentials.
 pub const NEWAKSU_DOMAIN: u32 = 0;
-/// User.
+/// The user of TSCredentials.
 pub const NEWAKSU_USER: u32 = 1;
-/// Password.
+/// The password of TSCredentials.
 pub const NEWAKSU_PASSWORD: u32 = 2;
-/// The early user authorization result (MS-RDPBCGR 2.2.10.2), which a server of HYBRID_EX sends behind the exchange.
+/// The user may log on (MS-RDPBCGR 2.2.10.2).
 pub const NEWAKSU_EARLY_SUCCESS: u32 = 0;
-/// Early access denied.
+/// The user may not log on.
 pub const NEWAKSU_EARLY_ACCESS_DENIED: u32 = 5;
-/// Accept completed.
+/// negState accept-completed.
 pub const NEWAKSU_ACCEPT_COMPLETED: u32 = 0;
-/// Accept incomplete.
+/// negState accept-incomplete.
 pub const NEWAKSU_ACCEPT_INCOMPLETE: u32 = 1;
-/// Other state.
+/// Any other negState.
 pub const NEWAKSU_OTHER_STATE: u32 = 2;
-/// Supported mech.
+/// The mechanism that the server picked.
 pub const NEWAKSU_SUPPORTED_MECH: u32 = 1;
-/// Response token.
+/// The token of that mechanism.
 pub const NEWAKSU_RESPONSE_TOKEN: u32 = 2;
-/// Mech list mic.
+/// The MIC over the list of mechanisms.
 pub const NEWAKSU_MECH_LIST_MIC: u32 = 3;
-/// Mech other.
+/// Another mechanism.
 pub const NEWAKSU_MECH_OTHER: u32 = 0;
-/// Mech ms kerberos.
+/// Kerberos, by the identifier that Windows sends first.
 pub const NEWAKSU_MECH_MS_KERBEROS: u32 = 1;
-/// Mech kerberos.
+/// Kerberos.
 pub const NEWAKSU_MECH_KERBEROS: u32 = 2;
-/// Mech ntlm.
+/// NTLM.
 pub const NEWAKSU_MECH_NTLM: u32 = 3;
 /// The caller's mechanism.
 pub const NEWAKSU_HOST: u32 = 0;
 /// For tests: NTLM's messages, and nothing is hidden.
 pub const NEWAKSU_PLAIN_NTLM: u32 = 1;
-/// With credentials.
+/// The client delegates its credentials.
 pub const NEWAKSU_WITH_CREDENTIALS: u32 = 0;
-/// Three empty texts are delegated in place of the credentials (restricted admin).
+/// Three empty texts in place of the credentials (restricted admin).
 pub const NEWAKSU_CREDENTIAL_LESS: u32 = 1;
-/// State nego token.
+/// A token of the authentication is due.
 pub const NEWAKSU_STATE_NEGO_TOKEN: u32 = 0;
-/// State pub key info.
+/// On a server the client's proof is due.
 pub const NEWAKSU_STATE_PUB_KEY_INFO: u32 = 1;
-/// State auth info.
+/// On a client the server's proof is due, on a server the credentials.
 pub const NEWAKSU_STATE_AUTH_INFO: u32 = 2;
-/// State final.
+/// Nothing more is due.
 pub const NEWAKSU_STATE_FINAL: u32 = 3;
 /// There was none yet.
 pub const NEWAKSU_OUTCOME_NONE: u32 = 0;
@@ -193,15 +195,15 @@ pub const NEWAKSU_OUTCOME_REPLY: u32 = 1;
 pub const NEWAKSU_OUTCOME_FINAL: u32 = 2;
 /// A server has the identity, and no message.
 pub const NEWAKSU_OUTCOME_FINISHED: u32 = 3;
-/// The turn was refused; a server has a message for the client.
+/// A server has a message for the client.
 pub const NEWAKSU_OUTCOME_REFUSED: u32 = 4;
-/// A client waits for a KDC: never over the caller's mechanism or plain NTLM.
+/// A client waits for a KDC: never over these mechanisms.
 pub const NEWAKSU_OUTCOME_ASKS: u32 = 5;
-/// Identity domain.
+/// The domain.
 pub const NEWAKSU_IDENTITY_DOMAIN: u32 = 0;
-/// Identity account.
+/// The account, without the domain.
 pub const NEWAKSU_IDENTITY_ACCOUNT: u32 = 1;
-/// Identity password.
+/// The password.
 pub const NEWAKSU_IDENTITY_PASSWORD: u32 = 2;
 /// The whole name: DOMAIN\user, user@domain or user.
 pub const NEWAKSU_IDENTITY_NAME: u32 = 3;
@@ -230,7 +232,8 @@ extern "C" {
     pub fn newaksu_release(handle: *mut newaksu_handle) -> u32;
     /// Which kind of object the handle holds.
     pub fn newaksu_kind(handle: *mut newaksu_handle, kind: *mut u32) -> u32;
-    /// How many bytes the request takes that `bytes` begin with, header and content, from its header alone; five bytes are enough for every header.
+    /// How many bytes the request takes that `bytes` begin with, header and content, from its
+    /// header alone; five bytes are enough for every header.
     pub fn newaksu_request_size(bytes: *const u8, length: usize, size: *mut usize) -> u32;
     /// A request of this version without any other field.
     pub fn newaksu_request_new(request: *mut newaksu_handle, version: u32) -> u32;
@@ -277,7 +280,9 @@ extern "C" {
     /// The next piece.
     pub fn newaksu_reader_feed(reader: *mut newaksu_handle, piece: *const u8, length: usize)
         -> u32;
-    /// What newaksu_request_decode says of all that was fed: at NEWAKSU_OK the handle holds the request, in place of the reader; at NEWAKSU_UNEXPECTED_EOF and NEWAKSU_INVALID_DATA a reader that was fed nothing.
+    /// What newaksu_request_decode says of all that was fed: at NEWAKSU_OK the handle holds the
+    /// request, in place of the reader; at NEWAKSU_UNEXPECTED_EOF and NEWAKSU_INVALID_DATA a reader
+    /// that was fed nothing.
     pub fn newaksu_reader_finish(reader: *mut newaksu_handle) -> u32;
     /// Three texts in UTF-16LE, which are copied.
     pub fn newaksu_credentials_new(
@@ -419,7 +424,8 @@ extern "C" {
         password: *const u8,
         password_length: usize,
     ) -> u32;
-    /// A server to which nothing was delivered yet; all is copied, the identities too, which so may serve many servers.
+    /// A server to which nothing was delivered yet; all is copied, the identities too, which so may
+    /// serve many servers.
     pub fn newaksu_server_new(
         server: *mut newaksu_handle,
         identities: *mut newaksu_handle,
@@ -455,7 +461,9 @@ extern "C" {
     ) -> u32;
     /// What the last turn came to.
     pub fn newaksu_end_outcome(end: *mut newaksu_handle, outcome: *mut u32) -> u32;
-    /// The text that the caller has to seal now, and the field that it is for: NEWAKSU_PUB_KEY_AUTH or NEWAKSU_AUTH_INFO, which `*field` is wherever there is one, also at NEWAKSU_E_BUFFER_TOO_SMALL.
+    /// The text that the caller has to seal now, and the field that it is for: NEWAKSU_PUB_KEY_AUTH
+    /// or NEWAKSU_AUTH_INFO, which `*field` is wherever there is one, also at
+    /// NEWAKSU_E_BUFFER_TOO_SMALL.
     pub fn newaksu_end_sealing(
         end: *mut newaksu_handle,
         field: *mut u32,
@@ -474,7 +482,8 @@ extern "C" {
     ) -> u32;
     /// See `newaksu.h`.
     pub fn newaksu_end_acts(end: *mut newaksu_handle, acts: *mut newaksu_acts) -> u32;
-    /// Why the last turn was refused: its kind, a SECURITY_STATUS, and the NTSTATUS that the peer told, where `*has_nstatus` is 1.
+    /// Why the last turn was refused: its kind, a SECURITY_STATUS, and the NTSTATUS that the peer
+    /// told, where `*has_nstatus` is 1.
     pub fn newaksu_end_refusal(
         end: *mut newaksu_handle,
         kind: *mut u32,

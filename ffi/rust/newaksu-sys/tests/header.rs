@@ -1,4 +1,5 @@
-//! The crate declares what the header does: each call with as many arguments, each constant with its number.
+//! The crate declares what the header does: each call with as many arguments, each constant with
+//! its number.
 
 const HEADER: &str = include_str!("../../../include/newaksu.h");
 const CRATE: &str = include_str!("../src/lib.rs");

@@ -1,5 +1,6 @@
-//! Reads requests, a line of hex each, and writes a line for each: version, negoTokens, authInfo, pubKeyAuth, code, nonce and the
-//! shortest spelling of the request that it begins with, or the fault. The answers are those of `sspi_bench show`.
+//! Reads requests, a line of hex each, and writes a line for each: version, negoTokens, authInfo,
+//! pubKeyAuth, code, nonce and the shortest spelling of the request that it begins with, or the
+//! fault. The answers are those of `sspi_bench show`.
 
 use newaksu::{Error, TsRequest};
 use std::io::{self, BufRead, BufWriter, Write};

@@ -6,7 +6,8 @@ use newaksu::{
 use std::error::Error;
 use std::io::{self, Read, Write};
 
-/// One message: the header byte by byte, and then exactly the content. What follows on the channel is not of CredSSP.
+/// One message: the header byte by byte, and then exactly the content. What follows on the channel
+/// is not of CredSSP.
 pub fn receive(channel: &mut impl Read) -> io::Result<Vec<u8>> {
     let mut message = Vec::new();
     let size = loop {

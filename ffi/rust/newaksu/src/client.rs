@@ -29,23 +29,26 @@ pub enum Delegation {
 pub struct ClientSettings<'a> {
     /// The version of CredSSP that it speaks: 2 to 6.
     pub version: u32,
-    /// The least version of a server that is taken, 0 for every. Below 5 whoever relays the exchange can choose the proof.
+    /// The least version of a server that is taken, 0 for every. Below 5 whoever relays the
+    /// exchange can choose the proof.
     pub least_version: u32,
     /// What is delegated.
     pub delegation: Delegation,
-    /// The SubjectPublicKey of the certificate that the TLS channel's server showed (MS-CSSP 3.1.5).
+    /// The SubjectPublicKey of the certificate that the TLS channel's server showed (MS-CSSP
+    /// 3.1.5).
     pub public_key: &'a [u8],
     /// Whose credentials are delegated: `DOMAIN\user`, `user@domain` or `user`.
     pub user: &'a str,
     /// The password.
     pub password: &'a str,
-    /// What goes into the proofs from version 5 on: 32 fresh bytes of a cryptographic generator. `None` lets the client draw
-    /// them.
+    /// What goes into the proofs from version 5 on: 32 fresh bytes of a cryptographic generator.
+    /// `None` lets the client draw them.
     pub nonce: Option<[u8; 32]>,
 }
 
 impl<'a> ClientSettings<'a> {
-    /// Version 6, which takes servers from version 5 on, delegates its credentials and draws its nonce.
+    /// Version 6, which takes servers from version 5 on, delegates its credentials and draws its
+    /// nonce.
     pub fn new(public_key: &'a [u8], user: &'a str, password: &'a str) -> ClientSettings<'a> {
         ClientSettings {
             version: 6,
@@ -79,16 +82,16 @@ pub enum ClientTurn {
     Final(Vec<u8>),
 }
 
-/// A client over a mechanism. It delegates its credentials once at most, and only to a server that proved over that mechanism
-/// that it speaks over the channel of the same public key.
+/// A client over a mechanism. It delegates its credentials once at most, and only to a server that
+/// proved over that mechanism that it speaks over the channel of the same public key.
 pub struct Client<M> {
     end: End,
     mechanism: M,
 }
 
 impl<M: Mechanism> Client<M> {
-    /// A client that has said nothing yet. Refused with `UNKNOWN_CREDENTIALS` where the user's name mixes the forms; with
-    /// `INTERNAL_ERROR` where there was no randomness.
+    /// A client that has said nothing yet. Refused with `UNKNOWN_CREDENTIALS` where the user's name
+    /// mixes the forms; with `INTERNAL_ERROR` where there was no randomness.
     pub fn new(settings: &ClientSettings<'_>, mechanism: M) -> Result<Client<M>, Error> {
         let options = sys::newaksu_client_options {
             mechanism: sys::NEWAKSU_HOST,
@@ -103,7 +106,8 @@ impl<M: Mechanism> Client<M> {
             Some(nonce) => nonce,
             None => drawn()?,
         };
-        // SAFETY: the handle, the options and the slices are valid; a slice's pointer is never null.
+        // SAFETY: the handle, the options and the slices are valid; a slice's pointer is never
+        // null.
         let handle = Handle::made(|at| unsafe {
             sys::newaksu_client_new(
                 at,
@@ -131,8 +135,9 @@ impl<M: Mechanism> Client<M> {
         self.process(&[])
     }
 
-    /// Takes one whole message of the server, and makes the next one. After [`ProcessError::Refused`] the exchange is over, and
-    /// each further call is refused with `OUT_OF_SEQUENCE`.
+    /// Takes one whole message of the server, and makes the next one. After
+    /// [`ProcessError::Refused`] the exchange is over, and each further call is refused with
+    /// `OUT_OF_SEQUENCE`.
     pub fn process(&mut self, message: &[u8]) -> Result<ClientTurn, ProcessError> {
         match self.end.turn(&mut self.mechanism, None, message)? {
             Made::Final(message) => Ok(ClientTurn::Final(message)),

@@ -5,7 +5,8 @@ use crate::handle::{written_whole, Handle};
 use crate::secret::Secret;
 use newaksu_sys as sys;
 
-/// The credentials of a password, as they stand inside `authInfo`: three texts in UTF-16, the low byte first.
+/// The credentials of a password, as they stand inside `authInfo`: three texts in UTF-16, the low
+/// byte first.
 #[derive(Debug)]
 pub struct TsCredentials {
     /// The domain; empty for a user principal name.
@@ -26,8 +27,9 @@ impl TsCredentials {
         }
     }
 
-    /// The credentials that the bytes begin with. Refused with `INVALID_TOKEN` where there are none of a password, with
-    /// `UNSUPPORTED_FUNCTION` for those of a smart card, with `INVALID_PARAMETER` where a text is no UTF-16.
+    /// The credentials that the bytes begin with. Refused with `INVALID_TOKEN` where there are none
+    /// of a password, with `UNSUPPORTED_FUNCTION` for those of a smart card, with
+    /// `INVALID_PARAMETER` where a text is no UTF-16.
     pub fn decode(bytes: &[u8]) -> Result<TsCredentials, Error> {
         // SAFETY: the handle and the bytes are valid.
         let handle = Handle::made(|at| unsafe {
@@ -40,8 +42,8 @@ impl TsCredentials {
         })
     }
 
-    /// The shortest spelling. Refused with `INVALID_PARAMETER` where a text is no UTF-16, with `INTERNAL_ERROR` where the content
-    /// passes 1048576 bytes.
+    /// The shortest spelling. Refused with `INVALID_PARAMETER` where a text is no UTF-16, with
+    /// `INTERNAL_ERROR` where the content passes 1048576 bytes.
     pub fn encode(&self) -> Result<Secret, Error> {
         let password = self.password.as_bytes();
         // SAFETY: the handle and the three texts are valid.

@@ -20,13 +20,14 @@ impl EarlyResult {
             EarlyResult::AccessDenied => sys::NEWAKSU_EARLY_ACCESS_DENIED,
         };
         let (mut bytes, mut size) = ([0; 4], 0);
-        // SAFETY: the room is for four bytes, and the count is valid. Both numbers are results, so this is never refused.
+        // SAFETY: the room is for four bytes, and the count is valid. Both numbers are results, so
+        // this is never refused.
         let _ = unsafe { sys::newaksu_early_encode(number, bytes.as_mut_ptr(), 4, &mut size) };
         bytes
     }
 
-    /// The result that the bytes begin with. [`Error::UnexpectedEof`]: there are fewer than four. [`Error::InvalidData`]: they
-    /// are no result.
+    /// The result that the bytes begin with. [`Error::UnexpectedEof`]: there are fewer than four.
+    /// [`Error::InvalidData`]: they are no result.
     pub fn decode(bytes: &[u8]) -> Result<EarlyResult, Error> {
         let mut number = 0;
         // SAFETY: the bytes are valid, and the number is.

@@ -80,7 +80,8 @@ impl End {
 
     pub(crate) fn state(&self) -> State {
         let mut state = sys::NEWAKSU_STATE_FINAL;
-        // SAFETY: the handle is valid, and the number is. A handle that holds an end is always answered.
+        // SAFETY: the handle is valid, and the number is. A handle that holds an end is always
+        // answered.
         let _ = unsafe { sys::newaksu_end_state(self.handle.at(), &mut state) };
         match state {
             sys::NEWAKSU_STATE_NEGO_TOKEN => State::NegoToken,
@@ -134,7 +135,8 @@ impl End {
         request: Option<&TsRequest>,
     ) -> Result<Findings, SecurityStatus> {
         let mut findings = Findings::default();
-        // a client that is told an error refuses before anything else, so its mechanism is left alone
+        // a client that is told an error refuses before anything else, so its mechanism is left
+        // alone
         if naming.is_none() && tells_error(request) {
             return Ok(findings);
         }
@@ -192,7 +194,8 @@ impl End {
 
     fn outcome(&self) -> u32 {
         let mut outcome = sys::NEWAKSU_OUTCOME_NONE;
-        // SAFETY: the handle is valid, and the number is. A handle that holds an end is always answered.
+        // SAFETY: the handle is valid, and the number is. A handle that holds an end is always
+        // answered.
         let _ = unsafe { sys::newaksu_end_outcome(self.handle.at(), &mut outcome) };
         outcome
     }
@@ -238,8 +241,8 @@ impl End {
         })
     }
 
-    /// Ends the exchange. A server tells its client why: by the end's message where that refused, and not by what it said before
-    /// something else failed.
+    /// Ends the exchange. A server tells its client why: by the end's message where that refused,
+    /// and not by what it said before something else failed.
     fn refuse(&mut self, is_server: bool, status: SecurityStatus) -> Refusal {
         self.is_refused = true;
         let mut refusal = self.refusal(status);
@@ -341,7 +344,8 @@ fn counted(name: &str) -> Result<Vec<u8>, SecurityStatus> {
     Ok([&count.to_le_bytes()[..], &bytes].concat())
 }
 
-/// Opens a field. One that is absent, or too short, or does not open, is left to the end, which says so.
+/// Opens a field. One that is absent, or too short, or does not open, is left to the end, which
+/// says so.
 fn open<M: Mechanism>(
     mechanism: &mut M,
     field: u32,

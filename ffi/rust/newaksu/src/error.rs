@@ -8,7 +8,8 @@ use std::fmt;
 #[derive(Clone, Copy, Debug, PartialEq, Eq)]
 #[non_exhaustive]
 pub enum Error {
-    /// The bytes end before the element does; of the outer header of a request also any other fault.
+    /// The bytes end before the element does; of the outer header of a request also any other
+    /// fault.
     UnexpectedEof,
     /// A wrong tag or a refused length; in writing, a content of more than 1048576 bytes.
     InvalidData,

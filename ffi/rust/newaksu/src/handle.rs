@@ -4,10 +4,12 @@ use crate::error::Error;
 use newaksu_sys as sys;
 use std::cell::UnsafeCell;
 
-/// Owns one object, or none. Every call takes it exclusively, also one that only asks, so it is not `Sync`.
+/// Owns one object, or none. Every call takes it exclusively, also one that only asks, so it is not
+/// `Sync`.
 pub(crate) struct Handle(UnsafeCell<sys::newaksu_handle>);
 
-// SAFETY: an object stands on the heap, belongs to its handle alone and to no thread, and shares nothing with another.
+// SAFETY: an object stands on the heap, belongs to its handle alone and to no thread, and shares
+// nothing with another.
 unsafe impl Send for Handle {}
 
 impl Handle {
@@ -15,8 +17,8 @@ impl Handle {
         Handle(UnsafeCell::new(sys::NEWAKSU_EMPTY))
     }
 
-    /// The pointer that the archive takes. It is valid while `self` is, and no other call runs meanwhile: `Handle` is not `Sync`
-    /// and no call comes back.
+    /// The pointer that the archive takes. It is valid while `self` is, and no other call runs
+    /// meanwhile: `Handle` is not `Sync` and no call comes back.
     pub(crate) fn at(&self) -> *mut sys::newaksu_handle {
         self.0.get()
     }
@@ -38,7 +40,8 @@ impl Drop for Handle {
     }
 }
 
-/// What a call writes: it is asked for the size, and then given the room. `None` where there is nothing to be written.
+/// What a call writes: it is asked for the size, and then given the room. `None` where there is
+/// nothing to be written.
 pub(crate) fn written(
     mut write: impl FnMut(*mut u8, usize, *mut usize) -> u32,
 ) -> Result<Option<Vec<u8>>, Error> {

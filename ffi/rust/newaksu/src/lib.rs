@@ -1,12 +1,15 @@
-//! CredSSP (MS-CSSP) over a mechanism of your own, and the codec of its messages: the safe interface of libnewaksu, whose
-//! functions are proved.
+//! CredSSP (MS-CSSP) over a mechanism of your own, and the codec of its messages: the safe
+//! interface of libnewaksu, whose functions are proved.
 //!
-//! - [`Client`] and [`Server`]: the ends of the exchange. Each takes one message of its peer a call, over a [`Mechanism`], as an
-//!   NTLM or a Kerberos that the program has.
-//! - [`TsRequest`], [`TsReader`] and [`requests`]: the messages, whole, in pieces, and one behind the other.
-//! - [`TsCredentials`], [`EarlyResult`], [`NegTokenInit`] and [`NegTokenResp`]: what else is read and written.
+//! - [`Client`] and [`Server`]: the ends of the exchange. Each takes one message of its peer a
+//!   call, over a [`Mechanism`], as an NTLM or a Kerberos that the program has.
+//! - [`TsRequest`], [`TsReader`] and [`requests`]: the messages, whole, in pieces, and one behind
+//!   the other.
+//! - [`TsCredentials`], [`EarlyResult`], [`NegTokenInit`] and [`NegTokenResp`]: what else is read
+//!   and written.
 //!
-//! A client delegates its credentials only once the server proved that it speaks over the same channel:
+//! A client delegates its credentials only once the server proved that it speaks over the same
+//! channel:
 //!
 //! ```no_run
 //! use newaksu::{Client, ClientSettings, ClientTurn, Mechanism};
@@ -28,7 +31,8 @@
 //! }
 //! ```
 //!
-//! Nothing here reads or writes a channel. An end may be sent to another thread, and is used by one at a time.
+//! Nothing here reads or writes a channel. An end may be sent to another thread, and is used by one
+//! at a time.
 
 #![warn(missing_docs, missing_debug_implementations)]
 

@@ -11,29 +11,30 @@ pub enum Step {
     Done(Vec<u8>),
 }
 
-/// A security context of the program's own, as an NTLM or a Kerberos behind SSPI or GSSAPI, below a [`crate::Client`] or, with
-/// [`Acceptor`], a [`crate::Server`].
+/// A security context of the program's own, as an NTLM or a Kerberos behind SSPI or GSSAPI, below a
+/// [`crate::Client`] or, with [`Acceptor`], a [`crate::Server`].
 ///
-/// A refusal is the SECURITY_STATUS of its kind; a number that SSPI does not name as an error counts as `INVALID_TOKEN`. Once a
-/// call refused, no other is made.
+/// A refusal is the SECURITY_STATUS of its kind; a number that SSPI does not name as an error
+/// counts as `INVALID_TOKEN`. Once a call refused, no other is made.
 pub trait Mechanism {
-    /// Takes the peer's token, which is empty in a client's first step, and makes the own one. Not called again once it was
-    /// [`Step::Done`].
+    /// Takes the peer's token, which is empty in a client's first step, and makes the own one. Not
+    /// called again once it was [`Step::Done`].
     fn step(&mut self, token: &[u8]) -> Result<Step, SecurityStatus>;
 
-    /// Seals a text as this end's next message, with its signature in front, as SSPI's EncryptMessage lays out the buffers Token
-    /// and Data, or gss_wrap of NTLM and Kerberos does. The blob has at least 16 bytes.
+    /// Seals a text as this end's next message, with its signature in front, as SSPI's
+    /// EncryptMessage lays out the buffers Token and Data, or gss_wrap of NTLM and Kerberos does.
+    /// The blob has at least 16 bytes.
     fn seal(&mut self, text: &[u8]) -> Result<Vec<u8>, SecurityStatus>;
 
-    /// Opens the peer's next message, of at least 16 bytes, or refuses it: `MESSAGE_ALTERED` where its signature is not the
-    /// peer's. The credentials of a client rest on this answer.
+    /// Opens the peer's next message, of at least 16 bytes, or refuses it: `MESSAGE_ALTERED` where
+    /// its signature is not the peer's. The credentials of a client rest on this answer.
     fn unseal(&mut self, blob: &[u8]) -> Result<Vec<u8>, SecurityStatus>;
 }
 
 /// A server's mechanism.
 pub trait Acceptor: Mechanism {
-    /// The name of the user whom it authenticated: `DOMAIN\user`, `user@domain` or `user`. Called once, behind the step that was
-    /// [`Step::Done`].
+    /// The name of the user whom it authenticated: `DOMAIN\user`, `user@domain` or `user`. Called
+    /// once, behind the step that was [`Step::Done`].
     fn peer(&mut self) -> Result<String, SecurityStatus>;
 }
 

@@ -6,7 +6,8 @@ use crate::request::TsRequest;
 use newaksu_sys as sys;
 use std::fmt;
 
-/// A reader of one request, which is fed with pieces of any size and keeps the fields that it read, not the bytes.
+/// A reader of one request, which is fed with pieces of any size and keeps the fields that it read,
+/// not the bytes.
 pub struct TsReader {
     handle: Handle,
 }
@@ -19,7 +20,8 @@ impl TsReader {
         Ok(TsReader { handle })
     }
 
-    /// The next piece. [`Error::OutOfMemory`]: nothing was taken, and the same piece may be fed again.
+    /// The next piece. [`Error::OutOfMemory`]: nothing was taken, and the same piece may be fed
+    /// again.
     pub fn feed(&mut self, piece: &[u8]) -> Result<(), Error> {
         // SAFETY: the handle and the piece are valid.
         Error::check(unsafe {

@@ -16,16 +16,18 @@ pub struct TsRequest {
     pub auth_info: Option<Vec<u8>>,
     /// The sealed proof of the server's public key (`pubKeyAuth`).
     pub pub_key_auth: Option<Vec<u8>>,
-    /// The status of a failure. It is read from version 3 on, and written from version 3 on except at 5.
+    /// The status of a failure. It is read from version 3 on, and written from version 3 on except
+    /// at 5.
     pub error_code: Option<NtStatus>,
     /// The 32 bytes of `clientNonce`, which are read and written from version 5 on.
     pub client_nonce: Option<[u8; 32]>,
 }
 
 impl TsRequest {
-    /// The request that the bytes begin with; what follows it is ignored. [`Error::UnexpectedEof`] where the header is bad or
-    /// fewer bytes are there than it announces, or where the content ends inside an element; [`Error::InvalidData`] where an
-    /// element is not spelled as it must be; [`Error::OutOfMemory`].
+    /// The request that the bytes begin with; what follows it is ignored. [`Error::UnexpectedEof`]
+    /// where the header is bad or fewer bytes are there than it announces, or where the content
+    /// ends inside an element; [`Error::InvalidData`] where an element is not spelled as it must
+    /// be; [`Error::OutOfMemory`].
     pub fn decode(bytes: &[u8]) -> Result<TsRequest, Error> {
         // SAFETY: the handle and the bytes are valid; a slice's pointer is never null.
         let handle = Handle::made(|at| unsafe {
@@ -34,8 +36,8 @@ impl TsRequest {
         TsRequest::of(&handle)
     }
 
-    /// How many bytes the request takes that the bytes begin with, from its header alone; five bytes are enough for every header.
-    /// `None` where the header is not whole yet, or is none.
+    /// How many bytes the request takes that the bytes begin with, from its header alone; five
+    /// bytes are enough for every header. `None` where the header is not whole yet, or is none.
     pub fn size(bytes: &[u8]) -> Option<usize> {
         let mut size = 0;
         // SAFETY: the bytes are valid, and the count is.
@@ -43,7 +45,8 @@ impl TsRequest {
         (status == sys::NEWAKSU_OK).then_some(size)
     }
 
-    /// The shortest spelling. [`Error::InvalidData`] where the content passes 1048576 bytes, [`Error::OutOfMemory`].
+    /// The shortest spelling. [`Error::InvalidData`] where the content passes 1048576 bytes,
+    /// [`Error::OutOfMemory`].
     pub fn encode(&self) -> Result<Vec<u8>, Error> {
         let handle = self.to_handle()?;
         // SAFETY: the handle is valid, and the room is for `capacity` bytes.
@@ -116,8 +119,8 @@ fn error_code(handle: &Handle) -> Result<Option<NtStatus>, Error> {
     }
 }
 
-/// The requests that stand one behind the other in the bytes. The last item is the error of what is not a whole request; there is
-/// none where the bytes end with a request.
+/// The requests that stand one behind the other in the bytes. The last item is the error of what is
+/// not a whole request; there is none where the bytes end with a request.
 pub fn requests(bytes: &[u8]) -> Requests<'_> {
     Requests { left: bytes }
 }

@@ -14,11 +14,13 @@ use std::fmt;
 pub struct ServerSettings<'a> {
     /// The version of CredSSP that it speaks: 2 to 6.
     pub version: u32,
-    /// The least version of a client that is taken, 0 for every. Below 5 whoever relays the exchange can choose the proof.
+    /// The least version of a client that is taken, 0 for every. Below 5 whoever relays the
+    /// exchange can choose the proof.
     pub least_version: u32,
     /// The SubjectPublicKey of the TLS channel's certificate (MS-CSSP 3.1.5).
     pub public_key: &'a [u8],
-    /// The users whom it takes, compared without the case of ASCII letters; `None` for each that the mechanism names.
+    /// The users whom it takes, compared without the case of ASCII letters; `None` for each that
+    /// the mechanism names.
     pub users: Option<&'a [&'a str]>,
 }
 
@@ -34,8 +36,8 @@ impl<'a> ServerSettings<'a> {
     }
 }
 
-/// The credentials that a client delegated. Nothing checked this password yet: the mechanism authenticated the user, and what is
-/// delegated may be another's.
+/// The credentials that a client delegated. Nothing checked this password yet: the mechanism
+/// authenticated the user, and what is delegated may be another's.
 #[derive(Debug)]
 pub struct Identity {
     /// The whole name: `DOMAIN\user`, `user@domain` or `user`.
@@ -57,15 +59,16 @@ pub enum ServerTurn {
     Finished(Identity),
 }
 
-/// A server over a mechanism. It answers credentials only behind the proof of a client that speaks over the channel of the same
-/// public key.
+/// A server over a mechanism. It answers credentials only behind the proof of a client that speaks
+/// over the channel of the same public key.
 pub struct Server<M> {
     end: End,
     mechanism: M,
 }
 
 impl<M: Acceptor> Server<M> {
-    /// A server that was told nothing yet. Refused with `UNKNOWN_CREDENTIALS` where a user's name mixes the forms.
+    /// A server that was told nothing yet. Refused with `UNKNOWN_CREDENTIALS` where a user's name
+    /// mixes the forms.
     pub fn new(settings: &ServerSettings<'_>, mechanism: M) -> Result<Server<M>, Error> {
         let options = sys::newaksu_server_options {
             mechanism: sys::NEWAKSU_HOST,
@@ -73,7 +76,8 @@ impl<M: Acceptor> Server<M> {
             least_version: settings.least_version,
         };
         let known = identities(settings.users)?;
-        // SAFETY: the handles, the options and the slices are valid; a slice's pointer is never null.
+        // SAFETY: the handles, the options and the slices are valid; a slice's pointer is never
+        // null.
         let handle = Handle::made(|at| unsafe {
             sys::newaksu_server_new(
                 at,
@@ -91,8 +95,9 @@ impl<M: Acceptor> Server<M> {
         })
     }
 
-    /// Takes one whole message of the client. After [`ProcessError::Refused`] the exchange is over: send the refusal's message and
-    /// close the channel. Each further call is refused with `OUT_OF_SEQUENCE`.
+    /// Takes one whole message of the client. After [`ProcessError::Refused`] the exchange is over:
+    /// send the refusal's message and close the channel. Each further call is refused with
+    /// `OUT_OF_SEQUENCE`.
     pub fn process(&mut self, message: &[u8]) -> Result<ServerTurn, ProcessError> {
         match self.end.turn(&mut self.mechanism, Some(M::peer), message)? {
             Made::Reply(message) | Made::Final(message) => Ok(ServerTurn::Reply(message)),

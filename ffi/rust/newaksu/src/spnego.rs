@@ -70,7 +70,8 @@ impl NegTokenInit {
         })
     }
 
-    /// The list of mechanisms alone, as the SEQUENCE over which MICs are made; none where there is no list.
+    /// The list of mechanisms alone, as the SEQUENCE over which MICs are made; none where there is
+    /// no list.
     pub fn mech_list(&self) -> Result<Option<Vec<u8>>, Error> {
         let handle = self.to_handle()?;
         // SAFETY: as above.

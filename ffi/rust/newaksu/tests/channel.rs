@@ -1,4 +1,5 @@
-//! The turns of `examples/turns.rs`: a client and a server in a thread each, with a pair of sockets between them.
+//! The turns of `examples/turns.rs`: a client and a server in a thread each, with a pair of sockets
+//! between them.
 
 mod common;
 #[path = "../examples/turns.rs"]

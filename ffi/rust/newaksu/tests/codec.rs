@@ -9,7 +9,10 @@ use newaksu::{
 };
 
 fn vectors() -> Vec<(Vec<u8>, TsRequest)> {
-    let proof = from_hex("01000000d8b30c7e37512184000000006c47c8e302599219d199dfbd0ff571613adf7403effca52316233755ff9120d8");
+    let proof = from_hex(
+        "01000000d8b30c7e37512184000000006c47c8e302599219
+         d199dfbd0ff571613adf7403effca52316233755ff9120d8",
+    );
     let nonce = from_hex("f88dd4b7559a94e5e87f2b2f94c23858a984fc07697df85776c957a31512eb32");
     let bare = |version| TsRequest {
         version,
@@ -130,7 +133,10 @@ fn faults() {
 
 #[test]
 fn credentials() {
-    let bytes = from_hex("3027 a003020101 a120 041e 301c a008 0406 44004f004d00 a108 0406 61006e006e00 a206 0404 70007700");
+    let bytes = from_hex(
+        "3027 a003020101 a120 041e 301c a008 0406 44004f004d00
+         a108 0406 61006e006e00 a206 0404 70007700",
+    );
     let read = TsCredentials::decode(&bytes).unwrap();
     assert_eq!(
         (&read.domain[..], &read.user[..], read.password.as_bytes()),

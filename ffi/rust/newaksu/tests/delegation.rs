@@ -1,5 +1,5 @@
-//! Both ends against each other over a mechanism that encrypts: every pair of versions, every form of a name, both kinds of
-//! delegation.
+//! Both ends against each other over a mechanism that encrypts: every pair of versions, every form
+//! of a name, both kinds of delegation.
 
 mod common;
 
@@ -12,7 +12,8 @@ fn run(setup: &Setup<'_>) -> Exchange {
     exchange
 }
 
-/// Ends match where both are below version 5 or both are not. An error code is told from version 3 on, and not at version 5.
+/// Ends match where both are below version 5 or both are not. An error code is told from version 3
+/// on, and not at version 5.
 #[test]
 fn every_pair_of_versions() {
     for client in 2..=6 {
@@ -114,7 +115,8 @@ fn messages_that_are_followed() {
     exchange.check_delegated(usual().name, usual().passwords[0]);
 }
 
-/// A field that is not due is neither opened nor sent back. What a host hands its end begins with such zeros.
+/// A field that is not due is neither opened nor sent back. What a host hands its end begins with
+/// such zeros.
 #[test]
 fn fields_that_are_not_due() {
     let mut exchange = Exchange::new(&usual());

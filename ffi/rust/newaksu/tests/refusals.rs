@@ -1,4 +1,5 @@
-//! Exchanges that go wrong. Each is refused as the proved ends refuse, and no credentials are given out in any.
+//! Exchanges that go wrong. Each is refused as the proved ends refuse, and no credentials are given
+//! out in any.
 
 mod common;
 
@@ -80,7 +81,8 @@ fn changed_credentials() {
     assert!(exchange.identity.is_none() && exchange.client.mechanism().saw_password);
 }
 
-/// One byte of one message is another: the credentials come as they were sent, or they are withheld.
+/// One byte of one message is another: the credentials come as they were sent, or they are
+/// withheld.
 #[test]
 fn every_byte_changed() {
     for number in 0..5 {

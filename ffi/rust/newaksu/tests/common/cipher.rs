@@ -1,4 +1,5 @@
-//! ChaCha20-Poly1305 (RFC 8439) for the mechanism of the tests alone: it is not made against timing.
+//! ChaCha20-Poly1305 (RFC 8439) for the mechanism of the tests alone: it is not made against
+//! timing.
 
 fn word(bytes: &[u8]) -> u32 {
     u32::from_le_bytes([bytes[0], bytes[1], bytes[2], bytes[3]])
@@ -172,7 +173,8 @@ fn the_example_of_the_standard() {
     let aad = [
         0x50, 0x51, 0x52, 0x53, 0xc0, 0xc1, 0xc2, 0xc3, 0xc4, 0xc5, 0xc6, 0xc7,
     ];
-    let text = b"Ladies and Gentlemen of the class of '99: If I could offer you only one tip for the future, sunscreen would be it.";
+    let text = b"Ladies and Gentlemen of the class of '99: If I could offer you only one tip \
+        for the future, sunscreen would be it.";
     let sealed = seal(&key, &nonce, &aad, text);
     let tag = [
         0x1a, 0xe1, 0x0b, 0x59, 0x4f, 0x09, 0xe2, 0x6a, 0x7e, 0x90, 0x2e, 0xcb, 0xd0, 0x60, 0x06,

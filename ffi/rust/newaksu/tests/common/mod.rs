@@ -1,5 +1,5 @@
-//! A mechanism for the tests, of three tokens as NTLM's, which really encrypts: by ChaCha20-Poly1305, under a key that both ends
-//! derive of the password and of what each drew.
+//! A mechanism for the tests, of three tokens as NTLM's, which really encrypts: by
+//! ChaCha20-Poly1305, under a key that both ends derive of the password and of what each drew.
 //!
 //!     client   "T1" and what it drew, 16 bytes
 //!     server   "T2" and what it drew, 16 bytes
@@ -7,7 +7,8 @@
 //!
 //! or of two, as Kerberos's:
 //!
-//!     client   "K1", what it drew, a tag of 16 bytes under the password, and the user's name, which the tag covers
+//!     client   "K1", what it drew, a tag of 16 bytes under the password, and the user's name,
+//!              which the tag covers
 //!     server   "K2" and what it drew, 16 bytes
 
 #![allow(dead_code)]
