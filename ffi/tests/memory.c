@@ -52,7 +52,7 @@ static struct setup setup_of_secret(void) {
 static void nothing_is_left_behind(void) {
     struct setup setup = setup_of_secret();
     struct exchange exchange;
-    char *block;
+    char *volatile block; /* so that a compiler does not leave the block out */
     exchange_make(&exchange, &setup);
     exchange_run(&exchange, NULL, NULL);
     check_delegated(&exchange, setup.name, setup.password);
