@@ -22,8 +22,9 @@ tried rattle_alloc(size_t size, size_t align);
 tried rattle_realloc(uint8_t *at, size_t kept, size_t size, size_t align);
 void rattle_dealloc(uint8_t *at);
 
-/* What stands for the address of a block that there is none of: an address that is not null. */
-static uint8_t nothing;
+/* What stands for the address of a block that there is none of: an address that is not null, and is
+ * never written to. */
+static const uint8_t nothing;
 
 static header *header_of(uint8_t *at) {
     return (header *)(void *)at - 1;
@@ -38,7 +39,7 @@ tried rattle_alloc(size_t size, size_t align) {
     size_t room = size == 0 ? align : size;
     header *block = room > SIZE_MAX - sizeof(header) ? NULL : malloc(sizeof(header) + room);
     if (block == NULL)
-        return (tried){false, &nothing};
+        return (tried){false, (uint8_t *)(uintptr_t)&nothing};
     block->size = room;
     return (tried){true, (uint8_t *)(block + 1)};
 }
