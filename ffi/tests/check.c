@@ -34,8 +34,8 @@ size_t from_hex(const char *digits, uint8_t *bytes, size_t capacity) {
             digits++;
             continue;
         }
-        check(count < capacity && digit(digits[0]) >= 0 && digit(digits[1]) >= 0, digits, __FILE__,
-              __LINE__);
+        if (count == capacity || digit(digits[0]) < 0 || digit(digits[1]) < 0)
+            check(0, digits, __FILE__, __LINE__);
         bytes[count++] = (uint8_t)(digit(digits[0]) << 4 | digit(digits[1]));
         digits += 2;
     }
