@@ -1,0 +1,173 @@
+/* A client of CredSSP: authenticates a user at a server, delegates the credentials, and says what it was told.
+ *
+ * Standard output: `protocol`, `version`, `delegated`, and where it asked for it `early success` or `early denied`. Standard
+ * error: the refusal or the fault by name. Exit status: 0 where the credentials were sent and no early result denied the
+ * user, 1 for a refusal, 2 for wrong arguments, 3 for a fault. */
+#define _GNU_SOURCE
+#include <getopt.h>
+#include <signal.h>
+#include <stdio.h>
+#include <stdlib.h>
+#include <string.h>
+
+#include "arguments.h"
+#include "channel.h"
+#include "exchange.h"
+#include "gss.h"
+#include "newaksu.h"
+#include "secret.h"
+#include "x224.h"
+
+enum { GREATEST_VERSION = 6 };
+
+struct settings {
+    const char *host, *port, *user, *mechanism;
+    struct trust trust;
+    int password_fd;
+    uint32_t version, least_version;
+    bool early, credential_less, trace;
+};
+
+static int usage(void)
+{
+    fputs("usage: credssp-client --host HOST --user USER (--certificate FILE | --fingerprint SHA256) [--port PORT]\n"
+          "    [--password-fd N] [--mechanism ntlm|kerberos|spnego] [--version N] [--least-version N] [--early]\n"
+          "    [--credential-less] [--trace]\n"
+          "The password is the next line of the file descriptor, or is asked for. USER is DOMAIN\\user, user@domain or user.\n"
+          "--early asks for HYBRID_EX. --credential-less sends no password. --trace shows each message.\n",
+          stderr);
+    return 2;
+}
+
+static bool read_arguments(int count, char **words, struct settings *settings)
+{
+    static const struct option options[] = {
+        { "host", required_argument, NULL, 'h' }, { "user", required_argument, NULL, 'u' },
+        { "certificate", required_argument, NULL, 'c' }, { "fingerprint", required_argument, NULL, 'f' },
+        { "port", required_argument, NULL, 'p' }, { "password-fd", required_argument, NULL, 'P' },
+        { "mechanism", required_argument, NULL, 'm' }, { "version", required_argument, NULL, 'v' },
+        { "least-version", required_argument, NULL, 'l' }, { "early", no_argument, NULL, 'e' },
+        { "credential-less", no_argument, NULL, 'L' }, { "trace", no_argument, NULL, 't' }, { 0 }
+    };
+    bool good = true;
+    uint32_t number = 0;
+    for (int option; (option = getopt_long(count, words, "", options, NULL)) != -1;) {
+        switch (option) {
+        case 'h': settings->host = optarg; break;
+        case 'u': settings->user = optarg; break;
+        case 'c': settings->trust.file = optarg; break;
+        case 'f': settings->trust.fingerprint = optarg; break;
+        case 'p': settings->port = optarg; break;
+        case 'P': good = good && argument_number(optarg, INT32_MAX, &number); settings->password_fd = (int)number; break;
+        case 'm': settings->mechanism = optarg; break;
+        case 'v': good = good && argument_number(optarg, GREATEST_VERSION, &settings->version); break;
+        case 'l': good = good && argument_number(optarg, GREATEST_VERSION, &settings->least_version); break;
+        case 'e': settings->early = true; break;
+        case 'L': settings->credential_less = true; break;
+        case 't': settings->trace = true; break;
+        default: good = false;
+        }
+    }
+    bool trusts_one = !settings->trust.file != !settings->trust.fingerprint;
+    return good && optind == count && settings->host && settings->user && trusts_one && gss_knows(settings->mechanism);
+}
+
+/* A host over GSSAPI, bound to the key of the channel. It and GSSAPI keep copies of the password. */
+static enum fault make_host(const struct settings *settings, const struct channel *channel, struct gss **gss,
+                            newaksu_host **host)
+{
+    char password[PASSWORD_BYTES + 1] = "";
+    newaksu_client_settings options;
+    newaksu_client_settings_init(&options);
+    options.version = settings->version;
+    options.least_version = settings->least_version;
+    options.delegation = settings->credential_less ? NEWAKSU_CREDENTIAL_LESS : NEWAKSU_WITH_CREDENTIALS;
+    options.user = settings->user;
+    options.user_length = strlen(settings->user);
+    enum fault fault = tls_server_key(channel, &options.public_key, &options.public_key_length);
+    if (fault == FAULT_NONE)
+        fault = read_password(settings->password_fd, "Password: ", password);
+    if (fault == FAULT_NONE)
+        fault = gss_client(gss, settings->mechanism, settings->host, settings->user, password);
+    options.password = password;
+    options.password_length = strlen(password);
+    uint32_t status = NEWAKSU_OK;
+    if (fault == FAULT_NONE)
+        status = newaksu_host_client(&options, &gss_mechanism, *gss, host);
+    if (status != NEWAKSU_OK)
+        fault = status == NEWAKSU_E_INVALID_PARAMETER ? FAULT_SETTINGS : FAULT_MEMORY;
+    explicit_bzero(password, sizeof password);
+    return fault;
+}
+
+/* What the server says behind the delegation. */
+static int hear(struct channel *channel)
+{
+    uint8_t bytes[4];
+    uint32_t result;
+    enum fault fault = channel_read(channel, bytes, sizeof bytes);
+    if (fault != FAULT_NONE)
+        return fault_report(fault, "early user authorization result");
+    if (newaksu_early_decode(bytes, sizeof bytes, &result) != NEWAKSU_OK)
+        return fault_report(FAULT_NOT_A_REQUEST, "early user authorization result");
+    printf("early %s\n", result == 0 ? "success" : "denied");
+    return result == 0 ? 0 : 1;
+}
+
+static int delegate(const struct settings *settings, struct channel *channel, uint32_t protocol)
+{
+    struct exchange exchange = { .trace = settings->trace };
+    struct gss *gss = NULL;
+    newaksu_host *host = NULL;
+    enum fault fault = make_host(settings, channel, &gss, &host);
+    int status = 1;
+    if (fault == FAULT_NONE) {
+        fault = exchange_run(&exchange, channel, host, true);
+        if (exchange.peer_version)
+            printf("version %u\n", (unsigned int)exchange.peer_version);
+    }
+    if (fault != FAULT_NONE) {
+        status = fault_report(fault, "CredSSP");
+    } else if (exchange.status != NEWAKSU_OK) {
+        exchange_print_refusal(host);
+    } else {
+        puts("delegated");
+        status = protocol == X224_HYBRID_EX ? hear(channel) : 0;
+    }
+    if (gss)
+        gss_print_failure(gss);
+    if (host)
+        newaksu_host_release(host);
+    else if (gss)
+        gss_mechanism.release(gss);
+    return status;
+}
+
+/* X.224, TLS, CredSSP. */
+static int log_on(const struct settings *settings, struct channel *channel)
+{
+    uint32_t protocol;
+    uint32_t wanted = X224_TLS | X224_HYBRID | (settings->early ? X224_HYBRID_EX : 0);
+    enum fault fault = x224_connect(channel, wanted, settings->credential_less, &protocol);
+    if (fault != FAULT_NONE)
+        return fault_report(fault, "X.224");
+    printf("protocol %s\n", x224_name(protocol));
+    fault = tls_connect(channel, settings->host, &settings->trust);
+    return fault == FAULT_NONE ? delegate(settings, channel, protocol) : fault_report(fault, "TLS");
+}
+
+int main(int count, char **words)
+{
+    struct settings settings = { .port = "3389", .mechanism = "ntlm", .password_fd = -1, .version = 6, .least_version = 5 };
+    struct channel channel;
+    signal(SIGPIPE, SIG_IGN);
+    setvbuf(stdout, NULL, _IOLBF, 0);
+    if (!read_arguments(count, words, &settings))
+        return usage();
+    enum fault fault = channel_connect(&channel, settings.host, settings.port);
+    if (fault != FAULT_NONE)
+        return fault_report(fault, settings.host);
+    int status = log_on(&settings, &channel);
+    channel_close(&channel);
+    return status;
+}

@@ -1,0 +1,12 @@
+/* A password, read where no other user of the machine sees it. */
+#ifndef NEWAKSU_EXAMPLE_SECRET_H
+#define NEWAKSU_EXAMPLE_SECRET_H
+
+#include "fault.h"
+
+enum { PASSWORD_BYTES = 512 };
+
+/* Reads one line, of the file descriptor, or at a prompt without echo where `fd` is below 0. The caller overwrites it. */
+enum fault read_password(int fd, const char *prompt, char password[PASSWORD_BYTES + 1]);
+
+#endif
