@@ -47,6 +47,11 @@ hostile:
 fuzz:
 	@tools/hostile/fuzz 100000 1
 
+# Real logons on loopback, by NTLM and Kerberos of the system, with FreeRDP and with each other. It says what apt-get must install first.
+.PHONY: logon
+logon:
+	@tools/logon/logon
+
 # The wrong bodies that the gate does not try, each of which must be refused. They take some hours.
 wrong-bodies:
 	@tools/wrong-bodies
