@@ -1,4 +1,4 @@
-.PHONY: run play program test check fmt size apart guide wrong-bodies hostile fuzz lib c rust install
+.PHONY: run play program test check fmt size apart guide wrong-bodies hostile fuzz lib c rust install check-one
 
 PREFIX ?= /usr/local
 
@@ -22,6 +22,10 @@ test:
 # Proves every crate over what earlier checks kept.
 check:
 	@rt all check
+
+# Proves one crate, or one function of it: make check-one CRATE=sspi_credssp FN=server::CredSspServer::process
+check-one:
+	@cd crates/$(CRATE) && rt check $(if $(FN),--only $(FN))
 
 # Lays out every crate.
 fmt:
