@@ -5,8 +5,8 @@
 --     server  = 2OCTET name step                          how many bytes the name has, the name of the peer in UTF-16, no name where it has none
 --
 -- The low byte of each number stands first.
-use Rattle.std.specs.Prelude.{◌≡◌, ℕ, ◌+◌, ◌*◌, ◌==◌, ◌++◌, List, [], ◌∷◌, take, drop, length, replicate, nat_lt, Bool, false}
-use Rattle.std.specs.Prelude.{Option, None, Some, option_map, unwrap_or, Result, Ok, Err, if◌then◌else◌}
+use Rattle.std.specs.Prelude.{◌≡◌, ℕ, ◌+◌, ◌*◌, ◌==◌, List, [], ◌∷◌, take, drop, length, replicate, nat_lt}
+use Rattle.std.specs.Prelude.{Option, None, Some, unwrap_or, Result, Ok, Err, if◌then◌else◌}
 use Rattle.std.specs.Int.{w32, from_le_bytes}
 use Rattle.std.specs.Str.{bytes_eq}
 use Rattle.sspi_types.specs.declared.error_kind.ErrorKind.{ErrorKind}

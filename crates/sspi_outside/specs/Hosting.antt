@@ -1,5 +1,5 @@
 -- What the host of an end over `Outside` reports of a message, and what it has to seal of the answer.
-use Rattle.std.specs.Prelude.{◌≡◌, ℕ, ◌++◌, List, [], ◌∷◌, drop, length, nat_lt, Option, None, Some, Result, Ok, Err, if◌then◌else◌}
+use Rattle.std.specs.Prelude.{ℕ, ◌++◌, List, ◌∷◌, drop, length, nat_lt, Option, None, Some, Result, Ok, Err, if◌then◌else◌}
 use Rattle.sspi_types.specs.declared.error.Error.{Error}
 use Rattle.sspi_tsreq.specs.declared.request.TsRequest.{TsRequest}
 use Rattle.sspi_credssp.specs.Requests.{unless_empty}

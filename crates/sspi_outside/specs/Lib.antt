@@ -5,4 +5,5 @@ pub mod Outside
 pub mod OutsideLaws
 pub mod Peers
 pub mod PeersMeaning
+pub mod Reported
 pub mod Seen

@@ -1,5 +1,5 @@
 -- What is told of the peers that a server takes.
-use Rattle.std.specs.Prelude.{ℕ, List, [], ◌∷◌, Option, None, Some}
+use Rattle.std.specs.Prelude.{[], ◌∷◌, None, Some}
 use Rattle.sspi_names.specs.Name.{Name}
 use Rattle.sspi_names.specs.declared.identity.AuthIdentity.{AuthIdentity}
 use Rattle.sspi_credssp.specs.Proxy.{ProxyTells}

@@ -1,7 +1,11 @@
 //! What holds of what the host reports.
-ghost use Rattle.std.specs.Prelude.{◌≡◌, ◌++◌, ℕ, List, false, length, nat_lt, None, Some};
+ghost use Rattle.std.specs.Prelude.{◌≡◌, ◌++◌, ℕ, List, None, Some};
 ghost use Rattle.sspi_outside.specs.Envelope.{no_tag, text_in};
 ghost use Rattle.sspi_outside.specs.Hosting.{closed};
+ghost use Rattle.sspi_outside.specs.Reported.{CredentialsAreAwaitedOnceProved, CredentialsFollowTheProof, IdentityIsReported};
+ghost use Rattle.sspi_outside.specs.Reported.{ServerProofFollowsTheProof};
+
+use sspi_credssp::CredentialsProxy;
 
 /// A text behind sixteen zeros is what the host opened.
 #[tactic(auto, unfolding(crate::specs::Envelope::text_in))]
@@ -9,8 +13,25 @@ pub fn reported_text_is_opened()
     ensures { (text : List ℕ) → text_in (no_tag ++ text) ≡ Some text }
 {}
 
-/// A blob that the host did not open has no text, whatever came; shorter ones are refused by their length.
-#[tactic(auto, unfolding(crate::specs::Envelope::text_in))]
+/// A blob that the host did not open has no text, whatever came.
 pub fn unopened_blob_has_no_text()
-    ensures { (blob : List ℕ) → nat_lt (length blob) 16 ≡ false → text_in (closed blob) ≡ None }
+    ensures { (blob : List ℕ) → text_in (closed blob) ≡ None }
+{}
+
+/// A client owes the seal of its credentials only in a call in which the host reported exactly the proof that the server owes: at the
+/// noted version, over the client's nonce and the channel's key.
+pub fn credentials_follow_the_proof()
+    ensures { CredentialsFollowTheProof }
+{}
+
+/// A server proves its key only in a call in which the host reported exactly the proof that the client owes, and only such a call
+/// brings it to wait for the credentials.
+pub fn server_proof_follows_the_proof<C: CredentialsProxy>()
+    ensures proof { ServerProofFollowsTheProof C.meaning }
+    ensures state { CredentialsAreAwaitedOnceProved C.meaning }
+{}
+
+/// A server tells an identity only where it waited for the credentials, and of a text that the host reported in that call.
+pub fn identity_is_reported<C: CredentialsProxy>()
+    ensures { IdentityIsReported C.meaning }
 {}

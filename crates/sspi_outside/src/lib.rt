@@ -4,7 +4,8 @@
 //!   `specs/Envelope.antt`; what the calls of `Outside` make of it, in `specs/Outside.antt`.
 //! - `ClientEnd` and `ServerEnd` keep what their last call came to; `handed` makes of what came, and of what the host reports,
 //!   the request that such an end is handed, and `Last` says what the host has to seal and what is sent (`specs/Hosting.antt`).
-//! - `laws`: what was reported as opened is, and nothing else.
+//! - `laws`: what was reported as opened is, and nothing else; so a client's credentials, a server's proof and the identity that it
+//!   tells each follow from what the host reported in that very call (`specs/Reported.antt`).
 //! - `Peers`: the users of a list, or whoever the mechanism names.
 #![tactic(auto)]
 
