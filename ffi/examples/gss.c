@@ -202,7 +202,7 @@ static bool import(struct gss *gss, const char *text, gss_OID form, gss_name_t *
 }
 
 /* Of NTLM: gss-ntlmssp offers OEM texts beside Unicode, a server of FreeRDP answers with both, and gss-ntlmssp refuses that
- * answer (MS-NLMP 2.2.2.5 lets one of them stand). So only Unicode is offered. */
+ * answer, by which Unicode is meant (MS-NLMP 2.2.2.5). So only Unicode is offered. */
 static bool offer_unicode_alone(struct gss *gss)
 {
     static gss_OID_desc negotiate_flags = { 11, "\x2b\x06\x01\x04\x01\xb7\x7d\x85\x0f\x01\x05" };
