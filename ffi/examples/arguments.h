@@ -1,11 +1,22 @@
-/* Numbers on a command line. */
+/* The words of a command line, each of which fills one place of a program's settings. */
 #ifndef NEWAKSU_EXAMPLE_ARGUMENTS_H
 #define NEWAKSU_EXAMPLE_ARGUMENTS_H
 
 #include <stdbool.h>
+#include <stddef.h>
 #include <stdint.h>
 
-/* Whether the text is a decimal number of at most `greatest`, which is then `*number`. */
-bool argument_number(const char *text, uint32_t greatest, uint32_t *number);
+/* What stands behind the word, and what the place is: nothing and a bool, a text and a pointer to
+ * const char, a decimal number and a uint32_t. */
+enum argument_kind { ARGUMENT_FLAG, ARGUMENT_TEXT, ARGUMENT_NUMBER };
+
+struct argument {
+    const char *name; /* without the hyphens; NULL ends the list */
+    enum argument_kind kind;
+    size_t place; /* its offset in the settings */
+};
+
+/* Whether all words behind the program's name are arguments of the list. */
+bool arguments_read(char **words, const struct argument *list, void *settings);
 
 #endif

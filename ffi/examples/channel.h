@@ -1,4 +1,5 @@
-/* A connection: a socket at first, TLS over it later. The same two calls read and write over both. */
+/* A connection: a socket at first, TLS over it later. The same two calls read and write over
+ * both. */
 #ifndef NEWAKSU_EXAMPLE_CHANNEL_H
 #define NEWAKSU_EXAMPLE_CHANNEL_H
 
@@ -11,14 +12,14 @@
 enum { CHANNEL_SECONDS = 10 };
 
 struct channel {
-    int socket;    /* below 0 where there is none */
-    SSL *tls;      /* NULL before the handshake */
+    int socket; /* below 0 where there is none */
+    SSL *tls;   /* NULL before the handshake */
 };
 
 /* By what a client knows the certificate of its server. One of the two is set. */
 struct trust {
-    const char *file;           /* PEM: the certificate itself, or a CA's; the host's name must match too */
-    const char *fingerprint;    /* SHA-256 of the certificate in hexadecimal, with or without colons */
+    const char *file; /* PEM: the certificate itself, or a CA's; the host's name must match too */
+    const char *fingerprint; /* SHA-256 of the certificate in hexadecimal, with or without colons */
 };
 
 enum fault channel_connect(struct channel *, const char *host, const char *port);
@@ -31,7 +32,8 @@ enum fault channel_accept(struct channel *, int listener);
 enum fault channel_read(struct channel *, void *bytes, size_t count);
 enum fault channel_write(struct channel *, const void *bytes, size_t count);
 
-/* Says goodbye by TLS where there is any, and closes the socket. A closed channel may be closed again. */
+/* Says goodbye by TLS where there is any, and closes the socket. A closed channel may be closed
+ * again. */
 void channel_close(struct channel *);
 
 enum fault tls_accept(struct channel *, const char *certificate_file, const char *key_file);
@@ -39,9 +41,10 @@ enum fault tls_accept(struct channel *, const char *certificate_file, const char
 /* Nothing but the handshake is sent before the certificate was found to be the expected one. */
 enum fault tls_connect(struct channel *, const char *host, const struct trust *);
 
-/* The key that both ends of CredSSP bind to: the content of `subjectPublicKey` in the server's certificate, without the octet
- * that counts unused bits (MS-CSSP 3.1.5). For RSA that is the DER of RSAPublicKey, for an elliptic curve the point.
- * The bytes are valid as long as the channel is open. */
+/* The key that both ends of CredSSP bind to: the content of `subjectPublicKey` in the server's
+ * certificate, without the octet that counts unused bits (MS-CSSP 3.1.5). For RSA that is the
+ * DER of RSAPublicKey, for an elliptic curve the point. The bytes are valid as long as the
+ * channel is open. */
 enum fault tls_server_key(const struct channel *, const uint8_t **key, size_t *length);
 
 #endif

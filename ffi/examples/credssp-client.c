@@ -1,13 +1,13 @@
-/* A client of CredSSP: authenticates a user at a server, delegates the credentials, and says what it was told.
+/* A client of CredSSP: authenticates a user at a server, delegates the credentials, and says
+ * what it was told.
  *
- * Standard output: `protocol`, `version`, `delegated`, and where it asked for it `early success` or `early denied`. Standard
- * error: the refusal or the fault by name. Exit status: 0 where the credentials were sent and no early result denied the
- * user, 1 for a refusal, 2 for wrong arguments, 3 for a fault. */
+ * Standard output: `protocol`, `version`, `delegated`, and where it asked for it `early success`
+ * or `early denied`. Standard error: the refusal or the fault by name. Exit status: 0 where the
+ * credentials were sent and no early result denied the user, 1 for a refusal, 2 for wrong
+ * arguments, 3 for a fault. */
 #define _GNU_SOURCE
-#include <getopt.h>
 #include <signal.h>
 #include <stdio.h>
-#include <stdlib.h>
 #include <string.h>
 
 #include "arguments.h"
@@ -18,75 +18,70 @@
 #include "secret.h"
 #include "x224.h"
 
-enum { GREATEST_VERSION = 6 };
+enum { NO_DESCRIPTOR = UINT16_MAX };
 
 struct settings {
     const char *host, *port, *user, *mechanism;
     struct trust trust;
-    int password_fd;
+    uint32_t password_fd; /* NO_DESCRIPTOR: the password is asked for */
     uint32_t version, least_version;
     bool early, credential_less, trace;
 };
 
-static int usage(void)
-{
-    fputs("usage: credssp-client --host HOST --user USER (--certificate FILE | --fingerprint SHA256) [--port PORT]\n"
-          "    [--password-fd N] [--mechanism ntlm|kerberos|spnego] [--version N] [--least-version N] [--early]\n"
-          "    [--credential-less] [--trace]\n"
-          "The password is the next line of the file descriptor, or is asked for. USER is DOMAIN\\user, user@domain or user.\n"
-          "--early asks for HYBRID_EX. --credential-less sends no password. --trace shows each message.\n",
+#define PLACE(name, kind, member) \
+    { name, kind, offsetof(struct settings, member) }
+
+static const struct argument arguments[] = {
+    PLACE("host", ARGUMENT_TEXT, host),
+    PLACE("port", ARGUMENT_TEXT, port),
+    PLACE("user", ARGUMENT_TEXT, user),
+    PLACE("certificate", ARGUMENT_TEXT, trust.file),
+    PLACE("fingerprint", ARGUMENT_TEXT, trust.fingerprint),
+    PLACE("password-fd", ARGUMENT_NUMBER, password_fd),
+    PLACE("mechanism", ARGUMENT_TEXT, mechanism),
+    PLACE("version", ARGUMENT_NUMBER, version),
+    PLACE("least-version", ARGUMENT_NUMBER, least_version),
+    PLACE("early", ARGUMENT_FLAG, early),
+    PLACE("credential-less", ARGUMENT_FLAG, credential_less),
+    PLACE("trace", ARGUMENT_FLAG, trace),
+    {NULL, ARGUMENT_FLAG, 0},
+};
+
+static int usage(void) {
+    fputs("usage: credssp-client --host HOST --user USER (--certificate FILE | --fingerprint "
+          "SHA256)\n"
+          "    [--port PORT] [--password-fd N] [--mechanism ntlm|kerberos|spnego]\n"
+          "    [--version N] [--least-version N] [--early] [--credential-less] [--trace]\n"
+          "USER is DOMAIN\\user, user@domain or user. The password is the next line of the file\n"
+          "descriptor, or is asked for. --early asks for HYBRID_EX. --credential-less sends no\n"
+          "password. --trace shows each message.\n",
           stderr);
     return 2;
 }
 
-static bool read_arguments(int count, char **words, struct settings *settings)
-{
-    static const struct option options[] = {
-        { "host", required_argument, NULL, 'h' }, { "user", required_argument, NULL, 'u' },
-        { "certificate", required_argument, NULL, 'c' }, { "fingerprint", required_argument, NULL, 'f' },
-        { "port", required_argument, NULL, 'p' }, { "password-fd", required_argument, NULL, 'P' },
-        { "mechanism", required_argument, NULL, 'm' }, { "version", required_argument, NULL, 'v' },
-        { "least-version", required_argument, NULL, 'l' }, { "early", no_argument, NULL, 'e' },
-        { "credential-less", no_argument, NULL, 'L' }, { "trace", no_argument, NULL, 't' }, { 0 }
-    };
-    bool good = true;
-    uint32_t number = 0;
-    for (int option; (option = getopt_long(count, words, "", options, NULL)) != -1;) {
-        switch (option) {
-        case 'h': settings->host = optarg; break;
-        case 'u': settings->user = optarg; break;
-        case 'c': settings->trust.file = optarg; break;
-        case 'f': settings->trust.fingerprint = optarg; break;
-        case 'p': settings->port = optarg; break;
-        case 'P': good = good && argument_number(optarg, INT32_MAX, &number); settings->password_fd = (int)number; break;
-        case 'm': settings->mechanism = optarg; break;
-        case 'v': good = good && argument_number(optarg, GREATEST_VERSION, &settings->version); break;
-        case 'l': good = good && argument_number(optarg, GREATEST_VERSION, &settings->least_version); break;
-        case 'e': settings->early = true; break;
-        case 'L': settings->credential_less = true; break;
-        case 't': settings->trace = true; break;
-        default: good = false;
-        }
-    }
-    bool trusts_one = !settings->trust.file != !settings->trust.fingerprint;
-    return good && optind == count && settings->host && settings->user && trusts_one && gss_knows(settings->mechanism);
+static bool read_arguments(char **words, struct settings *settings) {
+    return arguments_read(words, arguments, settings) && settings->host && settings->user &&
+           !settings->trust.file != !settings->trust.fingerprint &&
+           gss_knows(settings->mechanism) && settings->password_fd <= NO_DESCRIPTOR;
 }
 
-/* A host over GSSAPI, bound to the key of the channel. It and GSSAPI keep copies of the password. */
-static enum fault make_host(const struct settings *settings, const struct channel *channel, struct gss **gss,
-                            newaksu_host **host)
-{
+/* A host over GSSAPI, bound to the key of the channel. It and GSSAPI keep copies of the
+ * password. */
+static enum fault make_host(const struct settings *settings, const struct channel *channel,
+                            struct gss **gss, newaksu_host **host) {
+    int descriptor = settings->password_fd == NO_DESCRIPTOR ? -1 : (int)settings->password_fd;
     char password[PASSWORD_BYTES + 1] = "";
     newaksu_client_settings options;
     newaksu_client_settings_init(&options);
     options.version = settings->version;
     options.least_version = settings->least_version;
-    options.delegation = settings->credential_less ? NEWAKSU_CREDENTIAL_LESS : NEWAKSU_WITH_CREDENTIALS;
+    options.delegation =
+        settings->credential_less ? NEWAKSU_CREDENTIAL_LESS : NEWAKSU_WITH_CREDENTIALS;
     options.user = settings->user;
     options.user_length = strlen(settings->user);
     enum fault fault = tls_server_key(channel, &options.public_key, &options.public_key_length);
     if (fault == FAULT_NONE)
-        fault = read_password(settings->password_fd, "Password: ", password);
+        fault = read_password(descriptor, "Password: ", password);
     if (fault == FAULT_NONE)
         fault = gss_client(gss, settings->mechanism, settings->host, settings->user, password);
     options.password = password;
@@ -101,8 +96,7 @@ static enum fault make_host(const struct settings *settings, const struct channe
 }
 
 /* What the server says behind the delegation. */
-static int hear(struct channel *channel)
-{
+static int hear(struct channel *channel) {
     uint8_t bytes[4];
     uint32_t result;
     enum fault fault = channel_read(channel, bytes, sizeof bytes);
@@ -114,9 +108,8 @@ static int hear(struct channel *channel)
     return result == 0 ? 0 : 1;
 }
 
-static int delegate(const struct settings *settings, struct channel *channel, uint32_t protocol)
-{
-    struct exchange exchange = { .trace = settings->trace };
+static int delegate(const struct settings *settings, struct channel *channel, uint32_t protocol) {
+    struct exchange exchange = {.trace = settings->trace};
     struct gss *gss = NULL;
     newaksu_host *host = NULL;
     enum fault fault = make_host(settings, channel, &gss, &host);
@@ -144,8 +137,7 @@ static int delegate(const struct settings *settings, struct channel *channel, ui
 }
 
 /* X.224, TLS, CredSSP. */
-static int log_on(const struct settings *settings, struct channel *channel)
-{
+static int log_on(const struct settings *settings, struct channel *channel) {
     uint32_t protocol;
     uint32_t wanted = X224_TLS | X224_HYBRID | (settings->early ? X224_HYBRID_EX : 0);
     enum fault fault = x224_connect(channel, wanted, settings->credential_less, &protocol);
@@ -156,13 +148,17 @@ static int log_on(const struct settings *settings, struct channel *channel)
     return fault == FAULT_NONE ? delegate(settings, channel, protocol) : fault_report(fault, "TLS");
 }
 
-int main(int count, char **words)
-{
-    struct settings settings = { .port = "3389", .mechanism = "ntlm", .password_fd = -1, .version = 6, .least_version = 5 };
+int main(int count, char **words) {
+    (void)count;
+    struct settings settings = {.port = "3389",
+                                .mechanism = "ntlm",
+                                .password_fd = NO_DESCRIPTOR,
+                                .version = 6,
+                                .least_version = 5};
     struct channel channel;
     signal(SIGPIPE, SIG_IGN);
     setvbuf(stdout, NULL, _IOLBF, 0);
-    if (!read_arguments(count, words, &settings))
+    if (!read_arguments(words, &settings))
         return usage();
     enum fault fault = channel_connect(&channel, settings.host, settings.port);
     if (fault != FAULT_NONE)

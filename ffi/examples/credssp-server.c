@@ -1,14 +1,14 @@
-/* A server of CredSSP: takes one connection, lets its user in or refuses, and says which. It stops where a desktop would begin.
+/* A server of CredSSP: takes one connection, lets its user in or refuses, and says which. It
+ * stops where a desktop would begin.
  *
- * Standard output: `listening`, then `protocol` and `version` as far as they are known, then `authenticated NAME`, whom the
- * mechanism vouches for, `identity NAME`, whose credentials were delegated, and on demand `password TEXT`. Standard error:
- * the refusal or the fault by name. Exit status: 0 where the user is let in, 1 for a refusal, 2 for wrong arguments, 3 for a
+ * Standard output: `listening`, then `protocol` and `version` as far as they are known, then
+ * `authenticated NAME`, whom the mechanism vouches for, `identity NAME`, whose credentials were
+ * delegated, and on demand `password TEXT`. Standard error: the refusal or the fault by name.
+ * Exit status: 0 where the user is let in, 1 for a refusal, 2 for wrong arguments, 3 for a
  * fault. */
 #define _GNU_SOURCE
-#include <getopt.h>
 #include <signal.h>
 #include <stdio.h>
-#include <stdlib.h>
 #include <string.h>
 #include <strings.h>
 #include <unistd.h>
@@ -20,66 +20,51 @@
 #include "newaksu.h"
 #include "x224.h"
 
-enum { ADMITTED = 32, GREATEST_VERSION = 6 };
-
 struct settings {
     const char *address, *port;
     const char *certificate, *key, *users, *mechanism;
-    const char *admitted[ADMITTED];    /* with none, everyone who was authenticated */
-    size_t admitted_count;
+    const char *admit; /* the one user who may log on; NULL for everyone who was authenticated */
     uint32_t version, least_version;
     bool early, show_password, trace;
 };
 
-static int usage(void)
-{
-    fputs("usage: credssp-server --certificate FILE --key FILE [--users FILE] [--address HOST] [--port PORT]\n"
-          "    [--mechanism ntlm|kerberos|spnego] [--version N] [--least-version N] [--early] [--admit USER]...\n"
-          "    [--show-password] [--trace]\n"
-          "FILE of --users has lines DOMAIN:user:password. --early offers HYBRID_EX too. --trace shows each message.\n",
+#define PLACE(name, kind, member) \
+    { name, kind, offsetof(struct settings, member) }
+
+static const struct argument arguments[] = {
+    PLACE("certificate", ARGUMENT_TEXT, certificate),
+    PLACE("key", ARGUMENT_TEXT, key),
+    PLACE("users", ARGUMENT_TEXT, users),
+    PLACE("address", ARGUMENT_TEXT, address),
+    PLACE("port", ARGUMENT_TEXT, port),
+    PLACE("mechanism", ARGUMENT_TEXT, mechanism),
+    PLACE("version", ARGUMENT_NUMBER, version),
+    PLACE("least-version", ARGUMENT_NUMBER, least_version),
+    PLACE("admit", ARGUMENT_TEXT, admit),
+    PLACE("early", ARGUMENT_FLAG, early),
+    PLACE("show-password", ARGUMENT_FLAG, show_password),
+    PLACE("trace", ARGUMENT_FLAG, trace),
+    {NULL, ARGUMENT_FLAG, 0},
+};
+
+static int usage(void) {
+    fputs("usage: credssp-server --certificate FILE --key FILE [--users FILE] [--address HOST]\n"
+          "    [--port PORT] [--mechanism ntlm|kerberos|spnego] [--version N] [--least-version N]\n"
+          "    [--early] [--admit USER] [--show-password] [--trace]\n"
+          "FILE of --users has lines DOMAIN:user:password. --early offers HYBRID_EX too. --trace\n"
+          "shows each message.\n",
           stderr);
     return 2;
 }
 
-static bool read_arguments(int count, char **words, struct settings *settings)
-{
-    static const struct option options[] = {
-        { "certificate", required_argument, NULL, 'c' }, { "key", required_argument, NULL, 'k' },
-        { "users", required_argument, NULL, 'u' }, { "address", required_argument, NULL, 'a' },
-        { "port", required_argument, NULL, 'p' }, { "mechanism", required_argument, NULL, 'm' },
-        { "version", required_argument, NULL, 'v' }, { "least-version", required_argument, NULL, 'l' },
-        { "early", no_argument, NULL, 'e' }, { "admit", required_argument, NULL, 'A' },
-        { "show-password", no_argument, NULL, 's' }, { "trace", no_argument, NULL, 't' }, { 0 }
-    };
-    bool good = true;
-    for (int option; (option = getopt_long(count, words, "", options, NULL)) != -1;) {
-        switch (option) {
-        case 'c': settings->certificate = optarg; break;
-        case 'k': settings->key = optarg; break;
-        case 'u': settings->users = optarg; break;
-        case 'a': settings->address = optarg; break;
-        case 'p': settings->port = optarg; break;
-        case 'm': settings->mechanism = optarg; break;
-        case 'v': good = good && argument_number(optarg, GREATEST_VERSION, &settings->version); break;
-        case 'l': good = good && argument_number(optarg, GREATEST_VERSION, &settings->least_version); break;
-        case 'e': settings->early = true; break;
-        case 'A':
-            good = good && settings->admitted_count < ADMITTED;
-            if (good)
-                settings->admitted[settings->admitted_count++] = optarg;
-            break;
-        case 's': settings->show_password = true; break;
-        case 't': settings->trace = true; break;
-        default: good = false;
-        }
-    }
-    return good && optind == count && settings->certificate && settings->key && gss_knows(settings->mechanism);
+static bool read_arguments(char **words, struct settings *settings) {
+    return arguments_read(words, arguments, settings) && settings->certificate && settings->key &&
+           gss_knows(settings->mechanism);
 }
 
 /* A host over GSSAPI, bound to the key of the channel. */
-static enum fault make_host(const struct settings *settings, const struct channel *channel, struct gss **gss,
-                            newaksu_host **host)
-{
+static enum fault make_host(const struct settings *settings, const struct channel *channel,
+                            struct gss **gss, newaksu_host **host) {
     newaksu_server_settings options;
     newaksu_server_settings_init(&options);
     options.version = settings->version;
@@ -90,22 +75,20 @@ static enum fault make_host(const struct settings *settings, const struct channe
     if (fault != FAULT_NONE)
         return fault;
     uint32_t status = newaksu_host_server(&options, &gss_mechanism, *gss, host);
-    return status == NEWAKSU_OK ? FAULT_NONE : status == NEWAKSU_E_INVALID_PARAMETER ? FAULT_SETTINGS : FAULT_MEMORY;
+    return status == NEWAKSU_OK                    ? FAULT_NONE
+           : status == NEWAKSU_E_INVALID_PARAMETER ? FAULT_SETTINGS
+                                                   : FAULT_MEMORY;
 }
 
-static bool is_admitted(const struct settings *settings, const char *user)
-{
-    for (size_t i = 0; i < settings->admitted_count; i++)
-        if (strcasecmp(settings->admitted[i], user) == 0)
-            return true;
-    return settings->admitted_count == 0;
+static bool is_admitted(const struct settings *settings, const char *user) {
+    return !settings->admit || strcasecmp(settings->admit, user) == 0;
 }
 
-/* Says who came, and tells the client whether the user may log on, where it asked for that. What is asked is whom the mechanism
- * authenticated: the delegated name and password are the client's word. */
-static int let_in(const struct settings *settings, struct channel *channel, uint32_t protocol, const newaksu_host *host,
-                  const char *authenticated)
-{
+/* Says who came, and tells the client whether the user may log on, where it asked for that. What
+ * is asked is whom the mechanism authenticated: the delegated name and password are the client's
+ * word. */
+static int let_in(const struct settings *settings, struct channel *channel, uint32_t protocol,
+                  const newaksu_host *host, const char *authenticated) {
     const char *user, *password;
     size_t user_length, password_length, written;
     uint8_t result[4];
@@ -127,9 +110,8 @@ static int let_in(const struct settings *settings, struct channel *channel, uint
     return admitted ? 0 : 1;
 }
 
-static int delegate(const struct settings *settings, struct channel *channel, uint32_t protocol)
-{
-    struct exchange exchange = { .trace = settings->trace };
+static int delegate(const struct settings *settings, struct channel *channel, uint32_t protocol) {
+    struct exchange exchange = {.trace = settings->trace};
     struct gss *gss = NULL;
     newaksu_host *host = NULL;
     enum fault fault = make_host(settings, channel, &gss, &host);
@@ -156,10 +138,10 @@ static int delegate(const struct settings *settings, struct channel *channel, ui
 }
 
 /* X.224, TLS, CredSSP. */
-static int serve(const struct settings *settings, struct channel *channel)
-{
+static int serve(const struct settings *settings, struct channel *channel) {
     uint32_t protocol;
-    enum fault fault = x224_accept(channel, X224_HYBRID | (settings->early ? X224_HYBRID_EX : 0), &protocol);
+    enum fault fault =
+        x224_accept(channel, X224_HYBRID | (settings->early ? X224_HYBRID_EX : 0), &protocol);
     if (fault != FAULT_NONE)
         return fault_report(fault, "X.224");
     printf("protocol %s\n", x224_name(protocol));
@@ -167,16 +149,18 @@ static int serve(const struct settings *settings, struct channel *channel)
     return fault == FAULT_NONE ? delegate(settings, channel, protocol) : fault_report(fault, "TLS");
 }
 
-int main(int count, char **words)
-{
-    struct settings settings = {
-        .address = "127.0.0.1", .port = "3389", .mechanism = "ntlm", .version = 6, .least_version = 5
-    };
+int main(int count, char **words) {
+    (void)count;
+    struct settings settings = {.address = "127.0.0.1",
+                                .port = "3389",
+                                .mechanism = "ntlm",
+                                .version = 6,
+                                .least_version = 5};
     struct channel channel;
     int listener;
     signal(SIGPIPE, SIG_IGN);
     setvbuf(stdout, NULL, _IOLBF, 0);
-    if (!read_arguments(count, words, &settings))
+    if (!read_arguments(words, &settings))
         return usage();
     enum fault fault = channel_listen(&listener, settings.address, settings.port);
     if (fault != FAULT_NONE)

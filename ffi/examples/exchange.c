@@ -1,4 +1,5 @@
-/* Requests in turns: one is read whole, the host makes its turn of it, and what that answers is sent. */
+/* Requests in turns: one is read whole, the host makes its turn of it, and what that answers is
+ * sent. */
 #include "exchange.h"
 
 #include <stdio.h>
@@ -6,11 +7,12 @@
 
 #include "newaksu.h"
 
-/* A header of DER has at least two bytes, and no header of a request that is read has more than six. */
+/* A header of DER has at least two bytes, and no header of a request that is read has more than
+ * six. */
 enum { SHORTEST_HEADER = 2, LONGEST_HEADER = 6 };
 
-static void show(const struct exchange *exchange, char direction, const uint8_t *message, size_t length)
-{
+static void show(const struct exchange *exchange, char direction, const uint8_t *message,
+                 size_t length) {
     if (!exchange->trace)
         return;
     fprintf(stderr, "%c ", direction);
@@ -20,8 +22,7 @@ static void show(const struct exchange *exchange, char direction, const uint8_t 
 }
 
 /* Reads exactly one request: what follows it on the channel belongs to the next protocol. */
-static enum fault read_request(struct channel *channel, uint8_t *message, size_t *length)
-{
+static enum fault read_request(struct channel *channel, uint8_t *message, size_t *length) {
     size_t have = SHORTEST_HEADER, size;
     enum fault fault = channel_read(channel, message, have);
     while (fault == FAULT_NONE && newaksu_request_size(message, have, &size) != NEWAKSU_OK) {
@@ -37,8 +38,7 @@ static enum fault read_request(struct channel *channel, uint8_t *message, size_t
     return channel_read(channel, message + have, size - have);
 }
 
-static void note_version(struct exchange *exchange, const uint8_t *message, size_t length)
-{
+static void note_version(struct exchange *exchange, const uint8_t *message, size_t length) {
     newaksu_handle request = NEWAKSU_EMPTY;
     if (newaksu_request_decode(&request, message, length) == NEWAKSU_OK)
         newaksu_request_version(&request, &exchange->peer_version);
@@ -46,9 +46,8 @@ static void note_version(struct exchange *exchange, const uint8_t *message, size
 }
 
 /* One turn of the host, and its answer sent. */
-static enum fault turn_of(struct exchange *exchange, struct channel *channel, newaksu_host *host, const uint8_t *message,
-                          size_t length, uint32_t *progress)
-{
+static enum fault turn_of(struct exchange *exchange, struct channel *channel, newaksu_host *host,
+                          const uint8_t *message, size_t length, uint32_t *progress) {
     newaksu_turn turn;
     exchange->status = newaksu_host_process(host, message, length, &turn);
     *progress = turn.progress;
@@ -58,8 +57,8 @@ static enum fault turn_of(struct exchange *exchange, struct channel *channel, ne
     return channel_write(channel, turn.send, turn.send_length);
 }
 
-enum fault exchange_run(struct exchange *exchange, struct channel *channel, newaksu_host *host, bool client)
-{
+enum fault exchange_run(struct exchange *exchange, struct channel *channel, newaksu_host *host,
+                        bool client) {
     static const uint8_t nothing[1];
     uint8_t *message = malloc(EXCHANGE_BYTES);
     uint32_t progress = NEWAKSU_CONTINUES;
@@ -80,26 +79,27 @@ enum fault exchange_run(struct exchange *exchange, struct channel *channel, newa
     return fault == FAULT_NONE && progress == NEWAKSU_UNREAD ? FAULT_NOT_A_REQUEST : fault;
 }
 
-/* The name of what a server told: of an NTSTATUS, or of the SSPI code that stands in one, as CredSSP servers other than those of
- * Windows tell it. Empty where there is none. */
-static void name_code(uint32_t code, char *name, size_t size)
-{
+/* The name of what a server told: of an NTSTATUS, or of the SSPI code that stands in one, as
+ * CredSSP servers other than those of Windows tell it. Empty where there is none. */
+static void name_code(uint32_t code, char *name, size_t size) {
     size_t length = 0;
     uint32_t status = newaksu_nstatus_name(code, (uint8_t *)name, size - 1, &length);
     if (status != NEWAKSU_OK && code >> 16 == 0xc007)
-        status = newaksu_error_name(0x80090000 | (code & 0xffff), (uint8_t *)name, size - 1, &length);
+        status =
+            newaksu_error_name(0x80090000 | (code & 0xffff), (uint8_t *)name, size - 1, &length);
     name[status == NEWAKSU_OK ? length : 0] = '\0';
 }
 
-void exchange_print_refusal(const newaksu_host *host)
-{
+void exchange_print_refusal(const newaksu_host *host) {
     newaksu_refusal refusal;
     char name[64];
     if (newaksu_host_refusal(host, &refusal) != NEWAKSU_OK)
         return;
-    fprintf(stderr, "refused: %s (0x%08x): %s\n", refusal.name, (unsigned int)refusal.status, refusal.reason);
+    fprintf(stderr, "refused: %s (0x%08x): %s\n", refusal.name, (unsigned int)refusal.status,
+            refusal.reason);
     if (!refusal.has_nstatus)
         return;
     name_code(refusal.nstatus, name, sizeof name);
-    fprintf(stderr, "the server told: 0x%08x%s%s\n", (unsigned int)refusal.nstatus, *name ? " " : "", name);
+    fprintf(stderr, "the server told: 0x%08x%s%s\n", (unsigned int)refusal.nstatus,
+            *name ? " " : "", name);
 }

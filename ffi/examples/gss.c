@@ -12,19 +12,18 @@ struct gss {
     gss_OID mechanism;
     gss_cred_id_t credentials;
     gss_ctx_id_t context;
-    gss_name_t target;         /* of a client: the service */
-    gss_name_t peer;           /* of a server, once the authentication ended: the user */
-    char *authenticated;       /* the same as a text */
+    gss_name_t target;   /* of a client: the service */
+    gss_name_t peer;     /* of a server, once the authentication ended: the user */
+    char *authenticated; /* the same as a text */
     bool server;
-    OM_uint32 major, minor;    /* of the last failure */
+    OM_uint32 major, minor; /* of the last failure */
 };
 
-static gss_OID_desc ntlm = { 10, "\x2b\x06\x01\x04\x01\x82\x37\x02\x02\x0a" };
-static gss_OID_desc kerberos = { 9, "\x2a\x86\x48\x86\xf7\x12\x01\x02\x02" };
-static gss_OID_desc spnego = { 6, "\x2b\x06\x01\x05\x05\x02" };
+static gss_OID_desc ntlm = {10, "\x2b\x06\x01\x04\x01\x82\x37\x02\x02\x0a"};
+static gss_OID_desc kerberos = {9, "\x2a\x86\x48\x86\xf7\x12\x01\x02\x02"};
+static gss_OID_desc spnego = {6, "\x2b\x06\x01\x05\x05\x02"};
 
-static gss_OID mechanism_of(const char *name)
-{
+static gss_OID mechanism_of(const char *name) {
     if (strcmp(name, "ntlm") == 0)
         return &ntlm;
     if (strcmp(name, "kerberos") == 0)
@@ -32,39 +31,42 @@ static gss_OID mechanism_of(const char *name)
     return strcmp(name, "spnego") == 0 ? &spnego : GSS_C_NO_OID;
 }
 
-bool gss_knows(const char *mechanism)
-{
+bool gss_knows(const char *mechanism) {
     return mechanism_of(mechanism) != GSS_C_NO_OID;
 }
 
 /* What an end of CredSSP asks of its context. */
-static const OM_uint32 wanted =
-    GSS_C_MUTUAL_FLAG | GSS_C_CONF_FLAG | GSS_C_INTEG_FLAG | GSS_C_SEQUENCE_FLAG | GSS_C_REPLAY_FLAG;
+static const OM_uint32 wanted = GSS_C_MUTUAL_FLAG | GSS_C_CONF_FLAG | GSS_C_INTEG_FLAG |
+                                GSS_C_SEQUENCE_FLAG | GSS_C_REPLAY_FLAG;
 
-/* The SECURITY_STATUS of a failure. GSS_S_FAILURE is all that NTLM and Kerberos say of a wrong user or password. */
-static uint32_t refuse(struct gss *gss, OM_uint32 major, OM_uint32 minor)
-{
+/* The SECURITY_STATUS of a failure. GSS_S_FAILURE is all that NTLM and Kerberos say of a wrong
+ * user or password. */
+static uint32_t refuse(struct gss *gss, OM_uint32 major, OM_uint32 minor) {
     gss->major = major;
     gss->minor = minor;
     switch (GSS_ROUTINE_ERROR(major)) {
-    case GSS_S_BAD_SIG: return NEWAKSU_E_MESSAGE_ALTERED;
-    case GSS_S_DEFECTIVE_TOKEN: return NEWAKSU_E_INVALID_TOKEN;
-    case GSS_S_NO_CRED: return NEWAKSU_E_NO_CREDENTIALS;
+    case GSS_S_BAD_SIG:
+        return NEWAKSU_E_MESSAGE_ALTERED;
+    case GSS_S_DEFECTIVE_TOKEN:
+        return NEWAKSU_E_INVALID_TOKEN;
+    case GSS_S_NO_CRED:
+        return NEWAKSU_E_NO_CREDENTIALS;
     case GSS_S_CONTEXT_EXPIRED:
-    case GSS_S_CREDENTIALS_EXPIRED: return NEWAKSU_E_CONTEXT_EXPIRED;
-    case GSS_S_FAILURE: return minor == ENOMEM ? NEWAKSU_E_INSUFFICIENT_MEMORY : NEWAKSU_E_LOGON_DENIED;
-    default: return NEWAKSU_E_INTERNAL_ERROR;
+    case GSS_S_CREDENTIALS_EXPIRED:
+        return NEWAKSU_E_CONTEXT_EXPIRED;
+    case GSS_S_FAILURE:
+        return minor == ENOMEM ? NEWAKSU_E_INSUFFICIENT_MEMORY : NEWAKSU_E_LOGON_DENIED;
+    default:
+        return NEWAKSU_E_INTERNAL_ERROR;
     }
 }
 
-static gss_buffer_desc buffer_of(const void *bytes, size_t length)
-{
-    return (gss_buffer_desc){ .length = length, .value = (void *)bytes };
+static gss_buffer_desc buffer_of(const void *bytes, size_t length) {
+    return (gss_buffer_desc){.length = length, .value = (void *)bytes};
 }
 
 /* Hands what GSSAPI gave to the host, and overwrites it: it may be an opened text. */
-static uint32_t hand_over(gss_buffer_t given, newaksu_bytes *bytes)
-{
+static uint32_t hand_over(gss_buffer_t given, newaksu_bytes *bytes) {
     OM_uint32 ignored;
     uint32_t status = newaksu_bytes_append(bytes, given->value, given->length);
     if (given->value)
@@ -73,17 +75,18 @@ static uint32_t hand_over(gss_buffer_t given, newaksu_bytes *bytes)
     return status;
 }
 
-static uint32_t step(void *context, const uint8_t *token, size_t length, newaksu_bytes *output)
-{
+static uint32_t step(void *context, const uint8_t *token, size_t length, newaksu_bytes *output) {
     struct gss *gss = context;
     gss_buffer_desc taken = buffer_of(token, length), given = GSS_C_EMPTY_BUFFER;
     OM_uint32 major, minor, flags = 0;
     if (gss->server)
-        major = gss_accept_sec_context(&minor, &gss->context, gss->credentials, &taken, GSS_C_NO_CHANNEL_BINDINGS,
-                                       &gss->peer, NULL, &given, &flags, NULL, NULL);
+        major = gss_accept_sec_context(&minor, &gss->context, gss->credentials, &taken,
+                                       GSS_C_NO_CHANNEL_BINDINGS, &gss->peer, NULL, &given, &flags,
+                                       NULL, NULL);
     else
-        major = gss_init_sec_context(&minor, gss->credentials, &gss->context, gss->target, gss->mechanism, wanted, 0,
-                                     GSS_C_NO_CHANNEL_BINDINGS, &taken, NULL, &given, &flags, NULL);
+        major = gss_init_sec_context(&minor, gss->credentials, &gss->context, gss->target,
+                                     gss->mechanism, wanted, 0, GSS_C_NO_CHANNEL_BINDINGS, &taken,
+                                     NULL, &given, &flags, NULL);
     uint32_t status = hand_over(&given, output);
     if (GSS_ERROR(major))
         return refuse(gss, major, minor);
@@ -97,8 +100,7 @@ static uint32_t step(void *context, const uint8_t *token, size_t length, newaksu
     return flags & GSS_C_CONF_FLAG ? NEWAKSU_OK : NEWAKSU_E_INVALID_TOKEN;
 }
 
-static uint32_t peer(void *context, newaksu_bytes *name)
-{
+static uint32_t peer(void *context, newaksu_bytes *name) {
     struct gss *gss = context;
     gss_buffer_desc text = GSS_C_EMPTY_BUFFER;
     OM_uint32 minor, major = gss_display_name(&minor, gss->peer, &text, NULL);
@@ -112,26 +114,26 @@ static uint32_t peer(void *context, newaksu_bytes *name)
     return newaksu_bytes_append(name, gss->authenticated, strlen(gss->authenticated));
 }
 
-const char *gss_authenticated(const struct gss *gss)
-{
+const char *gss_authenticated(const struct gss *gss) {
     return gss->authenticated ? gss->authenticated : "";
 }
 
-/* Seals as SSPI lays its buffers out, all that is not text in front of it. Kerberos of MIT does so where it is asked for two
- * buffers. By gss_wrap it puts a part behind the text, which a receiver must take too (RFC 4121 4.2.5), and WinPR does not. */
-static OM_uint32 wrap_in_two(struct gss *gss, OM_uint32 *minor, gss_buffer_t text, int *confidential, newaksu_bytes *blob,
-                             uint32_t *status)
-{
+/* Seals as SSPI lays its buffers out, all that is not text in front of it. Kerberos of MIT does
+ * so where it is asked for two buffers. By gss_wrap it puts a part behind the text, which a
+ * receiver must take too (RFC 4121 4.2.5), and WinPR does not. */
+static OM_uint32 wrap_in_two(struct gss *gss, OM_uint32 *minor, gss_buffer_t text,
+                             int *confidential, newaksu_bytes *blob, uint32_t *status) {
     gss_iov_buffer_desc parts[2] = {
-        { GSS_IOV_BUFFER_TYPE_HEADER | GSS_IOV_BUFFER_FLAG_ALLOCATE, GSS_C_EMPTY_BUFFER },
-        { GSS_IOV_BUFFER_TYPE_DATA, { .length = text->length, .value = malloc(text->length + 1) } },
+        {GSS_IOV_BUFFER_TYPE_HEADER | GSS_IOV_BUFFER_FLAG_ALLOCATE, GSS_C_EMPTY_BUFFER},
+        {GSS_IOV_BUFFER_TYPE_DATA, {.length = text->length, .value = malloc(text->length + 1)}},
     };
     OM_uint32 ignored;
     *minor = ENOMEM;
     if (!parts[1].buffer.value)
         return GSS_S_FAILURE;
     memcpy(parts[1].buffer.value, text->value, text->length);
-    OM_uint32 major = gss_wrap_iov(minor, gss->context, 1, GSS_C_QOP_DEFAULT, confidential, parts, 2);
+    OM_uint32 major =
+        gss_wrap_iov(minor, gss->context, 1, GSS_C_QOP_DEFAULT, confidential, parts, 2);
     for (int i = 0; i < 2 && !GSS_ERROR(major) && *status == NEWAKSU_OK; i++)
         *status = newaksu_bytes_append(blob, parts[i].buffer.value, parts[i].buffer.length);
     explicit_bzero(parts[1].buffer.value, text->length);
@@ -140,8 +142,7 @@ static OM_uint32 wrap_in_two(struct gss *gss, OM_uint32 *minor, gss_buffer_t tex
     return major;
 }
 
-static uint32_t seal(void *context, const uint8_t *text, size_t length, newaksu_bytes *blob)
-{
+static uint32_t seal(void *context, const uint8_t *text, size_t length, newaksu_bytes *blob) {
     struct gss *gss = context;
     gss_buffer_desc plain = buffer_of(text, length), sealed = GSS_C_EMPTY_BUFFER;
     int confidential = 0;
@@ -149,7 +150,8 @@ static uint32_t seal(void *context, const uint8_t *text, size_t length, newaksu_
     OM_uint32 minor, major = wrap_in_two(gss, &minor, &plain, &confidential, blob, &status);
     /* NTLM has gss_wrap alone, which puts its signature in front */
     if (GSS_ROUTINE_ERROR(major) == GSS_S_UNAVAILABLE) {
-        major = gss_wrap(&minor, gss->context, 1, GSS_C_QOP_DEFAULT, &plain, &confidential, &sealed);
+        major =
+            gss_wrap(&minor, gss->context, 1, GSS_C_QOP_DEFAULT, &plain, &confidential, &sealed);
         status = hand_over(&sealed, blob);
     }
     if (GSS_ERROR(major))
@@ -157,8 +159,7 @@ static uint32_t seal(void *context, const uint8_t *text, size_t length, newaksu_
     return status != NEWAKSU_OK || confidential ? status : NEWAKSU_E_INTERNAL_ERROR;
 }
 
-static uint32_t unseal(void *context, const uint8_t *blob, size_t length, newaksu_bytes *text)
-{
+static uint32_t unseal(void *context, const uint8_t *blob, size_t length, newaksu_bytes *text) {
     struct gss *gss = context;
     gss_buffer_desc sealed = buffer_of(blob, length), plain = GSS_C_EMPTY_BUFFER;
     int confidential = 0;
@@ -170,8 +171,7 @@ static uint32_t unseal(void *context, const uint8_t *blob, size_t length, newaks
     return confidential && !GSS_SUPPLEMENTARY_INFO(major) ? status : NEWAKSU_E_MESSAGE_ALTERED;
 }
 
-static void release(void *context)
-{
+static void release(void *context) {
     struct gss *gss = context;
     OM_uint32 ignored;
     gss_delete_sec_context(&ignored, &gss->context, GSS_C_NO_BUFFER);
@@ -182,10 +182,9 @@ static void release(void *context)
     free(gss);
 }
 
-const newaksu_mechanism gss_mechanism = { step, peer, seal, unseal, release };
+const newaksu_mechanism gss_mechanism = {step, peer, seal, unseal, release};
 
-static struct gss *make(const char *mechanism)
-{
+static struct gss *make(const char *mechanism) {
     struct gss *gss = calloc(1, sizeof *gss);
     if (gss)
         gss->mechanism = mechanism_of(mechanism);
@@ -194,20 +193,19 @@ static struct gss *make(const char *mechanism)
     return gss;
 }
 
-static bool import(struct gss *gss, const char *text, gss_OID form, gss_name_t *name)
-{
+static bool import(struct gss *gss, const char *text, gss_OID form, gss_name_t *name) {
     gss_buffer_desc buffer = buffer_of(text, strlen(text));
     gss->major = gss_import_name(&gss->minor, &buffer, form, name);
     return !GSS_ERROR(gss->major);
 }
 
-/* Of NTLM: gss-ntlmssp offers OEM texts beside Unicode, a server of FreeRDP answers with both, and gss-ntlmssp refuses that
- * answer, by which Unicode is meant (MS-NLMP 2.2.2.5). So only Unicode is offered. */
-static bool offer_unicode_alone(struct gss *gss)
-{
-    static gss_OID_desc negotiate_flags = { 11, "\x2b\x06\x01\x04\x01\xb7\x7d\x85\x0f\x01\x05" };
-    /* keys of 56 and 128 bits and their exchange, version, extended session security, always sign, NTLM, seal, sign, target,
-     * Unicode (MS-NLMP 2.2.2.5) */
+/* Of NTLM: gss-ntlmssp offers OEM texts beside Unicode, a server of FreeRDP answers with both,
+ * and gss-ntlmssp refuses that answer, by which Unicode is meant (MS-NLMP 2.2.2.5). So only
+ * Unicode is offered. */
+static bool offer_unicode_alone(struct gss *gss) {
+    static gss_OID_desc negotiate_flags = {11, "\x2b\x06\x01\x04\x01\xb7\x7d\x85\x0f\x01\x05"};
+    /* keys of 56 and 128 bits and their exchange, version, extended session security, always
+     * sign, NTLM, seal, sign, target, Unicode (MS-NLMP 2.2.2.5) */
     uint32_t flags = 0xe2088235;
     gss_buffer_desc value = buffer_of(&flags, sizeof flags);
     if (gss->mechanism == &ntlm)
@@ -215,22 +213,21 @@ static bool offer_unicode_alone(struct gss *gss)
     return !GSS_ERROR(gss->major);
 }
 
-static bool acquire(struct gss *gss, const char *user, const char *password)
-{
-    gss_OID_set_desc only = { 1, gss->mechanism };
+static bool acquire(struct gss *gss, const char *user, const char *password) {
+    gss_OID_set_desc only = {1, gss->mechanism};
     gss_buffer_desc secret = buffer_of(password, strlen(password));
     gss_name_t name;
     OM_uint32 ignored;
     if (!import(gss, user, GSS_C_NT_USER_NAME, &name))
         return false;
-    gss->major = gss_acquire_cred_with_password(&gss->minor, name, &secret, GSS_C_INDEFINITE, &only, GSS_C_INITIATE,
-                                                &gss->credentials, NULL, NULL);
+    gss->major = gss_acquire_cred_with_password(&gss->minor, name, &secret, GSS_C_INDEFINITE, &only,
+                                                GSS_C_INITIATE, &gss->credentials, NULL, NULL);
     gss_release_name(&ignored, &name);
     return !GSS_ERROR(gss->major) && offer_unicode_alone(gss);
 }
 
-enum fault gss_client(struct gss **made, const char *mechanism, const char *host, const char *user, const char *password)
-{
+enum fault gss_client(struct gss **made, const char *mechanism, const char *host, const char *user,
+                      const char *password) {
     char service[300];
     struct gss *gss = *made = make(mechanism);
     if (!gss)
@@ -242,21 +239,19 @@ enum fault gss_client(struct gss **made, const char *mechanism, const char *host
     return acquire(gss, user, password) ? FAULT_NONE : FAULT_MECHANISM;
 }
 
-enum fault gss_server(struct gss **made, const char *mechanism, const char *users_file)
-{
+enum fault gss_server(struct gss **made, const char *mechanism, const char *users_file) {
     struct gss *gss = *made = make(mechanism);
     /* gss-ntlmssp reads its users where this variable says, at each authentication */
     if (!gss || (users_file && setenv("NTLM_USER_FILE", users_file, 1) != 0))
         return FAULT_MEMORY;
     gss->server = true;
-    gss_OID_set_desc only = { 1, gss->mechanism };
-    gss->major = gss_acquire_cred(&gss->minor, GSS_C_NO_NAME, GSS_C_INDEFINITE, &only, GSS_C_ACCEPT, &gss->credentials,
-                                  NULL, NULL);
+    gss_OID_set_desc only = {1, gss->mechanism};
+    gss->major = gss_acquire_cred(&gss->minor, GSS_C_NO_NAME, GSS_C_INDEFINITE, &only, GSS_C_ACCEPT,
+                                  &gss->credentials, NULL, NULL);
     return GSS_ERROR(gss->major) ? FAULT_MECHANISM : FAULT_NONE;
 }
 
-static void print_status(OM_uint32 status, int kind, gss_OID mechanism)
-{
+static void print_status(OM_uint32 status, int kind, gss_OID mechanism) {
     OM_uint32 ignored, more = 0;
     gss_buffer_desc text = GSS_C_EMPTY_BUFFER;
     if (GSS_ERROR(gss_display_status(&ignored, status, kind, mechanism, &more, &text)))
@@ -265,8 +260,7 @@ static void print_status(OM_uint32 status, int kind, gss_OID mechanism)
     gss_release_buffer(&ignored, &text);
 }
 
-void gss_print_failure(const struct gss *gss)
-{
+void gss_print_failure(const struct gss *gss) {
     if (!GSS_ERROR(gss->major))
         return;
     fputs("GSSAPI", stderr);

@@ -1,4 +1,5 @@
-/* The mechanism of the system below an end of CredSSP, by GSSAPI: NTLM of gss-ntlmssp, Kerberos of MIT, or SPNEGO over both. */
+/* The mechanism of the system below an end of CredSSP, by GSSAPI: NTLM of gss-ntlmssp, Kerberos
+ * of MIT, or SPNEGO over both. */
 #ifndef NEWAKSU_EXAMPLE_GSS_H
 #define NEWAKSU_EXAMPLE_GSS_H
 
@@ -7,7 +8,8 @@
 #include "fault.h"
 #include "newaksu_host.h"
 
-/* The context of `gss_mechanism`: one end of one authentication. The host that is made with it releases it. */
+/* The context of `gss_mechanism`: one end of one authentication. The host that is made with it
+ * releases it. */
 struct gss;
 
 extern const newaksu_mechanism gss_mechanism;
@@ -15,12 +17,13 @@ extern const newaksu_mechanism gss_mechanism;
 /* Whether the name is "ntlm", "kerberos" or "spnego". */
 bool gss_knows(const char *mechanism);
 
-/* Each of the two may give a context at a fault too, for gss_print_failure: release it by gss_mechanism.release.
- * The service is TERMSRV of the host. GSSAPI copies the password. */
-enum fault gss_client(struct gss **gss, const char *mechanism, const char *host, const char *user, const char *password);
+/* Each of the two may give a context at a fault too, for gss_print_failure: release it by
+ * gss_mechanism.release. The service is TERMSRV of the host. GSSAPI copies the password. */
+enum fault gss_client(struct gss **gss, const char *mechanism, const char *host, const char *user,
+                      const char *password);
 
-/* NTLM takes its users from the file, in lines DOMAIN:user:password. Kerberos takes its key from the keytab that KRB5_KTNAME
- * names; `users_file` may then be null. */
+/* NTLM takes its users from the file, in lines DOMAIN:user:password. Kerberos takes its key from
+ * the keytab that KRB5_KTNAME names; `users_file` may then be null. */
 enum fault gss_server(struct gss **gss, const char *mechanism, const char *users_file);
 
 /* The user whom a server has authenticated, in UTF-8. Empty before. */

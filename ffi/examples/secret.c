@@ -9,8 +9,7 @@
 #include <unistd.h>
 
 /* One byte at a time: what stands behind the line is not for us. */
-static enum fault read_line(int fd, char *line, size_t longest)
-{
+static enum fault read_line(int fd, char *line, size_t longest) {
     for (size_t used = 0; used <= longest;) {
         ssize_t got = read(fd, line + used, 1);
         if (got < 0 && errno == EINTR)
@@ -26,8 +25,7 @@ static enum fault read_line(int fd, char *line, size_t longest)
     return FAULT_PASSWORD;
 }
 
-static enum fault prompt_for(const char *prompt, char *password)
-{
+static enum fault prompt_for(const char *prompt, char *password) {
     struct termios before;
     int terminal = open("/dev/tty", O_RDWR | O_CLOEXEC);
     if (terminal < 0 || tcgetattr(terminal, &before) != 0)
@@ -44,7 +42,6 @@ static enum fault prompt_for(const char *prompt, char *password)
     return fault;
 }
 
-enum fault read_password(int fd, const char *prompt, char password[PASSWORD_BYTES + 1])
-{
+enum fault read_password(int fd, const char *prompt, char password[PASSWORD_BYTES + 1]) {
     return fd < 0 ? prompt_for(prompt, password) : read_line(fd, password, PASSWORD_BYTES);
 }

@@ -6,7 +6,8 @@
 
 enum { PASSWORD_BYTES = 512 };
 
-/* Reads one line, of the file descriptor, or at a prompt without echo where `fd` is below 0. The caller overwrites it. */
+/* Reads one line, of the file descriptor, or at a prompt without echo where `fd` is below 0. The
+ * caller overwrites it. */
 enum fault read_password(int fd, const char *prompt, char password[PASSWORD_BYTES + 1]);
 
 #endif

@@ -1,4 +1,5 @@
-/* The X.224 connection request and confirm: a TPKT header, seven bytes of X.224, a routing token on request, and the negotiation. */
+/* The X.224 connection request and confirm: a TPKT header, seven bytes of X.224, a routing token
+ * on request, and the negotiation. */
 #define _GNU_SOURCE
 #include "x224.h"
 
@@ -20,32 +21,48 @@ enum {
     HYBRID_REQUIRED_BY_SERVER = 5
 };
 
-const char *x224_name(uint32_t protocol)
-{
+const char *x224_name(uint32_t protocol) {
     switch (protocol) {
-    case X224_TLS: return "TLS";
-    case X224_HYBRID: return "HYBRID";
-    case X224_HYBRID_EX: return "HYBRID_EX";
-    default: return "none";
+    case X224_TLS:
+        return "TLS";
+    case X224_HYBRID:
+        return "HYBRID";
+    case X224_HYBRID_EX:
+        return "HYBRID_EX";
+    default:
+        return "none";
     }
 }
 
-static enum fault write_message(struct channel *channel, uint8_t code, uint8_t type, uint8_t flags, uint32_t value)
-{
-    const uint8_t message[MESSAGE_BYTES] = {
-        3, 0, 0, MESSAGE_BYTES,
-        X224_BYTES - 1 + NEGOTIATION_BYTES, code, 0, 0, 0, 0, 0,
-        type, flags, NEGOTIATION_BYTES, 0,
-        (uint8_t)value, (uint8_t)(value >> 8), (uint8_t)(value >> 16), (uint8_t)(value >> 24)
-    };
+static enum fault write_message(struct channel *channel, uint8_t code, uint8_t type, uint8_t flags,
+                                uint32_t value) {
+    const uint8_t message[MESSAGE_BYTES] = {3,
+                                            0,
+                                            0,
+                                            MESSAGE_BYTES,
+                                            X224_BYTES - 1 + NEGOTIATION_BYTES,
+                                            code,
+                                            0,
+                                            0,
+                                            0,
+                                            0,
+                                            0,
+                                            type,
+                                            flags,
+                                            NEGOTIATION_BYTES,
+                                            0,
+                                            (uint8_t)value,
+                                            (uint8_t)(value >> 8),
+                                            (uint8_t)(value >> 16),
+                                            (uint8_t)(value >> 24)};
     return channel_write(channel, message, sizeof message);
 }
 
-/* Where the negotiation stands: behind a routing token or cookie, which ends with a line, if there is one. NULL where there is none. */
-static const uint8_t *negotiation(const uint8_t *body, size_t length)
-{
+/* Where the negotiation stands: behind a routing token or cookie, which ends with a line, if
+ * there is one. NULL where there is none. */
+static const uint8_t *negotiation(const uint8_t *body, size_t length) {
     const uint8_t *at = body + X224_BYTES, *end = body + length;
-    if (at < end && *at > NEG_FAILURE) {
+    if (at<end && * at> NEG_FAILURE) {
         at = memmem(at, (size_t)(end - at), "\r\n", 2);
         if (!at)
             return NULL;
@@ -54,9 +71,10 @@ static const uint8_t *negotiation(const uint8_t *body, size_t length)
     return end - at >= NEGOTIATION_BYTES && at[2] == NEGOTIATION_BYTES && at[3] == 0 ? at : NULL;
 }
 
-/* The negotiation's type and value of the next message, which has the code; type 0 where it has no negotiation. */
-static enum fault read_message(struct channel *channel, uint8_t code, uint8_t *type, uint32_t *value)
-{
+/* The negotiation's type and value of the next message, which has the code; type 0 where it has
+ * no negotiation. */
+static enum fault read_message(struct channel *channel, uint8_t code, uint8_t *type,
+                               uint32_t *value) {
     uint8_t header[TPKT_BYTES], body[LONGEST];
     enum fault fault = channel_read(channel, header, sizeof header);
     if (fault != FAULT_NONE)
@@ -72,25 +90,27 @@ static enum fault read_message(struct channel *channel, uint8_t code, uint8_t *t
         return FAULT_X224;
     const uint8_t *at = negotiation(body, length);
     *type = at ? at[0] : 0;
-    *value = at ? (uint32_t)at[4] | (uint32_t)at[5] << 8 | (uint32_t)at[6] << 16 | (uint32_t)at[7] << 24 : 0;
+    *value =
+        at ? (uint32_t)at[4] | (uint32_t)at[5] << 8 | (uint32_t)at[6] << 16 | (uint32_t)at[7] << 24
+           : 0;
     return FAULT_NONE;
 }
 
-enum fault x224_connect(struct channel *channel, uint32_t protocols, bool restricted, uint32_t *selected)
-{
+enum fault x224_connect(struct channel *channel, uint32_t protocols, bool restricted,
+                        uint32_t *selected) {
     uint8_t type, flags = restricted ? RESTRICTED_ADMIN_MODE_REQUIRED : 0;
     enum fault fault = write_message(channel, CONNECTION_REQUEST, NEG_REQUEST, flags, protocols);
     if (fault == FAULT_NONE)
         fault = read_message(channel, CONNECTION_CONFIRM, &type, selected);
     if (fault != FAULT_NONE)
         return fault;
-    if (type != NEG_RESPONSE || (*selected != X224_HYBRID && *selected != X224_HYBRID_EX) || !(*selected & protocols))
+    if (type != NEG_RESPONSE || (*selected != X224_HYBRID && *selected != X224_HYBRID_EX) ||
+        !(*selected & protocols))
         return FAULT_NO_NLA;
     return FAULT_NONE;
 }
 
-enum fault x224_accept(struct channel *channel, uint32_t offered, uint32_t *selected)
-{
+enum fault x224_accept(struct channel *channel, uint32_t offered, uint32_t *selected) {
     uint8_t type;
     uint32_t wanted;
     enum fault fault = read_message(channel, CONNECTION_REQUEST, &type, &wanted);
