@@ -18,7 +18,7 @@ use Rattle.sspi_credssp.specs.Acts.{OpensIn}
 use Rattle.sspi_credssp.specs.Context.{ContextSetting}
 use Rattle.sspi_credssp.specs.Exchange.{delegated_text, prescribed}
 use Rattle.sspi_credssp.specs.Turn.{client_shown, ShowsClientActs, ShowsNego, ShowsReply, ClientFrame}
-use Rattle.sspi_delegate.specs.Turns.{ClientEnd, client_noted, client_frame_at, EachClientTurn, opened_in}
+use Rattle.sspi_delegate.specs.Turns.{ClientEnd, client_noted, client_frame_at, EachClientTurn, made_in, opened_in}
 use Rattle.sspi_delegate.specs.Turns.{onto_client, client_turns, is_replied, is_ended, any_proved, any_ended, OthersGoOn, GoesOn, AllGoOn}
 use Rattle.sspi_play.specs.Agreement.{TurnOf, HasSealed}
 use Rattle.sspi_play.specs.Faithful.{where_done, proof_text, client_texts, client_sealed, HaveOpened}
@@ -125,6 +125,27 @@ module _ {C : Type 0} (c : Meaning ContextSetting C) (e : ClientEnd C) where
   proof_first past t each went was =
       let s = state_nego (any_ended past) (any_proved past) (proved_nego (client_frame_at e past t) t each.0.shown.acts was) in
       nothing_sealed past each.1 went s.0 s.1
+
+  -- so the context has made no message
+  nothing_made : (past : List Turn) → EachClientTurn c e past → AllGoOn past → any_ended past ≡ false → any_proved past ≡ false →
+      made_in past ≡ 0
+  nothing_made [] each went un unproved = refl
+  nothing_made (t ∷ past) each went un unproved =
+      let s = or_false (is_ended t.outcome) (any_ended past) un in
+      let p = or_false (is_replied t.outcome && t.acts.proved) (any_proved past) unproved in
+      let f = client_frame_at e past t in
+      let nego = went_nego f t t.outcome each.0.shown.reply went.0 s.0 in
+      rw (
+        unsealed f t each.0.shown.acts nego,
+        went_proved t.outcome t.acts.proved went.0 s.0 p.0,
+        nothing_made past each.1 went.1 s.1 p.1,
+      ) refl
+
+  pub made_first : (past : List Turn) (t : Turn) → EachClientTurn c e (t ∷ past) → AllGoOn past → t.acts.proved ≡ true →
+      made_in past ≡ 0
+  made_first past t each went was =
+      let s = state_nego (any_ended past) (any_proved past) (proved_nego (client_frame_at e past t) t each.0.shown.acts was) in
+      nothing_made past each.1 went s.0 s.1
 
   -- before it has ended it has sealed its proof at most
   one_more : (t : Turn) (past : List Turn) (proved : Bool) → (proved ≡ true → client_sealed e past ≡ []) →

@@ -93,20 +93,24 @@ module _ {C : Type 0} (c : Meaning ContextSetting C) (context : Option C) where
 
   pub added_credentials : (t : Turn) (n : ℕ) (before texts : List (List ℕ)) → t.acts.checked ≡ false → t.acts.opened ≡ true →
       OpensMore c context t n before texts →
-      (text : List ℕ) × (i : ℕ) × OpensIn c context i t.delivered.auth_info text × (texts ≡ text ∷ before)
+      (text : List ℕ) × OpensIn c context n t.delivered.auth_info text × (texts ≡ text ∷ before)
   added_credentials t n before texts unchecked opened more =
       let proof : more.proof ≡ [] = subst (λ (b : Bool). IsOpened c context b n t.delivered.pub_key_auth more.proof) unchecked more.proof_is in
       let credentials : (text : List ℕ) × OpensIn c context (n + count_of t.acts.checked) t.delivered.auth_info text
       × (more.credentials ≡ text ∷ []) =
       subst (λ (b : Bool). IsOpened c context b (n + count_of t.acts.checked) t.delivered.auth_info more.credentials) opened
-      more.credentials_are in (
+      more.credentials_are in
+      let number : n + count_of t.acts.checked ≡ n = rw unchecked (omega arith) in (
         credentials.0,
-        n + count_of t.acts.checked,
-        credentials.1,
+        subst (λ (i : ℕ). OpensIn c context i t.delivered.auth_info credentials.0) number credentials.1,
         added texts more.credentials more.proof before (credentials.0 ∷ []) [] more.all credentials.2 proof,
       )
 
   -- ---- turns that opened nothing
+
+  pub none_counted : (turns : List Turn) → NoneOpened turns → opened_in turns ≡ 0
+  none_counted [] none = refl
+  none_counted (t ∷ past) none = rw (none.0, none.1, none_counted past none.2) refl
 
   pub opened_nothing : (turns : List Turn) → NoneOpened turns → HaveOpened c context turns []
   opened_nothing [] none = refl

@@ -34,8 +34,8 @@ plain_seals requests (contexts.Kerberos m) n text blob sealed = sealed_behind m.
 
 pub plain_reads : (requests : ℕ) (own peer : Option (SspiContext NtlmState KerberosState)) →
     ReadsSeals (either requests ntlm_meaning kerberos_meaning) own peer
-plain_reads requests own None n i text opened blob seals opens = absurd seals
-plain_reads requests own (Some p) n i text opened None seals opens = absurd seals
-plain_reads requests None (Some p) n i text opened (Some blob) seals opens = absurd opens
-plain_reads requests (Some m) (Some p) n i text opened (Some blob) seals opens =
-    plain_opens requests m i blob opened opens ∙ sym (plain_seals requests p n text blob seals)
+plain_reads requests own None n text opened blob seals opens = absurd seals
+plain_reads requests own (Some p) n text opened None seals opens = absurd seals
+plain_reads requests None (Some p) n text opened (Some blob) seals opens = absurd opens
+plain_reads requests (Some m) (Some p) n text opened (Some blob) seals opens =
+    plain_opens requests m n blob opened opens ∙ sym (plain_seals requests p n text blob seals)

@@ -9,6 +9,7 @@ use Rattle.sspi_credssp.specs.declared.turn.End.TheVariants.{Client, Server}
 use Rattle.sspi_credssp.specs.declared.turn.Outcome.{Outcome}
 use Rattle.sspi_credssp.specs.declared.turn.Outcome.TheVariants as outcome
 use Rattle.sspi_credssp.specs.declared.turn.Turn.{Turn}
+use Rattle.sspi_credssp.specs.Acts.{OpensIn}
 use Rattle.sspi_credssp.specs.Context.{ContextSetting}
 use Rattle.sspi_credssp.specs.Requests.{IsLong}
 use Rattle.sspi_credssp.specs.Turn.{message_of, client_shown, ShowsReply}
@@ -22,7 +23,7 @@ use Rattle.sspi_play.specs.Undisturbed.{IsWritten, ReadsSeals, IsUndisturbedExch
 use Rattle.sspi_play.proofs.Agreed.{finished_shows}
 use Rattle.sspi_play.proofs.ClientSeals.{is_false, or_false, and_not, state_auth, state_nego, went_nego, reply_nego, unsealed}
 use Rattle.sspi_play.proofs.ClientSeals.{proved_nego, proof_first, proof_alone}
-use Rattle.sspi_play.proofs.Opened.{added_proof, added_credentials, nothing_there}
+use Rattle.sspi_play.proofs.Opened.{added_proof, added_credentials, none_counted, nothing_there}
 use Rattle.sspi_play.proofs.Parts.{client_more, client_skip, server_more, server_skip, client_each_before, server_each_before}
 use Rattle.sspi_play.proofs.ServerSeals.{at_some, at_version, check_alone, open_alone, proved_newest}
 use Rattle.sspi_play.proofs.ClientSeals as of_clients
@@ -45,10 +46,12 @@ module _ {C : Type 0} (c : Meaning ContextSetting C) (client : ClientEnd C) (ser
       let checked = (k.servers.0.shown.acts.proved k.server_proved).0 in
       let unopened = check_alone c server (server_frame_at server served v) v k.servers.0.shown.acts checked in
       let added = added_proof c server.context v (opened_in served) h.0 texts checked unopened h.2 in
-      let none = nothing_there c server.context served h.0
-      (of_servers.nothing_opened c server served k.servers.1 (none_refused served k.server_going.1) k.unproved) h.1 in
+      let quiet = of_servers.nothing_opened c server served k.servers.1 (none_refused served k.server_going.1) k.unproved in
+      let none = nothing_there c server.context served h.0 quiet h.1 in
+      let opens = subst (λ (n : ℕ). OpensIn c server.context n v.delivered.pub_key_auth added.0)
+      (none_counted c server.context served quiet) added.1 in
       let s = (client_text c client server earlier served w v u k).0 in
-      let same = reads s.number (opened_in served) s.text added.0 v.delivered.pub_key_auth s.seals added.1 in
+      let same = reads 0 s.text added.0 v.delivered.pub_key_auth s.seals opens in
       one_alone texts h.0 added.0 s.text added.2 none same
 
   client_opened : (earlier served : List Turn) (w v u : Turn) (k : Three c client server earlier served w v u) →
@@ -57,11 +60,25 @@ module _ {C : Type 0} (c : Meaning ContextSetting C) (client : ClientEnd C) (ser
   client_opened earlier served w v u k reads texts h =
       let checked = checks c client server earlier served w v u k in
       let added = added_proof c client.context u (opened_in (w ∷ earlier)) h.0 texts checked k.clients.0.shown.acts.opened h.2 in
-      let none = nothing_there c client.context (w ∷ earlier) h.0
-      (of_clients.nothing_opened c client (w ∷ earlier) k.clients.1 k.client_going.1 k.unended) h.1 in
+      let quiet = of_clients.nothing_opened c client (w ∷ earlier) k.clients.1 k.client_going.1 k.unended in
+      let none = nothing_there c client.context (w ∷ earlier) h.0 quiet h.1 in
+      let opens = subst (λ (n : ℕ). OpensIn c client.context n u.delivered.pub_key_auth added.0)
+      (none_counted c client.context (w ∷ earlier) quiet) added.1 in
       let s = (server_text c client server earlier served w v u k).0 in
-      let same = reads s.number (opened_in (w ∷ earlier)) s.text added.0 u.delivered.pub_key_auth s.seals added.1 in
+      let same = reads 0 s.text added.0 u.delivered.pub_key_auth s.seals opens in
       one_alone texts h.0 added.0 s.text added.2 none same
+
+  -- the server has opened one message before the credentials, the client's proof
+  opened_one : (earlier served : List Turn) (w v u : Turn) → Three c client server earlier served w v u → opened_in (v ∷ served) ≡ 1
+  opened_one earlier served w v u k =
+      let acts = k.servers.0.shown.acts in
+      let checked = (acts.proved k.server_proved).0 in
+      let quiet = of_servers.nothing_opened c server served k.servers.1 (none_refused served k.server_going.1) k.unproved in
+      rw (
+        none_counted c server.context served quiet,
+        checked,
+        check_alone c server (server_frame_at server served v) v acts checked,
+      ) refl
 
   -- the turn that finished
   record Finishing (earlier served : List Turn) (w v u t : Turn) : Type 0 where
@@ -79,8 +96,10 @@ module _ {C : Type 0} (c : Meaning ContextSetting C) (client : ClientEnd C) (ser
       let first = server_opened earlier served w v u k.three reads h.0 h.1 in
       let proof = client_text c client server earlier served w v u k.three in
       let d = delegates c client server earlier served w v u k.three t.delivered k.given in
-      let same = reads d.1.number added.1 d.1.text added.0 t.delivered.auth_info d.1.seals added.2 in
-      added.3 ∙ ap (λ (l : List (List ℕ)). added.0 ∷ l) (first ∙ sym proof.1)
+      let opens = subst (λ (n : ℕ). OpensIn c server.context n t.delivered.auth_info added.0)
+      (opened_one earlier served w v u k.three) added.1 in
+      let same = reads 1 d.1.text added.0 t.delivered.auth_info d.1.seals opens in
+      added.2 ∙ ap (λ (l : List (List ℕ)). added.0 ∷ l) (first ∙ sym proof.1)
       ∙ ap (λ (x : List ℕ). x ∷ client_sealed client (w ∷ earlier)) same ∙ sym d.2
 
   -- ---- the whole exchange

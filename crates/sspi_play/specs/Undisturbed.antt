@@ -28,10 +28,11 @@ AreHandedOn [] = Unit {0}
 AreHandedOn (t ∷ past) = IsGivenAfter past t.delivered × AreHandedOn past
 
 module _ {C : Type 0} (c : Meaning ContextSetting C) where
-  -- what the context `own` opens of a message that `peer` sealed is the text that was sealed
+  -- what the context `own` opens as its n-th message is the text, where `peer` sealed it as its n-th. Both count from 0, each its own:
+  -- `peer` what it sealed, `own` what it opened
   abbrev pub ReadsSeals : Option C → Option C → Type 0
-  ReadsSeals own peer = (n i : ℕ) (text opened : List ℕ) (blob : Option (List ℕ)) → SealsIn c peer n text blob →
-      OpensIn c own i blob opened → opened ≡ text
+  ReadsSeals own peer = (n : ℕ) (text opened : List ℕ) (blob : Option (List ℕ)) → SealsIn c peer n text blob →
+      OpensIn c own n blob opened → opened ≡ text
 
   pub record IsUndisturbedExchange (client : ClientEnd C) (server : ServerEnd C) (turns : List Turn) : Type 0 where
     pub order : Alternates turns

@@ -41,7 +41,8 @@ pub fn recorded_turns_show_what_is_opened<N: Mechanism, K: Mechanism>()
 {}
 
 /// An exchange that the server finished, in which each turn is given the message of the turn before it, is faithful, if each
-/// context opens what the other sealed to that text. So the premise of agreement can be met, also by mechanisms that encrypt.
+/// context opens what the other sealed as its n-th message, where it opens it as its own n-th, to that text. Nothing is
+/// said of a blob that is opened under another number, so a mechanism that encrypts by its numbers can meet the premise.
 pub fn an_undisturbed_exchange_is_faithful<N: Mechanism, K: Mechanism>()
     ensures { let c = either N.REQUESTS N.meaning K.meaning in
         (client : ClientEnd (SspiContext N K)) → (server : ServerEnd (SspiContext N K)) → (turns : List Turn) →
