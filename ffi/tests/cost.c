@@ -24,10 +24,9 @@ static inline void must(uint32_t status) {
 
 static void decode(size_t length, unsigned long times) {
     newaksu_handle request = NEWAKSU_EMPTY;
-    for (unsigned long i = 0; i < times; i++) {
+    for (unsigned long i = 0; i < times; i++)
         must(newaksu_request_decode(&request, bytes, length));
-        must(newaksu_release(&request));
-    }
+    must(newaksu_release(&request));
 }
 
 static void encode(size_t length, unsigned long times) {
