@@ -7,10 +7,10 @@
 #include <stdlib.h>
 #include <string.h>
 
-/* In front of each block stands its size. As long as malloc's alignment, which the block keeps. */
-typedef union header {
-    size_t size;
-    max_align_t aligned;
+/* In front of each block stands its size. It takes as many bytes as the widest alignment that is
+ * asked for, which the block so keeps. */
+typedef struct header {
+    _Alignas(16) size_t size;
 } header;
 
 typedef struct tried {
