@@ -367,8 +367,8 @@ uint32_t newaksu_end_state(newaksu_handle *end, uint32_t *state);
  *     01 token    it goes on
  *     02 code     the step was refused: a SECURITY_STATUS, four bytes, the low one first
  *
- * A server's begins with the peer's name, UTF-16LE behind the count of its bytes, two bytes, the low
- * one first: 0000 where it is not known. The step that ends the context has to name the peer.
+ * A server's begins with the peer's name, UTF-16LE behind the count of its bytes, two bytes, the
+ * low one first: 0000 where it is not known. The step that ends the context has to name the peer.
  *
  * `opened_field` is NEWAKSU_PUB_KEY_AUTH or NEWAKSU_AUTH_INFO where that field was opened, and
  * `opened` its text; 0 and no bytes where none was opened, or where it could not be.
