@@ -35,7 +35,7 @@ MakesClient mechanism settings (Ok (Server e)) = ⊥
 MakesClient mechanism settings (Ok (PlainServer e)) = ⊥
 MakesClient mechanism settings (Err status) = status ≢ insufficient_memory → settings_for mechanism settings ≡ Err status
 
--- the peers that a server takes: those of the list, or whoever the host's mechanism names where the handle is empty
+-- the peers that a server takes: those of the list, or anyone whom the host's mechanism names where none is chosen
 abbrev pub ArePeers : Option (List AuthIdentity) → Peers → Type 0
 ArePeers (Some list) (Listed table) = table ≡ record { entries = list; failing = []; calls = 0; faults = 0 }
 ArePeers (Some list) (Anyone peer) = ⊥

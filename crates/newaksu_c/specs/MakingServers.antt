@@ -10,19 +10,32 @@ use Rattle.newaksu_c.specs.Making.{IsNewServer}
 use Rattle.newaksu_c.specs.Settings.{challenge_of, server_settings}
 use Rattle.newaksu_c.specs.Status.{insufficient_memory, invalid_handle, invalid_parameter}
 
--- over the host's mechanism the handle of the identities may be empty
+-- the peers of a list need one
 abbrev pub listed_peers : Option (List AuthIdentity) → Result (Unit {0}) ℕ
 listed_peers None = Err invalid_handle
 listed_peers (Some list) = Ok tt
 
-abbrev pub hosted_peers : Option Object → Result (Unit {0}) ℕ
-hosted_peers None = Ok tt
-hosted_peers (Some object) = listed_peers (identities_in (Some object))
+-- nobody is listed beside anyone
+abbrev pub any_peer : Option Object → Result (Unit {0}) ℕ
+any_peer None = Ok tt
+any_peer (Some object) = Err invalid_parameter
 
--- over plain NTLM there is a list, and a challenge of eight bytes
-abbrev pub plain_fault : Option (List AuthIdentity) → Result (List ℕ) ℕ → Result (List ℕ) ℕ
-plain_fault None challenge = Err invalid_handle
-plain_fault (Some list) challenge = challenge
+-- over the host's mechanism the options choose: 0 for the list alone, 1 for anyone whom it names
+abbrev pub hosted_peers : ℕ → Option Object → Result (Unit {0}) ℕ
+hosted_peers choice known =
+    if choice == 0 then listed_peers (identities_in known) else if choice == 1 then any_peer known else Err invalid_parameter
+
+-- the list that is chosen, or anyone
+abbrev pub taken_peers : ℕ → Option Object → Option (List AuthIdentity)
+taken_peers choice known = if choice == 0 then identities_in known else None
+
+-- over plain NTLM the list is chosen and there is one, and a challenge of eight bytes
+abbrev pub plain_listed : Option (List AuthIdentity) → Result (List ℕ) ℕ → Result (List ℕ) ℕ
+plain_listed None challenge = Err invalid_handle
+plain_listed (Some list) challenge = challenge
+
+abbrev pub plain_fault : ℕ → Option (List AuthIdentity) → Result (List ℕ) ℕ → Result (List ℕ) ℕ
+plain_fault choice list challenge = if choice == 0 then plain_listed list challenge else Err invalid_parameter
 
 -- why there is none, by the number of the mechanism
 abbrev pub IsServerFault : ℕ → Result (Unit {0}) ℕ → Result (List ℕ) ℕ → ℕ → Type 0
@@ -31,9 +44,9 @@ IsServerFault mechanism hosted plain status =
     × (mechanism ≢ 0 → mechanism ≢ 1 → status ≡ invalid_parameter)
 
 abbrev pub MakesServer : ServerOptions → List ℕ → List ℕ → Option Object → Result Object ℕ → Type 0
-MakesServer options key challenge known (Ok (Server end)) = (options.mechanism ≡ 0) × (hosted_peers known ≡ Ok tt) ×
-    IsNewServer (server_settings options key (replicate 8 0)) (identities_in known) end.server end.last
-MakesServer options key challenge known (Ok (PlainServer end)) = (options.mechanism ≡ 1) ×
+MakesServer options key challenge known (Ok (Server end)) = (options.mechanism ≡ 0) × (hosted_peers options.peers known ≡ Ok tt) ×
+    IsNewServer (server_settings options key (replicate 8 0)) (taken_peers options.peers known) end.server end.last
+MakesServer options key challenge known (Ok (PlainServer end)) = (options.mechanism ≡ 1) × (options.peers ≡ 0) ×
     ((bytes : List ℕ) × (challenge_of challenge ≡ Ok bytes) ×
     IsNewServer (server_settings options key bytes) (identities_in known) end.server end.last)
 MakesServer options key challenge known (Ok (Request r)) = ⊥
@@ -45,4 +58,5 @@ MakesServer options key challenge known (Ok (Identities l)) = ⊥
 MakesServer options key challenge known (Ok (Client e)) = ⊥
 MakesServer options key challenge known (Ok (PlainClient e)) = ⊥
 MakesServer options key challenge known (Err status) = status ≢ insufficient_memory →
-    IsServerFault options.mechanism (hosted_peers known) (plain_fault (identities_in known) (challenge_of challenge)) status
+    IsServerFault options.mechanism (hosted_peers options.peers known)
+    (plain_fault options.peers (identities_in known) (challenge_of challenge)) status

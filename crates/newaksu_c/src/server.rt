@@ -1,10 +1,10 @@
 //! A server, made.
-ghost use Rattle.std.specs.Prelude.{◌≡◌, ◌≢◌, ℕ, List, Some, Ok, Err, Result, IfOk, IfErr, replicate, option_map};
+ghost use Rattle.std.specs.Prelude.{◌≡◌, ◌≢◌, ℕ, List, None, Some, Ok, Err, Result, IfOk, IfErr, replicate, option_map};
 ghost use Rattle.sspi_credssp.specs.Ends.{IsFreshServer};
 ghost use Rattle.newaksu_c.specs.declared.object.Object.{Object as What};
 ghost use Rattle.newaksu_c.specs.Held.{identities_in};
 ghost use Rattle.newaksu_c.specs.Making.{ArePeers, IsNewServer};
-ghost use Rattle.newaksu_c.specs.MakingServers.{hosted_peers, plain_fault, MakesServer};
+ghost use Rattle.newaksu_c.specs.MakingServers.{any_peer, hosted_peers, listed_peers, plain_fault, taken_peers, MakesServer};
 ghost use Rattle.newaksu_c.specs.Putting.{Puts};
 ghost use Rattle.newaksu_c.specs.Settings.{challenge_of, server_settings};
 ghost use Rattle.newaksu_c.specs.Status.{insufficient_memory};
@@ -53,7 +53,7 @@ fn server_of<N, K>(
     Ok(server.with_least_version(options.least_version))
 }
 
-/// Over the host's mechanism: the peers of the list, or whoever it names where the handle is empty.
+/// Over the host's mechanism: the peers of the list, or whoever it names, as the options say.
 fn hosted(
     alloc: Global,
     options: &ServerOptions,
@@ -61,27 +61,48 @@ fn hosted(
     identities: &Option<Box<Object>>,
 ) -> Result<ServerEnd<Outside, Outside, Peers>, u32>
     ensures ok { IfOk result (λ end. IsNewServer (server_settings options.now key.now (replicate 8 0))
-        (identities_in (option_map (λ b. b.value) identities.now)) end.server end.last) }
-    ensures peers { IfOk result (λ end. hosted_peers (option_map (λ b. b.value) identities.now) ≡ Ok tt) }
+        (taken_peers options.now.peers (option_map (λ b. b.value) identities.now)) end.server end.last) }
+    ensures peers { IfOk result (λ end. hosted_peers options.now.peers (option_map (λ b. b.value) identities.now) ≡ Ok tt) }
     ensures cause { IfErr result (λ status. status ≢ insufficient_memory →
-        hosted_peers (option_map (λ b. b.value) identities.now) ≡ Err status) }
+        hosted_peers options.now.peers (option_map (λ b. b.value) identities.now) ≡ Err status) }
 {
-    let peers = hosted_peers(alloc, identities)?;
+    let peers = hosted_peers(alloc, options.peers, identities)?;
     Ok(ServerEnd::new(server_of(alloc, options, key, [0; 8], peers)?))
 }
 
-fn hosted_peers(alloc: Global, identities: &Option<Box<Object>>) -> Result<Peers, u32>
-    ensures ok { IfOk result (λ peers. ArePeers (identities_in (option_map (λ b. b.value) identities.now)) peers) }
-    ensures there { IfOk result (λ peers. hosted_peers (option_map (λ b. b.value) identities.now) ≡ Ok tt) }
+fn hosted_peers(alloc: Global, choice: u32, identities: &Option<Box<Object>>) -> Result<Peers, u32>
+    ensures ok { IfOk result (λ peers. ArePeers (taken_peers choice (option_map (λ b. b.value) identities.now)) peers) }
+    ensures there { IfOk result (λ peers. hosted_peers choice (option_map (λ b. b.value) identities.now) ≡ Ok tt) }
     ensures cause { IfErr result (λ status. status ≢ insufficient_memory →
-        hosted_peers (option_map (λ b. b.value) identities.now) ≡ Err status) }
+        hosted_peers choice (option_map (λ b. b.value) identities.now) ≡ Err status) }
+{
+    match choice {
+        0 => listed_peers(alloc, identities),
+        1 => anyone(alloc, identities),
+        _ => Err(INVALID_PARAMETER),
+    }
+}
+
+fn listed_peers(alloc: Global, identities: &Option<Box<Object>>) -> Result<Peers, u32>
+    ensures ok { IfOk result (λ peers. ArePeers (identities_in (option_map (λ b. b.value) identities.now)) peers) }
+    ensures there { IfOk result (λ peers. listed_peers (identities_in (option_map (λ b. b.value) identities.now)) ≡ Ok tt) }
+    ensures cause { IfErr result (λ status. status ≢ insufficient_memory →
+        listed_peers (identities_in (option_map (λ b. b.value) identities.now)) ≡ Err status) }
+{
+    match identities_of(identities) {
+        Some(list) => listed(alloc, list),
+        None => Err(INVALID_HANDLE),
+    }
+}
+
+fn anyone(alloc: Global, identities: &Option<Box<Object>>) -> Result<Peers, u32>
+    ensures ok { IfOk result (λ peers. ArePeers None peers) }
+    ensures there { IfOk result (λ peers. any_peer (option_map (λ b. b.value) identities.now) ≡ Ok tt) }
+    ensures cause { IfErr result (λ status. any_peer (option_map (λ b. b.value) identities.now) ≡ Err status) }
 {
     match identities {
         None => Ok(Peers::Anyone(AnyPeer::new(alloc))),
-        Some(object) => match &**object {
-            Object::Identities(list) => listed(alloc, list),
-            _ => Err(INVALID_HANDLE),
-        },
+        Some(_) => Err(INVALID_PARAMETER),
     }
 }
 
@@ -110,9 +131,13 @@ fn plain_of(
     ensures ok { IfOk result (λ end. (bytes : List ℕ) × (challenge_of challenge.now ≡ Ok bytes) ×
         IsNewServer (server_settings options.now key.now bytes)
         (identities_in (option_map (λ b. b.value) identities.now)) end.server end.last) }
-    ensures cause { IfErr result (λ status. status ≢ insufficient_memory →
-        plain_fault (identities_in (option_map (λ b. b.value) identities.now)) (challenge_of challenge.now) ≡ Err status) }
+    ensures choice { IfOk result (λ end. options.now.peers ≡ 0) }
+    ensures cause { IfErr result (λ status. status ≢ insufficient_memory → plain_fault options.now.peers
+        (identities_in (option_map (λ b. b.value) identities.now)) (challenge_of challenge.now) ≡ Err status) }
 {
+    if options.peers != 0 {
+        return Err(INVALID_PARAMETER);
+    }
     let Some(list) = identities_of(identities) else {
         return Err(INVALID_HANDLE);
     };
@@ -136,6 +161,10 @@ fn made(
 }
 
 /// A server: of these options, for the channel of this key, with the identities that it knows.
+///
+/// Whom it takes is chosen by `peers`: with 0 those of the list alone, so that an empty list refuses every peer, and a handle without
+/// a list is refused as `INVALID_HANDLE`; with 1 anyone whom the host's mechanism names, and then the handle of the identities is to
+/// be empty. With 1 and identities, with 1 over plain NTLM, and with another number the call is refused as `INVALID_PARAMETER`.
 #[unsafe(no_mangle)]
 pub extern "C" fn newaksu_server_new(
     alloc: Global,

@@ -33,6 +33,8 @@ pub struct ServerOptions {
     pub version: u32,
     /// The least version of a client that it takes.
     pub least_version: u32,
+    /// Whom it takes: 0 for the listed identities alone, 1 for anyone whom the host's mechanism names.
+    pub peers: u32,
 }
 
 /// The bytes as a text, where they are UTF-8.
