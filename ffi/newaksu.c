@@ -331,6 +331,10 @@ static uint32_t take(newaksu_host *host, const uint8_t *message, size_t length,
     return conclude(host, status, turn);
 }
 
+static int is_there(const void *at, size_t length) {
+    return at != NULL || length == 0;
+}
+
 uint32_t newaksu_host_process(newaksu_host *host, const uint8_t *message, size_t length,
                               newaksu_turn *turn) {
     newaksu_handle request = NEWAKSU_EMPTY;
@@ -339,7 +343,9 @@ uint32_t newaksu_host_process(newaksu_host *host, const uint8_t *message, size_t
     bytes_release(&host->send);
     if (host->refused)
         return NEWAKSU_E_OUT_OF_SEQUENCE;
-    if (host->is_server || host->started || length != 0)
+    if (!is_there(message, length))
+        status = NEWAKSU_E_INVALID_PARAMETER;
+    else if (host->is_server || host->started || length != 0)
         status = newaksu_request_decode(&request, octets(message), length);
     if (status == NEWAKSU_OK)
         status = take(host, message, length, &request, turn);
@@ -390,10 +396,6 @@ static int has_calls(const newaksu_mechanism *mechanism) {
            mechanism->unseal != NULL;
 }
 
-static int is_there(const void *at, size_t length) {
-    return at != NULL || length == 0;
-}
-
 static uint32_t make_client(newaksu_host *host, const newaksu_client_settings *settings) {
     newaksu_client_options options = {NEWAKSU_HOST, settings->version, settings->least_version,
                                       settings->delegation};
@@ -427,13 +429,26 @@ uint32_t newaksu_host_client(const newaksu_client_settings *settings,
     return hand_out(made, make_client(made, settings), host);
 }
 
+/* The list of the users, which there is none of where anyone is taken. */
+static uint32_t list_users(newaksu_handle *identities, const newaksu_server_settings *settings) {
+    uint32_t status = NEWAKSU_OK;
+    if (settings->peers != NEWAKSU_PEERS_ANYONE || settings->users_count != 0)
+        status = newaksu_identities_new(identities);
+    for (size_t i = 0; status == NEWAKSU_OK && i < settings->users_count; i++) {
+        if (is_there(settings->users[i], settings->user_lengths[i]))
+            status = newaksu_identities_add(identities, octets(settings->users[i]),
+                                            settings->user_lengths[i], octets(NULL), 0);
+        else
+            status = NEWAKSU_E_INVALID_PARAMETER;
+    }
+    return status;
+}
+
 static uint32_t make_server(newaksu_host *host, const newaksu_server_settings *settings) {
-    newaksu_server_options options = {NEWAKSU_HOST, settings->version, settings->least_version};
+    newaksu_server_options options = {NEWAKSU_HOST, settings->version, settings->least_version,
+                                      settings->peers};
     newaksu_handle identities = NEWAKSU_EMPTY;
-    uint32_t status = settings->users_count == 0 ? NEWAKSU_OK : newaksu_identities_new(&identities);
-    for (size_t i = 0; status == NEWAKSU_OK && i < settings->users_count; i++)
-        status = newaksu_identities_add(&identities, octets(settings->users[i]),
-                                        settings->user_lengths[i], octets(NULL), 0);
+    uint32_t status = list_users(&identities, settings);
     if (status == NEWAKSU_OK)
         status = newaksu_server_new(&host->end, &identities, &options, octets(settings->public_key),
                                     settings->public_key_length, octets(NULL), 0);

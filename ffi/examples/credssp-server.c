@@ -69,6 +69,8 @@ static enum fault make_host(const struct settings *settings, const struct channe
     newaksu_server_settings_init(&options);
     options.version = settings->version;
     options.least_version = settings->least_version;
+    /* the mechanism knows the users */
+    options.peers = NEWAKSU_PEERS_ANYONE;
     enum fault fault = tls_server_key(channel, &options.public_key, &options.public_key_length);
     if (fault == FAULT_NONE)
         fault = gss_server(gss, settings->mechanism, settings->users);

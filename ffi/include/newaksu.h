@@ -313,10 +313,16 @@ typedef struct newaksu_client_options {
     uint32_t delegation;
 } newaksu_client_options;
 
+/* Whom a server takes: those of its list alone, so nobody where that has none; or whoever the
+ * caller's mechanism names. */
+#define NEWAKSU_PEERS_LISTED 0u
+#define NEWAKSU_PEERS_ANYONE 1u
+
 typedef struct newaksu_server_options {
     uint32_t mechanism;
     uint32_t version;
     uint32_t least_version;
+    uint32_t peers;
 } newaksu_server_options;
 
 /* A client to which nothing was delivered yet; all is copied. `key` is the SubjectPublicKey of the
@@ -331,10 +337,12 @@ uint32_t newaksu_client_new(newaksu_handle *client, const newaksu_client_options
                             size_t password_length);
 
 /* A server to which nothing was delivered yet; all is copied, the identities too, which so may
- * serve many servers. Over the caller's mechanism an empty `identities` takes whoever that names.
- * `challenge` has exactly 8 bytes over plain NTLM, and is not looked at over the caller's
- * mechanism. NEWAKSU_E_INVALID_PARAMETER: a number is none of those above, or the challenge not 8
- * bytes. NEWAKSU_E_INVALID_HANDLE: `identities` holds another object, or nothing over plain NTLM.
+ * serve many servers. With NEWAKSU_PEERS_LISTED `identities` holds a list; with
+ * NEWAKSU_PEERS_ANYONE it is empty, and the mechanism is the caller's. `challenge` has exactly 8
+ * bytes over plain NTLM, and is not looked at over the caller's mechanism.
+ * NEWAKSU_E_INVALID_PARAMETER: a number is none of those above, the challenge not 8 bytes, or
+ * anyone is asked for over plain NTLM or beside a handle that is not empty.
+ * NEWAKSU_E_INVALID_HANDLE: a list is asked for, and `identities` is empty or holds another object.
  * NEWAKSU_E_INSUFFICIENT_MEMORY. */
 uint32_t newaksu_server_new(newaksu_handle *server, newaksu_handle *identities,
                             const newaksu_server_options *options, const uint8_t *key,

@@ -95,8 +95,10 @@ typedef struct newaksu_server_settings {
     uint32_t least_version;
     const uint8_t *public_key;
     size_t public_key_length;
-    /* The users that the server takes, in UTF-8, compared without the case of ASCII letters. With
-     * none, the usual, it takes each that the mechanism names. */
+    /* NEWAKSU_PEERS_LISTED, the usual: the server takes the users below, and nobody where there are
+     * none. NEWAKSU_PEERS_ANYONE: each that the mechanism names; then there are none below. */
+    uint32_t peers;
+    /* The users that the server takes, in UTF-8, compared without the case of ASCII letters. */
     const char *const *users;
     const size_t *user_lengths;
     size_t users_count;
@@ -127,9 +129,10 @@ typedef struct newaksu_turn {
 #define NEWAKSU_UNREAD 3u
 
 /* Makes an end over a mechanism. The table is copied; the host owns `context` from then on, if the
- * answer is NEWAKSU_OK. NEWAKSU_E_INVALID_PARAMETER: a text is no UTF-8, a user has a mixed form,
- * or a pointer is null that may not be. NEWAKSU_E_INSUFFICIENT_MEMORY. NEWAKSU_E_INTERNAL_ERROR:
- * there was no randomness. Else `*host` is null. */
+ * answer is NEWAKSU_OK. NEWAKSU_E_INVALID_PARAMETER: a text is no UTF-8, a pointer is null that may
+ * not be, or users are listed beside NEWAKSU_PEERS_ANYONE. NEWAKSU_E_UNKNOWN_CREDENTIALS: a user's
+ * name mixes the forms. NEWAKSU_E_INSUFFICIENT_MEMORY. NEWAKSU_E_INTERNAL_ERROR: there was no
+ * randomness. At each of these `*host` is null. */
 uint32_t newaksu_host_client(const newaksu_client_settings *options,
                              const newaksu_mechanism *mechanism, void *context,
                              newaksu_host **host);
@@ -141,7 +144,8 @@ uint32_t newaksu_host_server(const newaksu_server_settings *options,
  * starts the exchange. NEWAKSU_OK: the turn is made, and `turn` says how it goes on. Else the
  * status of the refusal, and `turn` is written all the same: send what it has, if anything, and
  * close the channel. After a refusal each further call is refused as NEWAKSU_E_OUT_OF_SEQUENCE, and
- * the mechanism is not called again. */
+ * the mechanism is not called again. NEWAKSU_E_INVALID_PARAMETER where `message` is null and
+ * `length` is not 0: NEWAKSU_UNREAD. */
 uint32_t newaksu_host_process(newaksu_host *host, const uint8_t *message, size_t length,
                               newaksu_turn *turn);
 

@@ -48,6 +48,7 @@ static void make_server(struct exchange *exchange, const struct setup *setup) {
     settings.users = &setup->user;
     settings.user_lengths = &user_length;
     settings.users_count = setup->user == NULL ? 0 : 1;
+    settings.peers = setup->user == NULL ? NEWAKSU_PEERS_ANYONE : NEWAKSU_PEERS_LISTED;
     CHECK_STATUS(newaksu_host_server(&settings, &party_mechanism, &exchange->parties[THE_SERVER],
                                      &exchange->ends[THE_SERVER]),
                  NEWAKSU_OK);

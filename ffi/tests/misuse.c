@@ -82,8 +82,9 @@ static uint32_t call(int which, newaksu_handle *h, struct outputs *o) {
 static void new_end(newaksu_handle *handle, uint32_t kind) {
     static const newaksu_client_options client[2] = {{NEWAKSU_HOST, 6, 5, 0},
                                                      {NEWAKSU_PLAIN_NTLM, 6, 5, 0}};
-    static const newaksu_server_options server[2] = {{NEWAKSU_HOST, 6, 5},
-                                                     {NEWAKSU_PLAIN_NTLM, 6, 5}};
+    static const newaksu_server_options server[2] = {
+        {NEWAKSU_HOST, 6, 5, NEWAKSU_PEERS_LISTED},
+        {NEWAKSU_PLAIN_NTLM, 6, 5, NEWAKSU_PEERS_LISTED}};
     newaksu_handle known = NEWAKSU_EMPTY;
     int plain = kind == NEWAKSU_KIND_PLAIN_CLIENT || kind == NEWAKSU_KIND_PLAIN_SERVER;
     if (kind == NEWAKSU_KIND_CLIENT || kind == NEWAKSU_KIND_PLAIN_CLIENT) {
@@ -183,7 +184,7 @@ static void every_call_with_every_kind(void) {
 static void what_cannot_be_made(void) {
     newaksu_handle handle = NEWAKSU_EMPTY, known = NEWAKSU_EMPTY, nothing = NEWAKSU_EMPTY;
     newaksu_client_options client = {NEWAKSU_HOST, 6, 5, 0};
-    newaksu_server_options server = {7, 6, 5};
+    newaksu_server_options server = {7, 6, 5, NEWAKSU_PEERS_LISTED};
     const uint8_t *ann = (const uint8_t *)"ann", *mixed = (const uint8_t *)"D\\a@b",
                   *bad = (const uint8_t *)"\xff";
     void *at;
@@ -219,7 +220,18 @@ static void what_cannot_be_made(void) {
                  NEWAKSU_E_INVALID_PARAMETER);
     CHECK_STATUS(newaksu_server_new(&handle, &nothing, &server, empty, 0, empty, 8),
                  NEWAKSU_E_INVALID_HANDLE);
+    server.peers = NEWAKSU_PEERS_ANYONE;
+    CHECK_STATUS(newaksu_server_new(&handle, &nothing, &server, empty, 0, empty, 8),
+                 NEWAKSU_E_INVALID_PARAMETER);
     server.mechanism = NEWAKSU_HOST;
+    CHECK_STATUS(newaksu_server_new(&handle, &known, &server, empty, 0, empty, 0),
+                 NEWAKSU_E_INVALID_PARAMETER);
+    server.peers = 2;
+    CHECK_STATUS(newaksu_server_new(&handle, &nothing, &server, empty, 0, empty, 0),
+                 NEWAKSU_E_INVALID_PARAMETER);
+    server.peers = NEWAKSU_PEERS_LISTED;
+    CHECK_STATUS(newaksu_server_new(&handle, &nothing, &server, empty, 0, empty, 0),
+                 NEWAKSU_E_INVALID_HANDLE);
     CHECK_STATUS(newaksu_server_new(&known, &handle, &server, empty, 0, empty, 0),
                  NEWAKSU_E_INVALID_HANDLE);
     CHECK_STATUS(newaksu_identities_add(&known, mixed, 5, empty, 0), NEWAKSU_E_UNKNOWN_CREDENTIALS);
@@ -291,12 +303,33 @@ static void arguments_of_a_turn(void) {
     CHECK_STATUS(newaksu_release(&plain), NEWAKSU_OK);
 }
 
+/* The users of a server's list, and a list beside anyone. */
+static void users_of_a_host(struct party *party) {
+    const char *users[2] = {"ann", NULL};
+    size_t lengths[2] = {3, 40};
+    newaksu_server_settings server;
+    newaksu_host *host;
+    newaksu_server_settings_init(&server);
+    CHECK(server.peers == NEWAKSU_PEERS_LISTED);
+    server.users = users, server.user_lengths = lengths, server.users_count = 2;
+    CHECK_STATUS(newaksu_host_server(&server, &party_mechanism, party, &host),
+                 NEWAKSU_E_INVALID_PARAMETER);
+    server.users_count = 1, server.peers = NEWAKSU_PEERS_ANYONE;
+    CHECK_STATUS(newaksu_host_server(&server, &party_mechanism, party, &host),
+                 NEWAKSU_E_INVALID_PARAMETER);
+    users[0] = "D\\a@b", lengths[0] = 5, server.peers = NEWAKSU_PEERS_LISTED;
+    CHECK_STATUS(newaksu_host_server(&server, &party_mechanism, party, &host),
+                 NEWAKSU_E_UNKNOWN_CREDENTIALS);
+    CHECK(host == NULL);
+}
+
 /* The host's settings, and null where the length is 0. */
 static void settings_of_a_host(void) {
     newaksu_client_settings client;
     newaksu_server_settings server;
     newaksu_mechanism mechanism = party_mechanism;
     newaksu_host *host = (newaksu_host *)&client;
+    newaksu_turn turn;
     struct party party;
     party_init(&party, 0, "ann", "pw", 1);
     newaksu_client_settings_init(&client);
@@ -320,8 +353,11 @@ static void settings_of_a_host(void) {
     mechanism = party_mechanism, mechanism.peer = NULL;
     CHECK_STATUS(newaksu_host_server(&server, &mechanism, &party, &host),
                  NEWAKSU_E_INVALID_PARAMETER);
+    users_of_a_host(&party);
     CHECK(host == NULL && party.releases == 0);
     CHECK_STATUS(newaksu_host_client(&client, &mechanism, &party, &host), NEWAKSU_OK);
+    CHECK_STATUS(newaksu_host_process(host, NULL, 1, &turn), NEWAKSU_E_INVALID_PARAMETER);
+    CHECK(turn.progress == NEWAKSU_UNREAD && turn.send_length == 0);
     CHECK(newaksu_host_end(host)->at != NULL && party.steps_asked == 0);
     newaksu_host_release(host);
     newaksu_host_release(NULL);

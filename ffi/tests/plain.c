@@ -50,7 +50,7 @@ static void make_client(newaksu_handle *client) {
 }
 
 static void make_server(newaksu_handle *server, const char *password) {
-    static const newaksu_server_options options = {NEWAKSU_PLAIN_NTLM, 6, 5};
+    static const newaksu_server_options options = {NEWAKSU_PLAIN_NTLM, 6, 5, NEWAKSU_PEERS_LISTED};
     static const uint8_t challenge[8];
     newaksu_handle known = NEWAKSU_EMPTY;
     CHECK_STATUS(newaksu_identities_new(&known), NEWAKSU_OK);

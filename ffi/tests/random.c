@@ -75,7 +75,7 @@ struct taken {
 
 static uint32_t make(newaksu_handle *h, newaksu_handle *other, const struct given *g, uint32_t n) {
     const newaksu_client_options client = {draw(3), draw(8), draw(7), draw(3)};
-    const newaksu_server_options server = {draw(3), draw(8), draw(7)};
+    const newaksu_server_options server = {draw(3), draw(8), draw(7), draw(3)};
     switch (draw(12)) {
     case 0:
         return newaksu_request_new(h, n);

@@ -44,6 +44,8 @@ pub struct newaksu_server_options {
     pub version: u32,
     /// The least version of a peer that it takes.
     pub least_version: u32,
+    /// `NEWAKSU_PEERS_LISTED` or `NEWAKSU_PEERS_ANYONE`.
+    pub peers: u32,
 }
 
 /// What the last turn did with the context; each is 0 or 1, but `status`.
@@ -175,6 +177,10 @@ pub const NEWAKSU_MECH_NTLM: u32 = 3;
 pub const NEWAKSU_HOST: u32 = 0;
 /// For tests: NTLM's messages, and nothing is hidden.
 pub const NEWAKSU_PLAIN_NTLM: u32 = 1;
+/// A server takes those of its list alone.
+pub const NEWAKSU_PEERS_LISTED: u32 = 0;
+/// A server takes whoever the caller's mechanism names.
+pub const NEWAKSU_PEERS_ANYONE: u32 = 1;
 /// The client delegates its credentials.
 pub const NEWAKSU_WITH_CREDENTIALS: u32 = 0;
 /// Three empty texts in place of the credentials (restricted admin).

@@ -19,8 +19,8 @@ pub struct ServerSettings<'a> {
     pub least_version: u32,
     /// The SubjectPublicKey of the TLS channel's certificate (MS-CSSP 3.1.5).
     pub public_key: &'a [u8],
-    /// The users whom it takes, compared without the case of ASCII letters; `None` for each that
-    /// the mechanism names.
+    /// The users whom it takes, compared without the case of ASCII letters, so nobody where the
+    /// list is empty; `None` for each that the mechanism names.
     pub users: Option<&'a [&'a str]>,
 }
 
@@ -74,6 +74,10 @@ impl<M: Acceptor> Server<M> {
             mechanism: sys::NEWAKSU_HOST,
             version: settings.version,
             least_version: settings.least_version,
+            peers: match settings.users {
+                Some(_) => sys::NEWAKSU_PEERS_LISTED,
+                None => sys::NEWAKSU_PEERS_ANYONE,
+            },
         };
         let known = identities(settings.users)?;
         // SAFETY: the handles, the options and the slices are valid; a slice's pointer is never
@@ -159,7 +163,7 @@ impl<M> Server<M> {
     }
 }
 
-/// The list of users; with none the server takes whoever the mechanism names.
+/// The list of users, where there is one.
 fn identities(users: Option<&[&str]>) -> Result<Handle, Error> {
     let Some(users) = users else {
         return Ok(Handle::empty());
