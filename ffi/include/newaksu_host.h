@@ -39,10 +39,11 @@ uint32_t newaksu_bytes_append(newaksu_bytes *bytes, const void *data, size_t len
  * counts as NEWAKSU_E_INVALID_TOKEN. What it wrote at a refusal is dropped. The inputs are valid
  * during the call alone, and are never null. No function may call the host that calls it. */
 typedef struct newaksu_mechanism {
-    /* Takes the peer's token, which is empty in a client's first step, and writes the own one,
-     * which may be empty. NEWAKSU_OK where the authentication has ended on this end,
-     * NEWAKSU_CONTINUE_NEEDED where it wants another token. Not called again once it ended or
-     * refused. */
+    /* Takes the peer's token and writes the own one, which may be empty. The token is empty in a
+     * client's first step, and whenever the peer's message has none: then a mechanism refuses, as
+     * NEWAKSU_E_INVALID_TOKEN, and does not begin anew. NEWAKSU_OK where the authentication has
+     * ended on this end, NEWAKSU_CONTINUE_NEEDED where it wants another token. Not called again
+     * once it ended or refused. */
     uint32_t (*step)(void *context, const uint8_t *token, size_t length, newaksu_bytes *output);
 
     /* A server's alone, called once, after the step that ended: writes the name of the user whom it
