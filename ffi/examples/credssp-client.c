@@ -90,7 +90,7 @@ static enum fault make_host(const struct settings *settings, const struct channe
     if (fault == FAULT_NONE)
         status = newaksu_host_client(&options, &gss_mechanism, *gss, host);
     if (status != NEWAKSU_OK)
-        fault = status == NEWAKSU_E_INVALID_PARAMETER ? FAULT_SETTINGS : FAULT_MEMORY;
+        fault = status == NEWAKSU_E_INSUFFICIENT_MEMORY ? FAULT_MEMORY : FAULT_SETTINGS;
     explicit_bzero(password, sizeof password);
     return fault;
 }

@@ -77,13 +77,26 @@ static enum fault make_host(const struct settings *settings, const struct channe
     if (fault != FAULT_NONE)
         return fault;
     uint32_t status = newaksu_host_server(&options, &gss_mechanism, *gss, host);
-    return status == NEWAKSU_OK                    ? FAULT_NONE
-           : status == NEWAKSU_E_INVALID_PARAMETER ? FAULT_SETTINGS
-                                                   : FAULT_MEMORY;
+    return status == NEWAKSU_OK                      ? FAULT_NONE
+           : status == NEWAKSU_E_INSUFFICIENT_MEMORY ? FAULT_MEMORY
+                                                     : FAULT_SETTINGS;
 }
 
 static bool is_admitted(const struct settings *settings, const char *user) {
     return !settings->admit || strcasecmp(settings->admit, user) == 0;
+}
+
+/* A line of its own, whatever the peer wrote: control characters are told by their number. */
+static void print_line(const char *label, const char *text, size_t length) {
+    printf("%s ", label);
+    for (size_t i = 0; i < length; i++) {
+        unsigned char byte = (unsigned char)text[i];
+        if (byte < 0x20 || byte == 0x7f)
+            printf("\\x%02x", byte);
+        else
+            putchar(byte);
+    }
+    putchar('\n');
 }
 
 /* Says who came, and tells the client whether the user may log on, where it asked for that. What
@@ -96,9 +109,10 @@ static int let_in(const struct settings *settings, struct channel *channel, uint
     uint8_t result[4];
     if (newaksu_host_identity(host, &user, &user_length, &password, &password_length) != NEWAKSU_OK)
         return 1;
-    printf("authenticated %s\nidentity %.*s\n", authenticated, (int)user_length, user);
+    print_line("authenticated", authenticated, strlen(authenticated));
+    print_line("identity", user, user_length);
     if (settings->show_password)
-        printf("password %.*s\n", (int)password_length, password);
+        print_line("password", password, password_length);
     bool admitted = is_admitted(settings, authenticated);
     if (protocol == X224_HYBRID_EX) {
         newaksu_early_encode(admitted ? 0 : 5, result, sizeof result, &written);

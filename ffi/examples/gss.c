@@ -107,6 +107,11 @@ static uint32_t peer(void *context, newaksu_bytes *name) {
     if (GSS_ERROR(major))
         return refuse(gss, major, minor);
     /* gss-ntlmssp counts a final zero too */
+    const char *end = memchr(text.value, 0, text.length);
+    if (end && end != (const char *)text.value + text.length - 1) {
+        gss_release_buffer(&minor, &text);
+        return NEWAKSU_E_INVALID_TOKEN;
+    }
     gss->authenticated = strndup(text.value, text.length);
     gss_release_buffer(&minor, &text);
     if (!gss->authenticated)
