@@ -1,0 +1,9 @@
+pub mod LineCuts
+pub mod Marks
+pub mod Mechs
+pub mod ReadThen
+pub mod ReadsFields
+pub mod ReadsPieces
+pub mod ReadsRequest
+pub mod ReadsTokens
+pub mod Subidentifiers

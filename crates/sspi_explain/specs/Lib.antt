@@ -1,0 +1,11 @@
+pub mod Texts
+pub mod Page
+pub mod Found
+pub mod Told
+pub mod Pieces
+pub mod Identifier
+pub mod Token
+pub mod Codes
+pub mod Request
+pub mod Message
+pub mod Explained

@@ -1,0 +1,111 @@
+//! The page that an explanation is written on.
+ghost use Rattle.std.specs.Prelude.{◌≡◌, OnOk, []};
+ghost use Rattle.sspi_explain.specs.Page.{refused, with_content, with_field, with_ignored, with_line, with_text};
+ghost use Rattle.sspi_explain.specs.Told.{fault_of, IsRefused};
+
+use crate::depth::Depth;
+use crate::field::{Field, Form};
+use crate::stop::{Fault, Stop};
+use crate::texts::content_text;
+use std::alloc::{AllocError, Global};
+use std::marker::Model;
+
+/// What is told so far of a message, and how its fields are told.
+#[derive(Drop)]
+pub(crate) struct Page {
+    pub alloc: Global,
+    pub form: Form,
+    pub depth: Depth,
+    pub text: Vec<u8>,
+}
+
+impl Model for Page {
+    ghost use Rattle.sspi_explain.specs.Page.{Sheet};
+
+    ghost Value = { Sheet };
+
+    ghost view = { λ page. record { form = page.form; depth = page.depth; text = page.text.items } };
+}
+
+impl Page {
+    pub fn new(alloc: Global, form: Form, depth: Depth) -> Page
+        ensures { result ≡ record { form = form; depth = depth; text = [] } }
+    {
+        Page {
+            alloc,
+            form,
+            depth,
+            text: Vec::new(alloc),
+        }
+    }
+
+    /// A line: its indentation, an offset, and what stands there.
+    pub fn line(&mut self, depth: Depth, at: usize, said: &str) -> Result<(), AllocError>
+        ensures { OnOk result (self.new ≡ with_line depth at said.now self.old) }
+    {
+        let blanks = depth.blanks();
+        let line = format!(in self.alloc; "{blanks}{at} {said}\n")?;
+        self.text.extend_from_slice(line.as_bytes())
+    }
+
+    /// Lines that are told elsewhere.
+    pub fn push(&mut self, text: &[u8]) -> Result<(), AllocError>
+        ensures { OnOk result (self.new ≡ with_text text.now self.old) }
+    {
+        self.text.extend_from_slice(text)
+    }
+
+    /// A field with its value.
+    pub fn field(&mut self, at: usize, field: Field, value: &str) -> Result<(), AllocError>
+        ensures { OnOk result (self.new ≡ with_field at field value.now self.old) }
+    {
+        let name = field.name();
+        let said = format!(in self.alloc; "{name} {value}")?;
+        self.line(self.depth, at, &said)
+    }
+
+    /// A field with its content.
+    pub fn content(&mut self, at: usize, field: Field, content: &[u8]) -> Result<(), AllocError>
+        ensures { OnOk result (self.new ≡ with_content at field content.now self.old) }
+    {
+        let value = content_text(self.alloc, content)?;
+        self.field(at, field, &value)
+    }
+
+    /// What a reader ignores, where there is something.
+    pub fn ignored(&mut self, depth: Depth, at: usize, bytes: &[u8]) -> Result<(), AllocError>
+        ensures { OnOk result (self.new ≡ with_ignored depth at bytes.now self.old) }
+    {
+        if bytes.is_empty() {
+            return Ok(());
+        }
+        let content = content_text(self.alloc, bytes)?;
+        let said = format!(in self.alloc; "ignored {content}")?;
+        self.line(depth, at, &said)
+    }
+
+    /// Tells that the message is refused, where and why.
+    pub fn refuse(&mut self, at: usize, field: Field, fault: Fault, why: &str) -> Stop
+        ensures { IsRefused fault result (self.new ≡ refused at field (fault_of fault) why.now self.old) }
+    {
+        match self.refused(at, field, fault, why) {
+            Ok(()) => Stop::Refused(fault),
+            Err(_) => Stop::OutOfMemory,
+        }
+    }
+
+    fn refused(
+        &mut self,
+        at: usize,
+        field: Field,
+        fault: Fault,
+        why: &str,
+    ) -> Result<(), AllocError>
+        ensures { OnOk result (self.new ≡ refused at field (fault_of fault) why.now self.old) }
+    {
+        let kind = self.form.kind(field, fault);
+        let name = field.name();
+        let said = format!(in self.alloc; "refused {kind} {name}: {why}")?;
+        self.line(self.depth, at, &said)
+    }
+}
