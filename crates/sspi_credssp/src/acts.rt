@@ -4,7 +4,7 @@ ghost use Rattle.sspi_credssp.specs.Acts.{no_acts};
 use sspi_types::SecurityStatus;
 
 /// What the last call of an end did on its security context, also where the call was refused.
-#[derive(Clone, Copy, PartialEq, Eq)]
+#[derive(Clone, Copy, Debug, PartialEq, Eq)]
 pub struct Acts {
     /// The status that the context's step answered, resumes included; `None` where no step answered.
     pub status: Option<SecurityStatus>,

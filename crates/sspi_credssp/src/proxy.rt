@@ -2,6 +2,8 @@ ghost use Rattle.std.specs.Prelude.{IfOk};
 ghost use Rattle.sspi_credssp.specs.Proxy.{ProxyMeaning, IsEntry, IsTold, AreFound, IsList, HasAnswered};
 
 use sspi_names::{AuthIdentity, Username};
+use std::alloc::AllocError;
+use std::fmt;
 
 /// Why a look-up of credentials gave none.
 #[derive(Clone, Copy, Debug, PartialEq, Eq)]
@@ -12,6 +14,29 @@ pub enum ProxyError {
     Failed,
     /// There was no memory for the answer.
     InsufficientMemory,
+}
+
+impl fmt::Display for ProxyError {
+    fn fmt<W: fmt::Write>(&self, f: &mut fmt::Formatter<W>) -> fmt::Result {
+        match self {
+            ProxyError::NotFound => write!(f, "no such user"),
+            ProxyError::Failed => write!(f, "the look-up failed"),
+            ProxyError::InsufficientMemory => write!(f, "out of memory"),
+        }
+    }
+}
+
+impl std::error::Error for ProxyError {}
+
+impl From<AllocError> for ProxyError {
+    ghost use Rattle.std.specs.Prelude.{◌≡◌};
+    ghost use Rattle.sspi_credssp.specs.declared.proxy.ProxyError.TheVariants.{InsufficientMemory};
+
+    ghost from_gives = { λ _ error. error ≡ InsufficientMemory };
+
+    fn from(_error: AllocError) -> ProxyError {
+        ProxyError::InsufficientMemory
+    }
 }
 
 /// Where a server looks up the identities of its peers.

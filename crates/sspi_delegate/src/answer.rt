@@ -2,6 +2,8 @@ use sspi_ber::WireKind;
 use sspi_credssp::End;
 use sspi_names::AuthIdentity;
 use sspi_types::Error;
+use std::alloc::AllocError;
+use std::fmt;
 
 /// What an exchange came to: the credentials that the server opened.
 #[derive(Drop)]
@@ -29,4 +31,37 @@ pub enum DelegateError {
     TurnsSpent,
     /// There was no memory, also for an end's own turn or for the KDC.
     InsufficientMemory,
+}
+
+impl fmt::Display for DelegateError {
+    fn fmt<W: fmt::Write>(&self, f: &mut fmt::Formatter<W>) -> fmt::Result {
+        match self {
+            DelegateError::Client(error) => write!(f, "the client refused: {error}"),
+            DelegateError::Server(error) => write!(f, "the server refused: {error}"),
+            DelegateError::Read(End::Client, kind) => {
+                write!(f, "what came to the client is no request: {kind:?}")
+            }
+            DelegateError::Read(End::Server, kind) => {
+                write!(f, "what came to the server is no request: {kind:?}")
+            }
+            DelegateError::Write(End::Client) => write!(f, "the client's reply is too long"),
+            DelegateError::Write(End::Server) => write!(f, "the server's reply is too long"),
+            DelegateError::LinkFault => write!(f, "the link failed"),
+            DelegateError::TurnsSpent => write!(f, "the client may make no more turns"),
+            DelegateError::InsufficientMemory => write!(f, "out of memory"),
+        }
+    }
+}
+
+impl std::error::Error for DelegateError {}
+
+impl From<AllocError> for DelegateError {
+    ghost use Rattle.std.specs.Prelude.{◌≡◌};
+    ghost use Rattle.sspi_delegate.specs.declared.answer.DelegateError.TheVariants.{InsufficientMemory};
+
+    ghost from_gives = { λ _ error. error ≡ InsufficientMemory };
+
+    fn from(_error: AllocError) -> DelegateError {
+        DelegateError::InsufficientMemory
+    }
 }

@@ -2,4 +2,5 @@
 
 mod exchange;
 mod links;
+mod texts;
 mod worked;

@@ -32,7 +32,7 @@ pub(crate) fn ntlm_config(alloc: Global) -> Result<NtlmConfig, AllocError> {
 }
 
 /// The nonce is the client's own: take fresh random bytes for each.
-fn client<M: Mechanism>(alloc: Global) -> Result<CredSspClient<M, M>, Error> {
+pub(crate) fn client<M: Mechanism>(alloc: Global) -> Result<CredSspClient<M, M>, Error> {
     let key = key(alloc)?;
     let target = String::from_str(alloc, "TERMSRV/host")?;
     let ann = ann(alloc)?;
@@ -48,7 +48,9 @@ fn client<M: Mechanism>(alloc: Global) -> Result<CredSspClient<M, M>, Error> {
     ))
 }
 
-fn server<M: Mechanism>(alloc: Global) -> Result<CredSspServer<M, M, TableProxy>, Error> {
+pub(crate) fn server<M: Mechanism>(
+    alloc: Global,
+) -> Result<CredSspServer<M, M, TableProxy>, Error> {
     let key = key(alloc)?;
     let mut known = Vec::new(alloc);
     known.push(ann(alloc)?)?;

@@ -1,12 +1,14 @@
 //! The code of docs/GUIDE.md: a module for each of its parts, and a program that runs them.
 #![tactic(auto)]
 
+mod carrier;
 mod delegation;
 mod hello;
 mod host;
 mod messages;
 mod outside;
 mod part;
+mod suspended;
 
 use crate::hello::Hello;
 use crate::part::say;
@@ -19,5 +21,7 @@ fn main(rt: HostRuntime) -> io::Result<()> {
     say(&rt, alloc, "messages", messages::both(alloc))?;
     say(&rt, alloc, "hello", delegation::both::<Hello>(alloc))?;
     say(&rt, alloc, "outside", outside::both(alloc))?;
+    say(&rt, alloc, "carrier", carrier::both::<Ntlm>(alloc))?;
+    say(&rt, alloc, "suspended", suspended::both(alloc))?;
     say(&rt, alloc, "host", host::both(alloc))
 }

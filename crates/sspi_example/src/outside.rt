@@ -123,7 +123,7 @@ fn negotiation(alloc: Global, begins_with: ProtocolConfig) -> Result<NegotiateCo
 }
 
 /// A client that negotiates, and begins with Kerberos.
-fn client(alloc: Global) -> Result<CredSspClient<Ntlm, Kerberos>, Error> {
+pub(crate) fn client(alloc: Global) -> Result<CredSspClient<Ntlm, Kerberos>, Error> {
     let key = key(alloc)?;
     let target = String::from_str(alloc, "TERMSRV/host")?;
     let ann = ann(alloc)?;
@@ -141,7 +141,7 @@ fn client(alloc: Global) -> Result<CredSspClient<Ntlm, Kerberos>, Error> {
 }
 
 /// A server that negotiates, and authenticates user to user by its ticket.
-fn server(alloc: Global) -> Result<CredSspServer<Ntlm, Kerberos, Directory>, Error> {
+pub(crate) fn server(alloc: Global) -> Result<CredSspServer<Ntlm, Kerberos, Directory>, Error> {
     let ticket = KerberosServerConfig {
         ticket: Some([9; 32]),
     };
@@ -152,7 +152,7 @@ fn server(alloc: Global) -> Result<CredSspServer<Ntlm, Kerberos, Directory>, Err
     Ok(CredSspServer::new(alloc, key, directory, ServerMode::Negotiate(config)))
 }
 
-fn remote_kdc(alloc: Global) -> Result<RemoteKdc, Error> {
+pub(crate) fn remote_kdc(alloc: Global) -> Result<RemoteKdc, Error> {
     let mut users = Vec::new(alloc);
     users.push(Text::from_text(alloc, "ann")?)?;
     Ok(RemoteKdc {

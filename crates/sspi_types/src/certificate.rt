@@ -36,7 +36,7 @@ impl CertEncodingType {
 }
 
 /// Whether a certificate chain is trusted, and what is known of it (CERT_TRUST_STATUS).
-#[derive(Clone, Copy, PartialEq, Eq)]
+#[derive(Clone, Copy, Debug, PartialEq, Eq)]
 pub struct CertTrustStatus {
     /// Why the chain is not trusted; empty where it is.
     pub error_status: CertTrustErrorStatus,

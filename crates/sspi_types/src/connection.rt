@@ -175,7 +175,7 @@ impl ConnectionKeyExchange {
 }
 
 /// The algorithms of a connection, with their strengths in bits (SecPkgContext_ConnectionInfo).
-#[derive(Clone, Copy, PartialEq, Eq)]
+#[derive(Clone, Copy, Debug, PartialEq, Eq)]
 pub struct ConnectionInfo {
     /// The protocol, and whose end it is.
     pub protocol: ConnectionProtocol,

@@ -5,7 +5,7 @@ use crate::secret::Secret;
 use std::alloc::{AllocError, Global};
 
 /// The sizes that matter to users of a context (SecPkgContext_Sizes), in bytes.
-#[derive(Clone, Copy, PartialEq, Eq)]
+#[derive(Clone, Copy, Debug, PartialEq, Eq)]
 pub struct ContextSizes {
     /// The most bytes of a token.
     pub max_token: u32,
@@ -18,7 +18,7 @@ pub struct ContextSizes {
 }
 
 /// The sizes of a stream's messages (SecPkgContext_StreamSizes), in bytes; `buffers` is a count.
-#[derive(Clone, Copy, PartialEq, Eq)]
+#[derive(Clone, Copy, Debug, PartialEq, Eq)]
 pub struct StreamSizes {
     /// The bytes of a message's header.
     pub header: u32,
