@@ -52,6 +52,7 @@ fn write_short_length<W: Sink>(sink: &mut W, len: usize) -> Result<(), WireKind>
 }
 
 /// An identifier octet, and the shortest length of a content that fits.
+#[inline(always)]
 #[tactic(auto, unfolding(crate::specs::Short::header, crate::specs::Short::len_short, crate::specs::Short::length_octets))]
 pub fn write_header<W: Sink>(sink: &mut W, tag: u8, len: usize) -> Result<(), WireKind>
     requires { len ≤ max_content }
