@@ -3,7 +3,6 @@ use Rattle.std.proofs.Common.{◌≡◌, ◌≤◌, ℕ, List, [], ◌∷◌, �
 use Rattle.std.proofs.Common.{inl, inr, refl, sym, ap, ◌∙◌, subst, arith}
 use Rattle.std.proofs.lemmas.List.{append-nil, length-append, take_at}
 use Rattle.std.specs.Option.{IsSome}
-use Rattle.std.specs.Result.{IfErr, OnOk}
 use Rattle.sspi_ber.specs.declared.wire_kind.WireKind.{WireKind}
 use Rattle.sspi_ber.specs.declared.wire_kind.WireKind.TheVariants.{InsufficientMemory}
 use Rattle.sspi_ber.specs.Forms.{IsField, IsWrapped}
@@ -15,17 +14,15 @@ use Rattle.sspi_tsreq.specs.declared.place.Place.TheVariants.{Whole}
 use Rattle.sspi_tsreq.specs.declared.place.Stage.{Stage}
 use Rattle.sspi_tsreq.specs.declared.place.Stage.TheVariants.{OuterTag, Content}
 use Rattle.sspi_tsreq.specs.declared.reader.TsReader.{TsReader}
-use Rattle.sspi_tsreq.specs.Answer.{IsAnswer, IsUnlessMemory}
+use Rattle.sspi_tsreq.specs.Answer.{IsAnswer}
 use Rattle.sspi_tsreq.specs.Feeding.{IsPastReading, Stands, StandsAt, StandsInside}
 use Rattle.sspi_tsreq.specs.Walks.{EndsAs}
 use Rattle.sspi_tsreq.specs.Grammar.{IsOctets, IsRequest, IsToken}
 use Rattle.sspi_tsreq.specs.Quiet.{HasOctets, IsWithout}
 use Rattle.sspi_tsreq.specs.Places.{answered, rest_at}
-use Rattle.sspi_tsreq.specs.Reading.{body_at, request_at}
+use Rattle.sspi_tsreq.specs.Reading.{body_at}
 use Rattle.sspi_tsreq.proofs.BodyMatch.{body_again}
 use Rattle.sspi_tsreq.proofs.Feeding.{last_answer, last_only, never, stage_past, without_parts}
-use Rattle.sspi_tsreq.proofs.FromBuffer.{unkept_answer}
-use Rattle.sspi_tsreq.proofs.RequestMatch.{request_takes}
 
 -- ---- the reader stands behind it
 
@@ -50,9 +47,6 @@ request_stands nonce bytes r count t = record {
       ∙ nothing_more t.body more r le (ap answered (body_again t.body r t.body_is).1);
   quiet = λ without opened. opened;
 }
-
-pub read_stands : (nonce bytes rest : List ℕ) (r : TsRequest) → request_at bytes ≡ Ok (r, rest) → StandsInside nonce 0 Whole r bytes
-read_stands nonce bytes rest r e = let t = request_takes bytes r rest e in request_stands nonce bytes r t.0 t.1
 
 -- ---- an OCTET STRING has its tag among the bytes
 
@@ -95,28 +89,9 @@ request_marked bytes r count t octets without =
 nothing_fed : (reader : TsReader) (bytes : List ℕ) → reader.stage ≡ OuterTag → Stands reader bytes → bytes ≡ []
 nothing_fed reader bytes e s = subst (λ (g : Stage). StandsAt reader.nonce g reader.request bytes) e s.at
 
-pub kept_stands : (before after : TsReader) (result : Result (Unit {0}) WireKind) (piece rest : List ℕ) (r : TsRequest)
-    → request_at piece ≡ Ok (r, rest) → OnOk result (after ≡ record before { stage = Content 0 Whole; request = r })
-    → OnOk result (Stands after piece)
-kept_stands before after (Ok x) piece rest r f h =
-    let kept : Stands (record before { stage = Content 0 Whole; request = r }) piece =
-    record { at = read_stands before.nonce piece rest r f } in
-    subst (λ (reader : TsReader). Stands reader piece) (sym h) kept
-kept_stands before after (Err kind) piece rest r f h = tt
-
-abbrev Unkept : Result (Unit {0}) WireKind → TsRequest → Type 0
-Unkept result r = IfErr result (λ kind. (kind ≡ InsufficientMemory) × HasOctets r)
-
-pub unkept_answers : (result : Result (Unit {0}) WireKind) (piece rest : List ℕ) (r : TsRequest) → request_at piece ≡ Ok (r, rest)
-    → Unkept result r → IfErr result (λ kind. IsAnswer piece (Err kind))
-unkept_answers (Ok x) piece rest r e h = tt
-unkept_answers (Err kind) piece rest r e h =
-    subst (λ (k : WireKind). IsAnswer piece (Err k)) (sym h.0) (unkept_answer piece rest r e h.1)
-
-pub unkept_only : (result : Result (Unit {0}) WireKind) (r s : TsRequest) → Unkept result r
-    → IfErr result (λ kind. IsUnlessMemory {X = TsRequest} (Err kind) s)
-unkept_only (Ok x) r s h = tt
-unkept_only (Err kind) r s h = subst (λ (k : WireKind). IsUnlessMemory {X = TsRequest} (Err k) s) (sym h.0) tt
+pub kept_stands : (before : TsReader) (piece : List ℕ) (r : TsRequest) → IsAnswer piece (Ok r)
+    → Stands (record before { stage = Content 0 Whole; request = r }) piece
+kept_stands before piece r h = record { at = request_stands before.nonce piece r h.0.0 h.0.1 }
 
 pub unkept_marked : (bytes piece : List ℕ) → IsAnswer piece (Err InsufficientMemory) → IsWithout 0x04 (bytes ++ piece) → ⊥
 unkept_marked bytes piece (r, count, t, octets) without =
@@ -140,6 +115,3 @@ pub kept_alone : (reader : TsReader) (left : ℕ) (place : Place) (bytes : List 
     → ◌≡◌ {A = Result TsRequest WireKind} (Ok reader.request) (Ok r)
 kept_alone reader left place bytes e none is s =
     last_only reader left place bytes (Ok reader.request) e (omega (arith, none)) (kept_ends reader.nonce place reader.request is) s
-
-pub answered_only : (result : Result TsRequest WireKind) (r : TsRequest) → result ≡ Ok r → IsUnlessMemory result r
-answered_only result r e = subst (λ (z : Result TsRequest WireKind). IsUnlessMemory z r) (sym e) refl

@@ -4,22 +4,19 @@ ghost use Rattle.std.specs.Prelude.{◌≡◌, ◌≤◌, ℕ, List, [], ◌∷�
 ghost use Rattle.std.specs.Prelude.{OnOk, OnErr};
 ghost use Rattle.sspi_ber.specs.Outside.{NeedsNoMemory};
 ghost use Rattle.sspi_tsreq.specs.declared.request.TsRequest.{TsRequest};
-ghost use Rattle.sspi_tsreq.specs.Answer.{IsAnswer, IsUnlessMemory};
+ghost use Rattle.sspi_tsreq.specs.Answer.{IsAnswer};
 ghost use Rattle.sspi_tsreq.specs.Feeding.{IsPastReading, Stands, StandsInside};
 ghost use Rattle.sspi_tsreq.specs.Walks.{WentOn, lengthened, numbered, with_text, filled, slot, IsHere, IsInText, IsQuiet};
 ghost use Rattle.sspi_tsreq.specs.Grammar.{IsRequest};
-ghost use Rattle.sspi_tsreq.specs.Parts.{seen};
-ghost use Rattle.sspi_tsreq.specs.Quiet.{HasOctets, IsWithout, Opened};
+ghost use Rattle.sspi_tsreq.specs.Quiet.{IsWithout, Opened};
 ghost use Rattle.sspi_tsreq.specs.Places.{octets_of, rest_at, text_from, text_of};
 
 use crate::ending::ended;
 use crate::outer::read_outer;
-use crate::parts::{Parts, copy_request};
 use crate::place::{Element, Place, Stage, Text};
-use crate::reading::read_request;
 use crate::request::TsRequest;
 use crate::walk::{Slot, Walk, after_text};
-use sspi_ber::{SliceSource, WireKind};
+use sspi_ber::WireKind;
 use sspi_types::Bytes;
 use std::alloc::{AllocError, Global};
 
@@ -167,25 +164,14 @@ impl TsReader {
         }
     }
 
-    /// The request that `piece` has whole, with nothing before it. A fault comes before want of memory.
+    /// The request that `piece` has whole, with nothing before it.
     #[inline(never)]
-    pub(crate) fn read_whole(&mut self, piece: &[u8]) -> Result<(), WireKind>
+    fn read_whole(&mut self, piece: &[u8]) -> Result<(), WireKind>
         ensures ok { OnOk result (Stands self.new piece.now) }
         ensures err { OnErr result (self.new ≡ self.old) }
         ensures answer { IfErr result (λ kind. IsAnswer piece.now (Err kind)) }
-        ensures only { (r : TsRequest) (count : ℕ) → IsRequest piece.now r count →
-            IfErr result (λ kind. IsUnlessMemory {X = TsRequest} (Err kind) r) }
     {
-        let parts = read_request(&mut SliceSource::new(piece))?;
-        self.keep(&parts)
-    }
-
-    fn keep(&mut self, parts: &Parts<'_>) -> Result<(), WireKind>
-        ensures ok { OnOk result (self.new ≡ record self.old { stage = Stage.Content 0 Place.Whole; request = seen parts.now }) }
-        ensures err { OnErr result (self.new ≡ self.old) }
-        ensures memory { IfErr result (λ kind. (kind ≡ WireKind.InsufficientMemory) × HasOctets (seen parts.now)) }
-    {
-        self.request = copy_request(self.alloc, parts)?;
+        self.request = TsRequest::from_buffer(self.alloc, piece)?;
         self.stage = Stage::Content(0, Place::Whole);
         Ok(())
     }

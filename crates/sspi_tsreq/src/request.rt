@@ -8,10 +8,12 @@ ghost use Rattle.sspi_tsreq.specs.Header.{request_size_at};
 ghost use Rattle.sspi_tsreq.specs.Status.{ChecksCode};
 ghost use Rattle.sspi_tsreq.specs.declared.request.TsRequest.{TsRequest};
 
-use crate::reader::TsReader;
+use crate::parts::copy_request;
+use crate::reading::read_request;
 use crate::sizes::fields_size;
 use crate::writing::write_request;
-use sspi_ber::{MAX_CONTENT, Sink, Source, WireKind, read_sized_header, size_of_element};
+use sspi_ber::{MAX_CONTENT, Sink, SliceSource, Source, WireKind};
+use sspi_ber::{read_sized_header, size_of_element};
 use sspi_types::{Bytes, Error, ErrorKind, NStatusCode, Reason};
 use std::alloc::{AllocError, Global};
 
@@ -97,22 +99,8 @@ impl TsRequest {
         ensures answer { IsAnswer buffer.now result }
         ensures only { (r : TsRequest) (count : ℕ) → IsRequest buffer.now r count → IsUnlessMemory result r }
     {
-        let mut reader = TsReader::new(alloc);
-        match reader.feed(buffer) {
-            Ok(()) => reader.finish(),
-            Err(_) => TsRequest::unkept(alloc, buffer),
-        }
-    }
-
-    /// What is said where memory was wanting: a fault comes before it.
-    #[cold]
-    fn unkept(alloc: Global, buffer: &[u8]) -> Result<TsRequest, WireKind>
-        ensures answer { IsAnswer buffer.now result }
-        ensures only { (r : TsRequest) (count : ℕ) → IsRequest buffer.now r count → IsUnlessMemory result r }
-    {
-        let mut reader = TsReader::new(alloc);
-        reader.read_whole(buffer)?;
-        reader.finish()
+        let parts = read_request(&mut SliceSource::new(buffer))?;
+        copy_request(alloc, &parts)
     }
 
     /// How many bytes the request takes that the source begins with: those of its header, which are read, and those of the
