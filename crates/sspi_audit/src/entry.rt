@@ -1,10 +1,9 @@
 //! Whether a log's entries are those of the turns.
 ghost use Rattle.std.specs.Prelude.{◌≡◌, ◌≤◌, ◌↔◌, length, Some, true, IsTrue, IfErr, IfOk};
 ghost use Rattle.sspi_delegate.specs.Log.{delivery_limit, is_taken, IsEntry, IsRead, IsSent};
-ghost use Rattle.sspi_delegate.specs.Sending.{Encodes};
 ghost use Rattle.sspi_types.specs.Errors.{memory_error};
 
-use sspi_ber::{VecSink, WireKind};
+use sspi_ber::WireKind;
 use sspi_credssp::Turn;
 use sspi_delegate::{Carried, DELIVERY_LIMIT};
 use sspi_tsreq::TsRequest;
@@ -46,22 +45,13 @@ pub(crate) fn gives(alloc: Global, entry: &Carried, request: &TsRequest) -> Resu
     is_read(alloc, entry.delivered.as_slice(), request)
 }
 
-fn encode(alloc: Global, message: &TsRequest) -> Result<VecSink, WireKind>
-    ensures { Encodes message.now result }
-{
-    let room = message.buffer_len()?;
-    let mut sink = VecSink::with_capacity(alloc, room as usize)?;
-    message.encode_ts_request(&mut sink)?;
-    Ok(sink)
-}
-
 /// The message fits, and these octets are its spelling.
 fn is_sent(alloc: Global, message: &TsRequest, sent: &[u8]) -> Result<bool, Error>
     ensures sent { IfOk result (λ same. IsTrue same ↔ IsSent (Some message.now) sent.now) }
     ensures only { IfErr result (λ error. error ≡ memory_error) }
 {
-    match encode(alloc, message) {
-        Ok(spelled) => Ok(spelled.written() == sent),
+    match message.encode(alloc) {
+        Ok(spelled) => Ok(spelled.as_slice() == sent),
         Err(WireKind::InsufficientMemory) => Err(no_memory()),
         Err(WireKind::InvalidData) => Ok(false),
         Err(WireKind::UnexpectedEof) => Ok(false),

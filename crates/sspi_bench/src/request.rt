@@ -2,7 +2,7 @@ ghost use Rattle.std.specs.Prelude.{◌<◌};
 
 use crate::sums::{given_up, len_of, sum_of_text};
 use crate::work::Work;
-use sspi_ber::{VecSink, WireKind};
+use sspi_ber::WireKind;
 use sspi_tsreq::{TsReader, TsRequest};
 use std::alloc::Global;
 
@@ -27,10 +27,8 @@ fn decode(alloc: Global, bytes: &[u8]) -> Result<u64, WireKind> {
 }
 
 fn encode(alloc: Global, request: &TsRequest) -> Result<u64, WireKind> {
-    let room = request.buffer_len()? as usize;
-    let mut sink = VecSink::with_capacity(alloc, room)?;
-    request.encode_ts_request(&mut sink)?;
-    Ok(sum_of_text(sink.written()))
+    let text = request.encode(alloc)?;
+    Ok(sum_of_text(&text))
 }
 
 /// The work so many times on the TSRequest that the bytes begin with.

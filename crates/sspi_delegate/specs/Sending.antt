@@ -1,7 +1,5 @@
 -- How a message is spelled and carried.
 use Rattle.std.specs.Prelude.{◌≡◌, ℕ, true, false, List, ◌∷◌, reverse, Option, None, Some, Result, Ok, Err}
-use Rattle.sspi_ber.specs.declared.wire_kind.WireKind.{WireKind}
-use Rattle.sspi_ber.specs.declared.wire_kind.WireKind.TheVariants as wire
 use Rattle.sspi_types.specs.Counting.{Counts}
 use Rattle.sspi_tsreq.specs.declared.request.TsRequest.{TsRequest}
 use Rattle.sspi_tsreq.specs.Spelling.{fits, spelled}
@@ -13,15 +11,6 @@ use Rattle.sspi_delegate.specs.declared.carried.Carried.{Carried}
 use Rattle.sspi_delegate.specs.declared.edit.Edit.{Edit}
 use Rattle.sspi_delegate.specs.Link.{edited, sent_texts}
 use Rattle.sspi_delegate.specs.Log.{begun}
-
--- a message is spelled, or it is too long, which is found before memory is taken
-abbrev pub Encodes : TsRequest → Result (List ℕ) WireKind → Type 0
-Encodes message (Ok text) = (fits message ≡ true) × (text ≡ spelled message)
-Encodes message (Err wire.InvalidData) = fits message ≡ false
-Encodes message (Err wire.InsufficientMemory) = fits message ≡ true
-Encodes message (Err wire.UnexpectedEof) = ⊥
-Encodes message (Err wire.ReadFault) = ⊥
-Encodes message (Err wire.WriteFault) = ⊥
 
 -- what sending a message does to the log and to the count of faults
 abbrev pub Sends : End → TsRequest → List Carried → List Carried → ℕ → ℕ → Result (Unit {0}) DelegateError → Type 0

@@ -2,11 +2,11 @@ ghost use Rattle.std.specs.Prelude.{◌+◌, ◌<◌, ◌≤◌};
 ghost use Rattle.sspi_delegate.specs.Log.{IsUnread};
 ghost use Rattle.sspi_delegate.specs.Readers.{TakesIn};
 ghost use Rattle.sspi_delegate.specs.Link.{LinkCause, NeverFails, StaysTold};
-ghost use Rattle.sspi_delegate.specs.Sending.{Encodes, Sends, SendTold};
+ghost use Rattle.sspi_delegate.specs.Sending.{Sends, SendTold};
 
 use crate::answer::DelegateError;
 use crate::link::{Link, LinkError};
-use sspi_ber::{MAX_CONTENT, VecSink, WireKind};
+use sspi_ber::{MAX_CONTENT, WireKind};
 use sspi_credssp::End;
 use sspi_tsreq::{TsReader, TsRequest};
 use std::alloc::Global;
@@ -62,23 +62,14 @@ pub(crate) fn send<L: Link>(
     ensures told { StaysTold (L.edits link.old) (L.edits link.new) (L.log link.old) (L.log link.new) }
     ensures failing { SendTold (L.edits link.old) (L.log link.old) message.now (L.faults link.old) (L.faults link.new) result }
 {
-    let text = match encode(alloc, message) {
+    let text = match message.encode(alloc) {
         Ok(text) => text,
         Err(WireKind::InsufficientMemory) => return Err(DelegateError::InsufficientMemory),
         Err(_) => return Err(DelegateError::Write(from)),
     };
-    match link.carry(from, text.written()) {
+    match link.carry(from, &text) {
         Ok(()) => Ok(()),
         Err(LinkError::Failed) => Err(DelegateError::LinkFault),
         Err(LinkError::InsufficientMemory) => Err(DelegateError::InsufficientMemory),
     }
-}
-
-fn encode(alloc: Global, message: &TsRequest) -> Result<VecSink, WireKind>
-    ensures { Encodes message.now result }
-{
-    let room = message.buffer_len()?;
-    let mut sink = VecSink::with_capacity(alloc, room as usize)?;
-    message.encode_ts_request(&mut sink)?;
-    Ok(sink)
 }

@@ -1,5 +1,5 @@
 -- What a channel carried, one request or message after the other.
-use Rattle.std.proofs.Common.{◌≡◌, ℕ, Bool, true, false, length, Err, List, [], ◌∷◌, ◌++◌, Option, None, Some, Ok, refl, sym, ap, ◌∙◌, subst, append_assoc}
+use Rattle.std.proofs.Common.{◌≡◌, ℕ, Bool, true, Err, List, [], ◌∷◌, ◌++◌, Option, None, Some, Ok, refl, sym, ap, ◌∙◌, subst, append_assoc}
 use Rattle.std.proofs.lemmas.List.{append-nil}
 use Rattle.std.proofs.lemmas.List.Elements.{All-append, All-nil, All-push}
 use Rattle.std.specs.Io.KnownBytes.{Appends, Consumes, Keeps}
@@ -7,8 +7,10 @@ use Rattle.std.proofs.KnownBytes.{Appends-kept, Appends-nil, Appends-trans, Cons
 use Rattle.sspi_tsreq.specs.declared.request.TsRequest.{TsRequest}
 use Rattle.sspi_tsreq.specs.Spelling.{fits, spelled}
 use Rattle.sspi_ber.specs.Outside.{WritesIf}
-use Rattle.sspi_ber.specs.Short.{IsSizeIf, element, header}
+use Rattle.sspi_ber.specs.Short.{element, header}
+use Rattle.sspi_ber.specs.declared.wire_kind.WireKind.{WireKind}
 use Rattle.sspi_ber.specs.declared.wire_kind.WireKind.TheVariants as kinds
+use Rattle.sspi_tsreq.specs.Answer.{Encodes}
 use Rattle.sspi_framing.specs.Front.{IsText}
 use Rattle.sspi_framing.proofs.Fronts.{joined}
 use Rattle.sspi_credssp.specs.declared.turn.End.{End}
@@ -133,9 +135,13 @@ spelled_some : (m : TsRequest) → spelled m ≡ [] → ⊥
 unfolding spelled element header
 spelled_some m e = absurd (cc (e))
 
-pub unwritten : {W : Type 0} (written : W → Option (List ℕ)) (sink : W) (m : TsRequest) (size : ℕ) (fit : Bool) →
-    IsSizeIf fit (Ok size) (length (spelled m)) →
-    WritesIf {X = Unit {0}} fit written sink sink (Err kinds.InsufficientMemory) (spelled m)
-unwritten written sink m size true sized =
-    record { front = []; rest = spelled m; appended = Appends-nil (written sink); parts = refl; cut = spelled_some m }
-unwritten written sink m size false sized = absurd (cc (sized))
+pub unwritten : {W : Type 0} (written : W → Option (List ℕ)) (sink : W) (m : TsRequest) (kind : WireKind) → Encodes m (Err kind) →
+    WritesIf {X = Unit {0}} (fits m) written sink sink (Err kind) (spelled m)
+unwritten written sink m kinds.InsufficientMemory fit =
+    subst (λ (b : Bool). WritesIf {X = Unit {0}} b written sink sink (Err kinds.InsufficientMemory) (spelled m)) (sym fit)
+    (record { front = []; rest = spelled m; appended = Appends-nil (written sink); parts = refl; cut = spelled_some m })
+unwritten written sink m kinds.InvalidData fit =
+    subst (λ (b : Bool). WritesIf {X = Unit {0}} b written sink sink (Err kinds.InvalidData) (spelled m)) (sym fit) (refl, refl)
+unwritten written sink m kinds.UnexpectedEof fit = absurd fit
+unwritten written sink m kinds.ReadFault fit = absurd fit
+unwritten written sink m kinds.WriteFault fit = absurd fit

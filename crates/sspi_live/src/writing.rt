@@ -4,7 +4,7 @@ ghost use Rattle.sspi_delegate.specs.Link.{newest_message};
 ghost use Rattle.sspi_live.specs.Steps.{WritesNewest};
 ghost use Rattle.sspi_live.specs.Writing.{Writes};
 
-use sspi_ber::{Sink, VecSink, WireKind, write_all};
+use sspi_ber::{Sink, WireKind, write_all};
 use sspi_credssp::End;
 use sspi_delegate::{DelegateError, Transcript};
 use sspi_tsreq::TsRequest;
@@ -15,10 +15,8 @@ fn write_encoded<W: Sink>(alloc: Global, sink: &mut W, message: &TsRequest) -> R
     ensures wrote { WritesIf (fits message.now) W.written sink.old sink.new result (spelled message.now) }
     ensures cause { WriteCause (W.faults sink.old) (W.faults sink.new) result }
 {
-    let size = message.buffer_len()?;
-    let mut text = VecSink::with_capacity(alloc, size as usize)?;
-    message.encode_ts_request(&mut text)?;
-    write_all(sink, text.written())
+    let text = message.encode(alloc)?;
+    write_all(sink, &text)
 }
 
 /// Writes a message of this end.

@@ -4,7 +4,7 @@ ghost use Rattle.sspi_report.specs.Play.{ending_text, identity_text, message_tex
 
 use crate::entries::{mark, push_line};
 use crate::names::fault_name;
-use sspi_ber::{VecSink, WireKind};
+use sspi_ber::WireKind;
 use sspi_credssp::Turn;
 use sspi_names::AuthIdentity;
 use sspi_play::{Ending, Played};
@@ -46,12 +46,8 @@ fn push_message(
 ) -> Result<(), AllocError>
     ensures { OnOk result (string_bytes text.new ≡ string_bytes text.old ++ message_text mark.now message.now) }
 {
-    let Ok(room) = message.buffer_len() else {
-        return Ok(());
-    };
-    let mut sink = VecSink::with_capacity(alloc, room as usize)?;
-    match message.encode_ts_request(&mut sink) {
-        Ok(()) => push_line(alloc, text, mark, sink.written()),
+    match message.encode(alloc) {
+        Ok(octets) => push_line(alloc, text, mark, &octets),
         Err(WireKind::InvalidData) => Ok(()),
         Err(_) => Err(AllocError),
     }

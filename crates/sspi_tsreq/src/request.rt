@@ -2,7 +2,7 @@ ghost use Rattle.std.specs.Prelude.{◌≡◌, ℕ, length, IfOk};
 ghost use Rattle.sspi_ber.specs.Outside.{Reads, ReadCause, LeavesRest, WritesIf, WriteCause};
 ghost use Rattle.sspi_ber.specs.Short.{IsSizeIf};
 ghost use Rattle.sspi_tsreq.specs.Spelling.{fits, spelled};
-ghost use Rattle.sspi_tsreq.specs.Answer.{IsAnswer, IsUnlessMemory};
+ghost use Rattle.sspi_tsreq.specs.Answer.{Encodes, IsAnswer, IsUnlessMemory};
 ghost use Rattle.sspi_tsreq.specs.Grammar.{IsRequest, bare, first_request};
 ghost use Rattle.sspi_tsreq.specs.Header.{request_size_at};
 ghost use Rattle.sspi_tsreq.specs.Status.{ChecksCode};
@@ -12,8 +12,9 @@ use crate::parts::copy_request;
 use crate::reading::read_request;
 use crate::sizes::fields_size;
 use crate::writing::write_request;
-use sspi_ber::{MAX_CONTENT, Sink, SliceSource, Source, WireKind};
-use sspi_ber::{read_sized_header, size_of_element};
+use sspi_ber::{
+    MAX_CONTENT, Sink, SliceSource, Source, VecSink, WireKind, read_sized_header, size_of_element,
+};
 use sspi_types::{Bytes, Error, ErrorKind, NStatusCode, Reason};
 use std::alloc::{AllocError, Global};
 
@@ -132,6 +133,21 @@ impl TsRequest {
             return Err(WireKind::InvalidData);
         }
         write_request(sink, self, size)
+    }
+
+    /// The bytes that `encode_ts_request` writes, in memory that is taken once. `InvalidData` exactly where the content passes the
+    /// limit, and then no memory is taken; else the only refusal is `InsufficientMemory`.
+    #[tactic(auto, using(crate::proofs::Capped::capped_fits, crate::proofs::Capped::capped_past))]
+    pub fn encode(&self, alloc: Global) -> Result<Vec<u8>, WireKind>
+        ensures { Encodes self.now result }
+    {
+        let size = fields_size(self);
+        if size > MAX_CONTENT {
+            return Err(WireKind::InvalidData);
+        }
+        let mut sink = VecSink::with_capacity(alloc, size_of_element(size))?;
+        write_request(&mut sink, self, size)?;
+        Ok(sink.into_inner())
     }
 
     /// How many bytes encoding writes. `InvalidData` exactly where the content passes the limit. Takes no memory.
