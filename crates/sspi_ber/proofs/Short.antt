@@ -1,5 +1,5 @@
 -- The shortest spelling of each piece is one of its forms.
-use Rattle.std.proofs.Common.{◌≡◌, ℕ, ◌+◌, ◌/◌, ◌%◌, ◌<◌, ◌≤◌, true, List, [], ◌∷◌, length, refl, sym, ap, ◌∙◌, subst, arith, inl, inr}
+use Rattle.std.proofs.Common.{◌≡◌, ℕ, ◌+◌, ◌/◌, ◌%◌, ◌<◌, ◌≤◌, true, List, [], ◌∷◌, ◌++◌, length, refl, sym, ap, ◌∙◌, subst, arith, inl, inr}
 use Rattle.std.proofs.lemmas.Bool.{cases_lt, lt-ltb, le-ltb}
 use Rattle.sspi_ber.specs.Forms.{max_content, IsLength, IsElement, IsTagged, IsInteger, big_endian, is_integer_size}
 use Rattle.sspi_ber.specs.Short.{length_octets, len_short, header, element, int_content, int_short}
@@ -123,6 +123,11 @@ pub four_byte_integer : (v : ℕ) → 0x800000 ≤ v →
 unfolding int_short element header len_short
 four_byte_integer v ge = ap (λ (l : List ℕ). element 2 l) (int_four v ge)
 
+-- an INTEGER of one byte inside another element
+pub small_wrapped_integer : (tag v : ℕ) → v < 0x80 → element tag (int_short v) ≡ tag ∷ 3 ∷ 2 ∷ 1 ∷ v ∷ []
+unfolding element header len_short
+small_wrapped_integer tag v lt = ap (element tag) (one_byte_integer v lt)
+
 pub ruleset short_integers = (one_byte_integer, two_byte_integer, three_byte_integer, four_byte_integer)
 
 short_content : (v : ℕ) → IsContent v (int_content v)
@@ -145,3 +150,18 @@ short_integer v =
     let c = short_content v in
     let le : length (int_content v) ≤ max_content = omega (arith, c.small) in
     record { content = int_content v; element = short_element 0x02 (int_content v) le; sized = c.sized; stands_for = c.stands_for }
+
+-- both headers of an OCTET STRING inside another element, where both lengths have one octet
+abbrev pub short_headers : ℕ → ℕ → List ℕ
+short_headers tag n = tag ∷ (n + 2) ∷ 0x04 ∷ n ∷ []
+
+pub short_wrapped : (tag : ℕ) (value : List ℕ) → length value < 0x7E →
+    element tag (element 0x04 value) ≡ short_headers tag (length value) ++ value
+unfolding element header
+short_wrapped tag value lt =
+    let inner : element 0x04 value ≡ 0x04 ∷ length value ∷ value =
+    ap (λ (l : List ℕ). (0x04 ∷ l) ++ value) (len_small (length value) (omega arith)) in
+    let size : length (0x04 ∷ length value ∷ value) ≡ length value + 2 = omega arith in
+    ap (element tag) inner
+    ∙ ap (λ (l : List ℕ). (tag ∷ l) ++ (0x04 ∷ length value ∷ value)) (len_small (length (0x04 ∷ length value ∷ value)) (omega arith))
+    ∙ ap (λ (n : ℕ). tag ∷ n ∷ 0x04 ∷ length value ∷ value) size

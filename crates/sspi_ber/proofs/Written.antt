@@ -59,6 +59,15 @@ writes_then before mid after (Err ReadFault) a b p q = q
 writes_then before mid after (Err WriteFault) a b p q = front_then p q
 writes_then before mid after (Err InsufficientMemory) a b p q = front_then p q
 
+-- what was refused in a text was refused in a longer one
+pub writes_more : (before after : Option (List ℕ)) (kind : WireKind) (a b : List ℕ) →
+    Writes {X = Unit {0}} before after (Err kind) a → Writes {X = Unit {0}} before after (Err kind) (a ++ b)
+writes_more before after UnexpectedEof a b p = p
+writes_more before after InvalidData a b p = p
+writes_more before after ReadFault a b p = p
+writes_more before after WriteFault a b p = front_more b p
+writes_more before after InsufficientMemory a b p = front_more b p
+
 -- what a loop of writes has written, and what it has left
 pub record Left (before now : Option (List ℕ)) (text rest : List ℕ) : Type 0 where
   pub front : List ℕ

@@ -98,7 +98,12 @@ pub fn write_wrapped_octets<W: Sink>(sink: &mut W, tag: u8, value: &[u8]) -> Res
     ensures wrote { Writes (W.written sink.old) (W.written sink.new) result (element tag (element 0x04 value.now)) }
     ensures cause { WriteCause (W.faults sink.old) (W.faults sink.new) result }
 {
-    write_header(sink, tag, size_of_element(value.len()))?;
+    let len = value.len();
+    if len < 0x7E {
+        write_all(sink, &[tag, len as u8 + 2, OCTET_STRING, len as u8])?;
+        return write_all(sink, value);
+    }
+    write_header(sink, tag, size_of_element(len))?;
     write_element(sink, OCTET_STRING, value)
 }
 

@@ -8,8 +8,9 @@ ghost use Rattle.sspi_tsreq.specs.Spelling.{last_fields, later_fields, fields, f
 
 use crate::request::TsRequest;
 use crate::sizes::{carried_code, carried_nonce};
+use sspi_ber::identifier::INTEGER;
 use sspi_ber::{
-    Sink, WireKind, size_of_element, sizeof_integer, write_header, write_integer,
+    Sink, WireKind, size_of_element, sizeof_integer, write_all, write_header, write_integer,
     write_wrapped_octets,
 };
 use sspi_types::{Bytes, NStatusCode};
@@ -20,6 +21,9 @@ fn write_wrapped_integer<W: Sink>(sink: &mut W, tag: u8, value: u32) -> Result<(
     ensures wrote { Writes (W.written sink.old) (W.written sink.new) result (element tag (int_short value)) }
     ensures cause { WriteCause (W.faults sink.old) (W.faults sink.new) result }
 {
+    if value < 0x80 {
+        return write_all(sink, &[tag, 3, INTEGER, 1, value as u8]);
+    }
     write_header(sink, tag, sizeof_integer(value))?;
     write_integer(sink, value)?;
     Ok(())
