@@ -20,17 +20,36 @@ use Rattle.sspi_negotiate.specs.Client.{begun, steps_again, falls_back, falls, s
 use Rattle.sspi_negotiate.specs.Client.{resumes_opening, resumes_answering, resumed_at, spnego_resumed}
 use Rattle.sspi_negotiate.specs.Fallback.{is_fallback}
 use Rattle.sspi_negotiate.specs.Follows.{Follows, Went}
-use Rattle.sspi_negotiate.specs.Hand.{hand, hand_of, asks_left, in_place_of_kerberos, is_kerberos_hand}
+use Rattle.sspi_negotiate.specs.Hand.{Origin, hand, hand_of, asks_left, in_place_of_kerberos, is_kerberos_hand}
 use Rattle.sspi_negotiate.specs.Plan.{Stops}
 use Rattle.sspi_negotiate.specs.Values.{Values}
-use Rattle.sspi_negotiate.proofs.Ends.{ends}
+use Rattle.sspi_negotiate.proofs.ClientLeads.{EndCases, begun_leads, stepped_leads}
 use Rattle.sspi_negotiate.proofs.HandLaws.{left_falls, left_again}
-use Rattle.sspi_negotiate.proofs.Quiet.{IsQuiet, quiet_begun, quiet_stepped}
 
 third : (a b d : Bool) → a && b && d ≡ true → b ≡ true
 third true true d h = refl
 third true false d h = absurd (false≢true h)
 third false b d h = absurd (false≢true h)
+
+-- the answer is no question
+abbrev IsQuiet : {M : Type 0} → M → Answer → Values → Type 0
+IsQuiet m (Done step) v = Unit {0}
+IsQuiet m (Ask request) v = ⊥
+IsQuiet m (Refused error) v = Unit {0}
+
+abbrev Any : Values → Type 0
+Any v = Unit {0}
+
+-- what comes after the step of a mechanism asks no KDC
+quiet : {M : Type 0} {c : Meaning Origin M} → EndCases c IsQuiet Any Any
+quiet = record {
+  offers = λ m v token text is g. tt;
+  unopened = λ m v branch error comes g. tt;
+  refuses = λ m v branch error comes g. tt;
+  goes_on = λ m v step on g. tt;
+  hands_mic = λ m v output g. tt;
+  is_over = λ m v output why g. tt;
+}
 
 module _ {N K : Type 0} (r q : ℕ) (n : Meaning Setting N) (k : Meaning Setting K) (ln : IsMechanism r n) (lk : IsMechanism q k) where
   Falls : NegotiatedProtocol N K → NegotiatedProtocol N K → Type 0
@@ -47,7 +66,7 @@ module _ {N K : Type 0} (r q : ℕ) (n : Meaning Setting N) (k : Meaning Setting
       Went x (λ step. Follows (hand n k) (begun v step) m4 (Ask e) v2 m2) (λ kind. Follows (hand n k) (Stops v kind) m4 (Ask e) v2 m2)
       (Ask e) w v2 m4 m2 → Falls m2 m
   again_step computer v first m m3 m4 m2 a (Done step) e w v2 is made h went =
-      absurd (ends IsQuiet (hand n k) (begun v step) m4 m2 (Ask e) v2 (quiet_begun v step) went)
+      absurd ((begun_leads (hand n k) IsQuiet Any Any quiet v step m4 tt).ends m2 (Ask e) v2 went)
   again_step computer v first m m3 m4 m2 a (Ask e3) e w v2 is made h went =
       enough m m2 is (subst (λ y. asks_left r n k y < r) (sym went.2) (left_again r q n k ln lk computer m3 m4 a e3 made h))
   again_step computer v first m m3 m4 m2 a (Refused error) e w v2 is made h went = absurd went.1.0
@@ -68,7 +87,7 @@ module _ {N K : Type 0} (r q : ℕ) (n : Meaning Setting N) (k : Meaning Setting
       (λ kind. Follows (hand n k) (falls w v first kind) m1 (Ask e) v2 m2) (Ask e) w v2 m1 m2 → Falls m2 m
   unfolding Falls
   opening_step first w v reply m m1 m2 (Done step) e v2 same h went =
-      absurd (ends IsQuiet (hand n k) (begun v step) m1 m2 (Ask e) v2 (quiet_begun v step) went)
+      absurd ((begun_leads (hand n k) IsQuiet Any Any quiet v step m1 tt).ends m2 (Ask e) v2 went)
   opening_step first w v reply m m1 m2 (Ask e3) e v2 same h went =
       subst (λ y. asks_left r n k y < asks_left r n k m) (sym went.2) (left_falls r q n k ln lk m m1 reply e3 h)
   opening_step first w v reply m m1 m2 (Refused error) e v2 same h went =
@@ -82,7 +101,7 @@ module _ {N K : Type 0} (r q : ℕ) (n : Meaning Setting N) (k : Meaning Setting
       (λ kind. Follows (hand n k) (Stops w kind) m1 (Ask e) v2 m2) (Ask e) w v2 m1 m2 → Falls m2 m
   unfolding Falls
   answering_step token w v reply m m1 m2 (Done step) e v2 h went =
-      absurd (ends IsQuiet (hand n k) (stepped token v step) m1 m2 (Ask e) v2 (quiet_stepped token v step) went)
+      absurd ((stepped_leads (hand n k) IsQuiet Any Any quiet token v step m1 tt).ends m2 (Ask e) v2 went)
   answering_step token w v reply m m1 m2 (Ask e3) e v2 h went =
       subst (λ y. asks_left r n k y < asks_left r n k m) (sym went.2) (left_falls r q n k ln lk m m1 reply e3 h)
   answering_step token w v reply m m1 m2 (Refused error) e v2 h went = absurd went.1.0

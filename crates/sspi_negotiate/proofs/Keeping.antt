@@ -14,15 +14,13 @@ use Rattle.sspi_negotiate.specs.declared.branch.Branch.TheVariants.{Idle}
 use Rattle.sspi_negotiate.specs.declared.protocol.NegotiatedProtocol.{NegotiatedProtocol}
 use Rattle.sspi_negotiate.specs.declared.state.Role.TheVariants.{Client}
 use Rattle.sspi_negotiate.specs.Does.{WaitsOn, as_before, no_longer, UnlessMemory}
-use Rattle.sspi_negotiate.specs.Hand.{hand_of}
+use Rattle.sspi_negotiate.specs.Hand.{Origin, hand_of}
 use Rattle.sspi_negotiate.specs.Keeps.{Keeps, KeepsPackages, HasList, is_opening}
 use Rattle.sspi_negotiate.specs.Negotiate.{negotiate}
 use Rattle.sspi_negotiate.specs.Server.{spnego_server}
 use Rattle.sspi_negotiate.specs.Values.{Values, Negotiation}
-use Rattle.sspi_negotiate.proofs.ClientEnds.{client_ends, resumed_ends}
-use Rattle.sspi_negotiate.proofs.Ends.{AllEnds}
-use Rattle.sspi_negotiate.proofs.Kept.{IsKept}
-use Rattle.sspi_negotiate.proofs.ServerEnds.{server_ends}
+use Rattle.sspi_negotiate.proofs.Kept.{IsKept, client_kept, resumed_kept, server_kept}
+use Rattle.sspi_negotiate.proofs.Leads.{Leads}
 
 pub packages_kept : (P : Type 0) (r : Answer) (v v2 : Values) → UnlessMemory r (Keeps v v2) →
     (P → KeepsPackages v.packages v.hand v2.packages v2.hand) → OnRefused r P → KeepsPackages v.packages v.hand v2.packages v2.hand
@@ -57,11 +55,8 @@ same v = record { packages = record { ntlm = λ h. h; kerberos = λ h. h; in_han
 kept_from : (v0 : Values) → IsKept (KeptFrom v0) (Keeps v0) (HasList v0 → ⊥)
 kept_from v0 = record {
   done = λ v step g. g;
-  stop = λ v error g. g;
-  opening = λ v first q g. record { packages = g.packages; list = g.list };
-  answering = λ v token q g. record { packages = g.packages; list = g.list };
-  opening_stop = λ v first error g. record { packages = g.packages; list = g.list };
-  answering_stop = λ v token error g. record { packages = g.packages; list = g.list };
+  stop = λ v branch error g. record { packages = g.packages; list = g.list };
+  ask = λ v branch q waits g. record { packages = g.packages; list = g.list };
   state = λ v state g. record { packages = g.packages; list = g.list };
   need = λ v need g. record { packages = g.packages; list = g.list };
   kept = λ v kept g. record { packages = g.packages; list = g.list };
@@ -84,14 +79,15 @@ kept_from v0 = record {
   };
 }
 
-pub client_keeps : (ip : Bool) (v : Values) (args : StepArgs) → AllEnds (KeptFrom v) (spnego_client ip v args)
-client_keeps ip v args = client_ends (KeptFrom v) (Keeps v) (HasList v → ⊥) (kept_from v) ip v args (λ h has. has.begun h)
-    (λ error. same v) (λ h. same v)
+module _ {M : Type 0} (c : Meaning Origin M) (m : M) (v : Values) where
+  pub client_keeps : (ip : Bool) (args : StepArgs) → Leads c (λ m1. KeptFrom v) (spnego_client ip v args) m
+  client_keeps ip args = client_kept c (KeptFrom v) (Keeps v) (HasList v → ⊥) (kept_from v) ip v args m (λ h has. has.begun h)
+      (λ error. same v) (λ h. same v)
 
-pub resumed_keeps : (v : Values) (reply : Reply) → AllEnds (KeptFrom v) (spnego_resumed v reply)
-resumed_keeps v reply = resumed_ends (KeptFrom v) (Keeps v) (HasList v → ⊥) (kept_from v) v reply
-    (λ opening h has. false≢true (sym has.made ∙ ap is_opening h)) (λ error. same v)
-    (record { packages = record { ntlm = λ h. h; kerberos = λ h. h; in_hand = λ h. h }; list = λ h. refl })
+  pub resumed_keeps : (reply : Reply) → Leads c (λ m1. KeptFrom v) (spnego_resumed v reply) m
+  resumed_keeps reply = resumed_kept c (KeptFrom v) (Keeps v) (HasList v → ⊥) (kept_from v) v reply m
+      (λ opening h has. false≢true (sym has.made ∙ ap is_opening h)) (λ error. same v)
+      (record { packages = record { ntlm = λ h. h; kerberos = λ h. h; in_hand = λ h. h }; list = λ h. refl })
 
-pub server_keeps : (v : Values) (args : AcceptArgs) → AllEnds (KeptFrom v) (spnego_server v args)
-server_keeps v args = server_ends (KeptFrom v) (Keeps v) (HasList v → ⊥) (kept_from v) v args (λ h has. has.begun h) (same v)
+  pub server_keeps : (args : AcceptArgs) → Leads c (λ m1. KeptFrom v) (spnego_server v args) m
+  server_keeps args = server_kept c (KeptFrom v) (Keeps v) (HasList v → ⊥) (kept_from v) v args m (λ h has. has.begun h) (same v)

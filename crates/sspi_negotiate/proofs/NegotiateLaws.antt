@@ -12,16 +12,14 @@ use Rattle.sspi_mech.specs.Settings.{Setting}
 use Rattle.sspi_negotiate.specs.declared.protocol.NegotiatedProtocol.{NegotiatedProtocol}
 use Rattle.sspi_negotiate.specs.declared.protocol.NegotiatedProtocol.TheVariants as hands
 use Rattle.sspi_negotiate.specs.declared.state.Role.TheVariants.{Client, Server}
-use Rattle.sspi_negotiate.specs.Client.{spnego_client, spnego_resumed}
 use Rattle.sspi_negotiate.specs.Hand.{Origin, hand, asks_left}
 use Rattle.sspi_negotiate.specs.Negotiate.{negotiate}
 use Rattle.sspi_negotiate.specs.New.{NegotiateSetting, ForClient, ForServer, IsFirst, first_in_hand, MadeOf}
 use Rattle.sspi_negotiate.specs.Rule.{TakenBy}
 use Rattle.sspi_negotiate.specs.Values.{Negotiation, values_of}
 use Rattle.sspi_negotiate.proofs.Asks.{resumed_falls}
-use Rattle.sspi_negotiate.proofs.Ends.{ends}
 use Rattle.sspi_negotiate.proofs.HandLaws.{hand_lawful}
-use Rattle.sspi_negotiate.proofs.Tidy.{IsTidy, client_tidy, resumed_tidy}
+use Rattle.sspi_negotiate.proofs.Tidy.{client_tidy, resumed_tidy}
 
 first_fresh : {M : Type 0} (c : Meaning Origin M) → IsContext c → (o : Result Origin ErrorKind) (m : M) → IsFirst c o m →
     c.counts m ≡ no_counts
@@ -67,14 +65,13 @@ module _ {N K : Type 0} (r q : ℕ) (n : Meaning Setting N) (k : Meaning Setting
     resume_silent = λ m m2 b answer s. s.unused;
     accept_silent = λ m m2 a answer s. s.moves.unused;
     resume_asks = λ m m2 b e s. resumed_falls r q n k ln lk (values_of m) b m.mech m2.mech e (values_of m2) refl s.follows.as_planned;
-    step_waits = λ m m2 a e s. ends IsTidy (hand n k) (spnego_client s.ip (values_of m) a) m.mech m2.mech (Ask e) (values_of m2)
-        (client_tidy s.ip (values_of m) a) s.moves.follows.as_planned;
-    resume_waits = λ m m2 b e s. ends IsTidy (hand n k) (spnego_resumed (values_of m) b) m.mech m2.mech (Ask e) (values_of m2)
-        (resumed_tidy (values_of m) b) s.follows.as_planned;
-    step_done = λ m m2 a step s. ends IsTidy (hand n k) (spnego_client s.ip (values_of m) a) m.mech m2.mech (Done step) (values_of m2)
-        (client_tidy s.ip (values_of m) a) s.moves.follows.as_planned;
-    resume_done = λ m m2 b step s. ends IsTidy (hand n k) (spnego_resumed (values_of m) b) m.mech m2.mech (Done step) (values_of m2)
-        (resumed_tidy (values_of m) b) s.follows.as_planned;
+    step_waits = λ m m2 a e s. (client_tidy (hand n k) m.mech s.ip (values_of m) a).ends m2.mech (Ask e) (values_of m2)
+        s.moves.follows.as_planned;
+    resume_waits = λ m m2 b e s. (resumed_tidy (hand n k) m.mech (values_of m) b).ends m2.mech (Ask e) (values_of m2) s.follows.as_planned;
+    step_done = λ m m2 a step s. (client_tidy (hand n k) m.mech s.ip (values_of m) a).ends m2.mech (Done step) (values_of m2)
+        s.moves.follows.as_planned;
+    resume_done = λ m m2 b step s. (resumed_tidy (hand n k) m.mech (values_of m) b).ends m2.mech (Done step) (values_of m2)
+        s.follows.as_planned;
     counts_counted = λ m i. laws.counts_counted m.mech i;
     counted_counted = λ m i j. ap (λ x. record m { mech = x }) (laws.counted_counted m.mech i j);
     counted_counts = λ m. ap (λ x. record m { mech = x }) (laws.counted_counts m.mech);

@@ -1,147 +1,129 @@
--- Where MICs are needed, a plan comes to the end only past a MIC over the list.
-use Rattle.std.proofs.Common.{◌≡◌, ℕ, Bool, true, List, Some, sym, ap, ◌∙◌, subst}
-use Rattle.sspi_types.specs.declared.error.Error.{Error}
-use Rattle.sspi_types.specs.declared.error_kind.ErrorKind.{ErrorKind}
-use Rattle.sspi_names.specs.Name.{Name}
+-- Where MICs are needed, a negotiation comes to its end only past a MIC over the list; and a server that needs them goes on to need
+-- them, but of a guest.
+use Rattle.std.proofs.Common.{◌≡◌, ◌≢◌, ◌⊎◌, inl, inr, ℕ, Bool, true, false, List, refl, sym, ◌∙◌, subst}
+use Rattle.std.proofs.lemmas.Bool.{false≢true}
 use Rattle.sspi_mech.specs.declared.step.Answer.{Answer}
 use Rattle.sspi_mech.specs.declared.step.Answer.TheVariants.{Done, Ask, Refused}
-use Rattle.sspi_mech.specs.declared.step.Step.{Step}
+use Rattle.sspi_mech.specs.declared.step.Reply.{Reply}
+use Rattle.sspi_mech.specs.Calls.{StepArgs, AcceptArgs}
 use Rattle.sspi_mech.specs.Meaning.{Meaning}
-use Rattle.sspi_tokens.specs.Spelling.{spelled_list}
+use Rattle.sspi_negotiate.specs.declared.branch.Branch.{Branch}
+use Rattle.sspi_negotiate.specs.declared.state.NegotiateState.{NegotiateState}
 use Rattle.sspi_negotiate.specs.declared.state.NegotiateState.TheVariants as states
-use Rattle.sspi_negotiate.specs.Follows.{Follows, Asked, answered, refused, Went}
+use Rattle.sspi_negotiate.specs.declared.state.Role.{Role}
+use Rattle.sspi_negotiate.specs.declared.state.Role.TheVariants as roles
+use Rattle.sspi_negotiate.specs.Client.{is_closed, spnego_client, spnego_resumed}
 use Rattle.sspi_negotiate.specs.Hand.{Origin}
-use Rattle.sspi_negotiate.specs.Plan.{Plan, Goes, Stops, Takes, Steps, Resumes, Accepts, Pairs, Names, Identifies, Signs, Verifies}
+use Rattle.sspi_negotiate.specs.Server.{spnego_server}
 use Rattle.sspi_negotiate.specs.Values.{Values}
-use Rattle.sspi_negotiate.specs.Verified.{IsVerified, Leaves, as_it_was, having_signed}
+use Rattle.sspi_negotiate.specs.Verified.{IsVerified, IsGuestNamed}
+use Rattle.sspi_negotiate.proofs.ClientLeads.{StepCases, ClientCases, client_leads, resumed_leads}
+use Rattle.sspi_negotiate.proofs.Leads.{Leads}
+use Rattle.sspi_negotiate.proofs.ServerLeads.{ServerCases, server_leads}
 
--- at an end where MICs are needed the list is this one, and `seen` says that a MIC over it was verified
-abbrev pub AtOver : List (List ℕ) → Type 0 → Values → Type 0
-AtOver list seen v = v.state ≡ states.Ok → v.need ≡ true → (v.list ≡ list) × seen
+pub over_is_closed : (role : Role) (state : NegotiateState) (branch : Branch) → state ≡ states.Ok → is_closed role state branch ≡ true
+over_is_closed roles.Server state branch is = refl
+over_is_closed roles.Client states.Initial branch is = absurd (cc (is))
+over_is_closed roles.Client states.InProgress branch is = absurd (cc (is))
+over_is_closed roles.Client states.VerifyMic branch is = absurd (cc (is))
+over_is_closed roles.Client states.Ok branch is = refl
 
--- a plan that ends without a further question
-abbrev pub EndsHere : Plan → Type 0
-EndsHere (Goes v step) = Unit {0}
-EndsHere (Stops v kind) = Unit {0}
-EndsHere (Takes origin p) = ⊥
-EndsHere (Steps args v go fall) = ⊥
-EndsHere (Resumes reply v go fall) = ⊥
-EndsHere (Accepts args v go) = ⊥
-EndsHere (Pairs go) = ⊥
-EndsHere (Names v go) = ⊥
-EndsHere (Identifies identities v p) = ⊥
-EndsHere (Signs text v go) = ⊥
-EndsHere (Verifies mic text v p) = ⊥
+-- a client that takes a step is not at its end
+pub open_is_before : (v : Values) → is_closed v.role v.state v.branch ≡ false → v.state ≢ states.Ok
+open_is_before v opened over = false≢true (sym opened ∙ over_is_closed v.role v.state v.branch over)
 
--- a plan that at most makes a MIC before it ends
-abbrev pub Closes : Plan → Type 0
-Closes (Goes v step) = Unit {0}
-Closes (Stops v kind) = Unit {0}
-Closes (Takes origin p) = ⊥
-Closes (Steps args v go fall) = ⊥
-Closes (Resumes reply v go fall) = ⊥
-Closes (Accepts args v go) = ⊥
-Closes (Pairs go) = ⊥
-Closes (Names v go) = ⊥
-Closes (Identifies identities v p) = ⊥
-Closes (Signs text v go) = (mic : List ℕ) → EndsHere (go mic)
-Closes (Verifies mic text v p) = ⊥
+module _ {M : Type 0} (c : Meaning Origin M) where
+  -- at an end where MICs are needed the list is this one, and a MIC over it was verified
+  abbrev pub IsShown : List (List ℕ) → M → Values → Type 0
+  IsShown list m v = v.state ≡ states.Ok → v.need ≡ true → (v.list ≡ list) × IsVerified c list m
 
-IsDone : Answer → Type 0
-IsDone (Done step) = Unit {0}
-IsDone (Ask request) = ⊥
-IsDone (Refused error) = ⊥
+  abbrev pub Shown : List (List ℕ) → M → Answer → Values → Type 0
+  Shown list m (Done step) v = IsShown list m v
+  Shown list m (Ask request) v = Unit {0}
+  Shown list m (Refused error) v = Unit {0}
 
-pub at_went : {M : Type 0} {go : Step → Type 0} {fall : ErrorKind → Type 0} (Goal : Type 0) (x : Answer) (step : Step) (v v2 : Values)
-    (m1 m2 : M) →
-    ((s : Step) → go s → Goal) → ((kind : ErrorKind) → fall kind → Goal) → Went x go fall (Done step) v v2 m1 m2 → Goal
-unfolding IsDone
-at_went Goal (Done s) step v v2 m1 m2 on fallen w = on s w
-at_went Goal (Ask request) step v v2 m1 m2 on fallen w = absurd (subst IsDone w.0 tt)
-at_went Goal (Refused error) step v v2 m1 m2 on fallen w = fallen error.error_type w.1
+  seen : {list : List (List ℕ)} {m : M} (v : Values) → v.list ≡ list → (v.need ≡ false) ⊎ IsVerified c v.list m → v.need ≡ true →
+      (v.list ≡ list) × IsVerified c list m
+  seen v is (inl off) need = absurd (false≢true (sym off ∙ need))
+  seen {m = m} v is (inr verified) need = (is, subst (λ x. IsVerified c x m) is verified)
 
-pub at_asked : {M T : Type 0} {Good : T → M → Type 0} {Bad : Error → M → Type 0} {step : Step} {v v2 : Values} {m2 : M} (Goal : Type 0) →
-    ((t : T) (m1 : M) → Good t m1 → Goal) → Asked Good Bad (Done step) v v2 m2 → Goal
-unfolding IsDone
-at_asked Goal on (answered t m1 h) = on t m1 h
-at_asked Goal on (refused error bad answer same) = absurd (subst IsDone answer tt)
+  -- ---- the client
 
-pub ending : {M : Type 0} (c : Meaning Origin M) (p : Plan) (m m2 : M) (step : Step) (v2 : Values) → EndsHere p →
-    Follows c p m (Done step) v2 m2 → m2 ≡ m
-ending c (Goes v made) m m2 step v2 ends f = f.2
-ending c (Stops v kind) m m2 step v2 ends f = absurd f.0
-ending c (Takes origin p) m m2 step v2 ends f = absurd ends
-ending c (Steps args v go fall) m m2 step v2 ends f = absurd ends
-ending c (Resumes reply v go fall) m m2 step v2 ends f = absurd ends
-ending c (Accepts args v go) m m2 step v2 ends f = absurd ends
-ending c (Pairs go) m m2 step v2 ends f = absurd ends
-ending c (Names v go) m m2 step v2 ends f = absurd ends
-ending c (Identifies identities v p) m m2 step v2 ends f = absurd ends
-ending c (Signs text v go) m m2 step v2 ends f = absurd ends
-ending c (Verifies mic text v p) m m2 step v2 ends f = absurd ends
+  module _ (list : List (List ℕ)) where
+    abbrev Going : Values → Type 0
+    Going v = (v.list ≡ list) × (v.state ≢ states.Ok)
 
-closing : {M : Type 0} (c : Meaning Origin M) (p : Plan) (m m2 : M) (step : Step) (v2 : Values) → Closes p →
-    Follows c p m (Done step) v2 m2 → Leaves c m m2
-closing c (Goes v made) m m2 step v2 closes f = as_it_was f.2
-closing c (Stops v kind) m m2 step v2 closes f = absurd f.0
-closing c (Takes origin p) m m2 step v2 closes f = absurd closes
-closing c (Steps args v go fall) m m2 step v2 closes f = absurd closes
-closing c (Resumes reply v go fall) m m2 step v2 closes f = absurd closes
-closing c (Accepts args v go) m m2 step v2 closes f = absurd closes
-closing c (Pairs go) m m2 step v2 closes f = absurd closes
-closing c (Names v go) m m2 step v2 closes f = absurd closes
-closing c (Identifies identities v p) m m2 step v2 closes f = absurd closes
-closing c (Signs text v go) m m2 step v2 closes f =
-    at_asked _ (λ mic m1 g. having_signed (ending c (go mic) m1 m2 step v2 (closes mic) g.3 ∙ g.1)) f
-closing c (Verifies mic text v p) m m2 step v2 closes f = absurd closes
+    shown_steps : StepCases c (Shown list) (λ v. Unit {0}) Going
+    shown_steps = record {
+      after = record {
+        offers = λ m v token text is g over. absurd (cc (over));
+        unopened = λ m v branch error comes g. tt;
+        refuses = λ m v branch error comes g. tt;
+        goes_on = λ m v step on g over. absurd (g.1 over);
+        hands_mic = λ m v output g over. absurd (cc (over));
+        is_over = λ m v output why g over need. seen v g.0 why need;
+      };
+      opening = λ m v first q g. tt;
+      falls = λ v usable g. tt;
+      answering = λ m v token q g. tt;
+    }
 
-module _ (list : List (List ℕ)) where
-  abbrev pub Shown : Type 0 → Plan → Type 0
-  Shown seen (Goes v step) = AtOver list seen v
-  Shown seen (Stops v kind) = Unit {0}
-  Shown seen (Takes origin p) = Shown seen p
-  Shown seen (Steps args v go fall) = ((step : Step) → Shown seen (go step)) × ((kind : ErrorKind) → Shown seen (fall kind))
-  Shown seen (Resumes reply v go fall) = ((step : Step) → Shown seen (go step)) × ((kind : ErrorKind) → Shown seen (fall kind))
-  Shown seen (Accepts args v go) = (step : Step) → Shown seen (go step)
-  Shown seen (Pairs go) = (pairs : Bool) → Shown seen (go pairs)
-  Shown seen (Names v go) = (name : Name) → Shown seen (go name)
-  Shown seen (Identifies identities v p) = Shown seen p
-  Shown seen (Signs text v go) = (mic : List ℕ) → Shown seen (go mic)
-  Shown seen (Verifies mic text v p) = (spelled_list list ≡ Some text) × Shown (Unit {0}) p × Closes p
+    shown_cases : (args : StepArgs) → ClientCases c args (Shown list) Going (λ v. Unit {0}) Going
+    shown_cases args = record {
+      step = shown_steps;
+      addressed = λ v usable g. g;
+      kept = λ v kept g. g;
+      ruled = λ v usable g. g;
+      unready = λ m v error comes g. tt;
+      opens = λ v at g. tt;
+      unchosen = λ v at chosen g. g;
+      kerberos = λ v at chosen usable held g. g;
+      to_kerberos = λ v at chosen usable g. g;
+      to_ntlm = λ v at chosen usable g. g;
+      confirms = λ v at g. g;
+    }
 
-  pub shown : {M : Type 0} (c : Meaning Origin M) (p : Plan) (seen : Type 0) (m m2 : M) (step : Step) (v2 : Values) → Shown seen p →
-      (seen → IsVerified c list m2) →
-      Follows c p m (Done step) v2 m2 → v2.state ≡ states.Ok → v2.need ≡ true → (v2.list ≡ list) × IsVerified c list m2
-  shown c (Goes v made) seen m m2 step v2 all done f over need =
-      let h = all (ap (λ x. x.state) (sym f.1) ∙ over) (ap (λ x. x.need) (sym f.1) ∙ need) in (ap (λ x. x.list) f.1 ∙ h.0, done h.1)
-  shown c (Stops v kind) seen m m2 step v2 all done f over need = absurd f.0
-  shown c (Takes origin p) seen m m2 step v2 all done f over need = shown c p seen f.0 m2 step v2 all done f.2 over need
-  shown c (Steps args v go fall) seen m m2 step v2 all done f over need = at_went _ f.1 step v v2 f.0 m2
-      (λ s g. shown c (go s) seen f.0 m2 step v2 (all.0 s) done g over need)
-      (λ kind g. shown c (fall kind) seen f.0 m2 step v2 (all.1 kind) done g over need) f.3
-  shown c (Resumes reply v go fall) seen m m2 step v2 all done f over need = at_went _ f.1 step v v2 f.0 m2
-      (λ s g. shown c (go s) seen f.0 m2 step v2 (all.0 s) done g over need)
-      (λ kind g. shown c (fall kind) seen f.0 m2 step v2 (all.1 kind) done g over need) f.3
-  shown c (Accepts args v go) seen m m2 step v2 all done f over need =
-      at_asked _ (λ s m1 g. shown c (go s) seen m1 m2 step v2 (all s) done g.1 over need) f
-  shown c (Pairs go) seen m m2 step v2 all done f over need = shown c (go (c.pairs m)) seen m m2 step v2 (all (c.pairs m)) done f over need
-  shown c (Names v go) seen m m2 step v2 all done f over need =
-      at_asked _ (λ name m1 g. shown c (go name) seen m1 m2 step v2 (all name) done g.2 over need) f
-  shown c (Identifies identities v p) seen m m2 step v2 all done f over need =
-      at_asked _ (λ u m1 g. shown c p seen m1 m2 step v2 all done g.1 over need) f
-  shown c (Signs text v go) seen m m2 step v2 all done f over need =
-      at_asked _ (λ mic m1 g. shown c (go mic) seen m1 m2 step v2 (all mic) done g.3 over need) f
-  shown c (Verifies mic text v p) seen m m2 step v2 all done f over need =
-      at_asked _ (λ u m1 g. shown c p (Unit {0}) m1 m2 step v2 all.1
-      (λ x. record {
-        before = m;
-        after = m1;
-        mic = mic;
-        text = text;
-        spelled = all.0;
-        permitted = g.2;
-        verified = g.0;
-        counted = g.1;
-        last = closing c p m1 m2 step v2 all.2 g.3;
-      })
-      g.3 over need) f
+  pub client_shown : (ip : Bool) (v : Values) (args : StepArgs) (m : M) → Leads c (Shown v.list) (spnego_client ip v args) m
+  client_shown ip v args m = client_leads c args (Shown v.list) (Going v.list) (λ w. Unit {0}) (Going v.list) (shown_cases v.list args)
+      ip v m (λ m1 error comes. tt) (λ opened. (refl, open_is_before v opened))
+
+  -- a step that waits began before the end
+  pub resumed_shown : (v : Values) (reply : Reply) (m : M) → v.state ≢ states.Ok → Leads c (Shown v.list) (spnego_resumed v reply) m
+  resumed_shown v reply m before = resumed_leads c (Shown v.list) (λ w. Unit {0}) (Going v.list) (shown_steps v.list) v reply m
+      (λ m1 error comes. tt) (λ first is. tt) (λ token is. (refl, before))
+
+  -- ---- the server
+
+  module _ (old : Values) where
+    -- what a step leaves that is made, and a later one of the need
+    abbrev pub ServerShown : M → Answer → Values → Type 0
+    ServerShown m (Done step) v =
+        IsShown old.list m v × (old.state ≢ states.Initial → old.need ≡ true → (v.need ≡ true) ⊎ IsGuestNamed c m)
+    ServerShown m (Ask request) v = Unit {0}
+    ServerShown m (Refused error) v = Unit {0}
+
+    abbrev IsAsBefore : Values → Type 0
+    IsAsBefore v = (v.list ≡ old.list) × (v.need ≡ old.need) × (v.state ≡ old.state)
+
+    abbrev IsGoing : Values → Type 0
+    IsGoing v = IsAsBefore v × (v.state ≢ states.Ok)
+
+    server_cases : (args : AcceptArgs) →
+        ServerCases c args ServerShown IsAsBefore (λ p v. old.state ≡ states.Initial) IsGoing
+    server_cases args = record {
+      unready = λ m v error comes g. tt;
+      chooses = λ v token list p hand at read listed is taken g. sym g.2 ∙ at;
+      unpicked = λ m v p error comes g. tt;
+      tells = λ m v p output need state late still is g. (λ over. absurd (still over), λ later. absurd (later g));
+      at_once = λ m v p output b at none g. (λ over need. absurd (false≢true need), λ later. absurd (later g));
+      later = λ v late still g. (g, still);
+      refuses = λ m v error comes g. tt;
+      goes_on = λ m v step on g. (λ over. absurd (g.1 over), λ later need. inl (g.0.1 ∙ need));
+      hands_mic = λ m v output g. (λ over. absurd (cc (over)), λ later need. inl (g.0.1 ∙ need));
+      ends = λ m v output why g. (λ over need. seen v g.0.0 why need, λ later need. inl (g.0.1 ∙ need));
+      excuses = λ m v output guest g. (λ over need. absurd (false≢true need), λ later need. inr guest);
+    }
+
+    pub server_shown : (args : AcceptArgs) (m : M) → Leads c ServerShown (spnego_server old args) m
+    server_shown args m = server_leads c args ServerShown IsAsBefore (λ p v. old.state ≡ states.Initial) IsGoing (server_cases args)
+        old m (refl, refl, refl)

@@ -22,17 +22,14 @@ use Rattle.sspi_negotiate.specs.declared.protocol.NegotiatedProtocol.{Negotiated
 use Rattle.sspi_negotiate.specs.declared.state.NegotiateState.{NegotiateState}
 use Rattle.sspi_negotiate.specs.declared.state.NegotiateState.TheVariants as states
 use Rattle.sspi_negotiate.specs.declared.state.Role.TheVariants as roles
-use Rattle.sspi_negotiate.specs.Client.{spnego_client, spnego_resumed}
 use Rattle.sspi_negotiate.specs.Does.{UnlessMemory}
-use Rattle.sspi_negotiate.specs.Follows.{Follows}
 use Rattle.sspi_negotiate.specs.Hand.{Origin, InPlaceOfNtlm, hand}
 use Rattle.sspi_negotiate.specs.Keeps.{is_answering}
 use Rattle.sspi_negotiate.specs.Negotiate.{negotiate}
 use Rattle.sspi_negotiate.specs.New.{first_in_hand, IsFirst, fresh}
-use Rattle.sspi_negotiate.specs.Plan.{Plan}
 use Rattle.sspi_negotiate.specs.Rule.{TakenBy}
 use Rattle.sspi_negotiate.specs.Values.{Negotiation, values_of}
-use Rattle.sspi_negotiate.proofs.Ends.{AllEnds, ends}
+use Rattle.sspi_negotiate.proofs.Follow.{unless_map}
 use Rattle.sspi_negotiate.proofs.Keeping.{resumed_list}
 use Rattle.sspi_credssp.specs.declared.context.SspiContext.{SspiContext}
 use Rattle.sspi_credssp.specs.declared.context.SspiContext.TheVariants as contexts
@@ -48,9 +45,8 @@ use Rattle.sspi_delegate.specs.Chain.{KdcCalls, ClientStage, client_at, ClientMo
 use Rattle.sspi_delegate.specs.Turns.{OthersGoOn, GoesOn, AllGoOn}
 use Rattle.sspi_play.specs.Negotiated.{IsOffer, HasOffered}
 use Rattle.sspi_play.proofs.Contexts.{HoldsOf, holds_map, IsOfMics, holds_recounted, holds_same_but, holds_stepped, holds_resumed}
-use Rattle.sspi_play.proofs.Marks.{is_marked, marks_before, hand_keeps, QuietEnds, quiet_all, quiet_marks}
-use Rattle.sspi_play.proofs.Offering.{Still, OffersAt, client_quiet, resumed_quiet, HasThatList, client_later, resumed_later}
-use Rattle.sspi_play.proofs.Offering.{HasThatRole, client_role, resumed_role}
+use Rattle.sspi_play.proofs.Marks.{is_marked, marks_before, hand_keeps}
+use Rattle.sspi_play.proofs.Offering.{Still, OffersAt, client_offers, resumed_offers}
 
 offered_more : (t : Turn) (turns : List Turn) (list : List (List ℕ)) → HasOffered turns list → HasOffered (t ∷ turns) list
 offered_more t turns list was = record {
@@ -128,18 +124,6 @@ module _ {N K : Type 0} (r q : ℕ) (n : Meaning Setting N) (k : Meaning Setting
     same_list role same has = let there : Has s2.list = subst Has (sym same) has in
         record { role = role; begun = λ late. there; answering = λ at. there; marked = λ marked. there }
 
-    later_next : (x : Answer) (p : Plan) → AllEnds (HasThatList s.list) p → AllEnds (HasThatRole s.role) p → s.role ≡ roles.Client →
-        UnlessMemory x (Follows (hand n k) p s.mech x (values_of s2) s2.mech) → OnRefused x (ShowsOffer n k Has s2) → Has s.list →
-        Next n k x Has s2
-    later_next (Done step) p all same client f shown has =
-        offers_map n k (λ (list : List (List ℕ)). Has list ⊎ IsOffer step.output list) Has (λ list h. inl h) s2
-        (same_list (ends (HasThatRole s.role) (hand n k) p s.mech s2.mech (Done step) (values_of s2) same f ∙ client)
-        (ends (HasThatList s.list) (hand n k) p s.mech s2.mech (Done step) (values_of s2) all f) has)
-    later_next (Ask request) p all same client f shown has =
-        same_list (ends (HasThatRole s.role) (hand n k) p s.mech s2.mech (Ask request) (values_of s2) same f ∙ client)
-        (ends (HasThatList s.list) (hand n k) p s.mech s2.mech (Ask request) (values_of s2) all f) has
-    later_next (Refused error) p all same client f shown has = shown
-
     still_next : s2.role ≡ roles.Client → Still (values_of s) (values_of s2) →
         (is_marked ((hand n k).counts s2.mech) ≡ true → is_marked ((hand n k).counts s.mech) ≡ true) → OffersBy n k Has s →
         OffersBy n k Has s2
@@ -150,24 +134,29 @@ module _ {N K : Type 0} (r q : ℕ) (n : Meaning Setting N) (k : Meaning Setting
       marked = λ marked. subst Has (sym still.list) (h.marked (marks marked));
     }
 
-    quiet_next : (x : Answer) (p : Plan) → QuietEnds (OffersAt (values_of s)) p → AllEnds (HasThatRole s.role) p →
-        UnlessMemory x (Follows (hand n k) p s.mech x (values_of s2) s2.mech) → OnRefused x (ShowsOffer n k Has s2) →
-        OffersBy n k Has s → Next n k x Has s2
-    quiet_next (Done step) p quiet same f shown h =
-        let offer = ends (OffersAt (values_of s)) (hand n k) p s.mech s2.mech (Done step) (values_of s2)
-        (quiet_all (OffersAt (values_of s)) p quiet) f in
-        record {
-          role = ends (HasThatRole s.role) (hand n k) p s.mech s2.mech (Done step) (values_of s2) same f ∙ h.role;
-          begun = λ late. inr offer;
-          answering = λ at. inr offer;
-          marked = λ marked. inr offer;
-        }
-    quiet_next (Ask request) p quiet same f shown h = still_next
-        (ends (HasThatRole s.role) (hand n k) p s.mech s2.mech (Ask request) (values_of s2) same f ∙ h.role)
-        (ends (OffersAt (values_of s)) (hand n k) p s.mech s2.mech (Ask request) (values_of s2)
-        (quiet_all (OffersAt (values_of s)) p quiet) f)
-        (quiet_marks (hand n k) (hand_keeps r q n k ln lk) (OffersAt (values_of s)) p s.mech s2.mech (Ask request) (values_of s2) quiet f) h
-    quiet_next (Refused error) p quiet same f shown h = shown
+    module _ (AtFirst : Type 0) where
+      abbrev Planned : Answer → Type 0
+      Planned x = UnlessMemory x (OffersAt (hand n k) (values_of s) AtFirst s2.mech x (values_of s2))
+
+      later_next : (x : Answer) → (AtFirst → ⊥) → Planned x → OnRefused x (ShowsOffer n k Has s2) → s.role ≡ roles.Client → Has s.list →
+          Next n k x Has s2
+      later_next (Done step) late f shown client has =
+          offers_map n k (λ (list : List (List ℕ)). Has list ⊎ IsOffer step.output list) Has (λ list h. inl h) s2
+          (same_list (f.0 ∙ client) (f.2 late) has)
+      later_next (Ask request) late f shown client has = same_list (f.0 ∙ client) f.1 has
+      later_next (Refused error) late f shown client has = shown
+
+      first_next : (x : Answer) → AtFirst → Planned x → OnRefused x (ShowsOffer n k Has s2) →
+          (is_marked ((hand n k).counts s2.mech) ≡ true → is_marked ((hand n k).counts s.mech) ≡ true) → OffersBy n k Has s →
+          Next n k x Has s2
+      first_next (Done step) at f shown marks h = record {
+        role = f.0 ∙ h.role;
+        begun = λ late. inr (f.1 at);
+        answering = λ here. inr (f.1 at);
+        marked = λ marked. inr (f.1 at);
+      }
+      first_next (Ask request) at f shown marks h = still_next (f.0 ∙ h.role) (f.2 at) marks h
+      first_next (Refused error) at f shown marks h = shown
 
     -- a refusal left the list alone, also one for want of memory
     refusal_shows : s2.list ≡ s.list → (is_marked ((hand n k).counts s2.mech) ≡ true → Has s.list) → ShowsOffer n k Has s2
@@ -192,11 +181,13 @@ module _ {N K : Type 0} (r q : ℕ) (n : Meaning Setting N) (k : Meaning Setting
         (λ at. h.marked (marks_before ((hand n k).counts s.mech) ((hand n k).counts s2.mech) (moves.moves.unmarked at) marked)) h.begun)
 
     steps_next : (args : StepArgs) (x : Answer) → (negotiate r n k).steps s args x s2 → OffersBy n k Has s → Next n k x Has s2
-    steps_next args x moves h = by_state (Next n k x Has s2) s.state
-        (λ at. quiet_next x (spnego_client moves.ip (values_of s) args) (client_quiet moves.ip (values_of s) args at)
-        (client_role moves.ip (values_of s) args) moves.moves.follows.as_planned (steps_shown args x moves h) h)
-        (λ late. later_next x (spnego_client moves.ip (values_of s) args) (client_later moves.ip (values_of s) args late)
-        (client_role moves.ip (values_of s) args) h.role moves.moves.follows.as_planned (steps_shown args x moves h) (h.begun late))
+    steps_next args x moves h =
+        let f = unless_map x ((client_offers (hand n k) moves.ip (values_of s) args s.mech).ends s2.mech x (values_of s2))
+        moves.moves.follows.as_planned in
+        by_state (Next n k x Has s2) s.state
+        (λ at. first_next (s.state ≡ states.Initial) x at f (steps_shown args x moves h)
+        (marks_before ((hand n k).counts s.mech) ((hand n k).counts s2.mech) (moves.moves.unmarked at)) h)
+        (λ late. later_next (s.state ≡ states.Initial) x late f (steps_shown args x moves h) h.role (h.begun late))
 
     resumes_shown : (reply : Reply) (x : Answer) → (negotiate r n k).resumes s reply x s2 → OffersBy n k Has s →
         OnRefused x (ShowsOffer n k Has s2)
@@ -207,11 +198,14 @@ module _ {N K : Type 0} (r q : ℕ) (n : Meaning Setting N) (k : Meaning Setting
         (λ other. h.marked (marks_before ((hand n k).counts s.mech) ((hand n k).counts s2.mech) (moves.unmarked other) marked)))
 
     resumes_next : (reply : Reply) (x : Answer) → (negotiate r n k).resumes s reply x s2 → OffersBy n k Has s → Next n k x Has s2
-    resumes_next reply x moves h = by_branch (Next n k x Has s2) (is_answering s.branch)
-        (λ at. later_next x (spnego_resumed (values_of s) reply) (resumed_later (values_of s) reply at)
-        (resumed_role (values_of s) reply) h.role moves.follows.as_planned (resumes_shown reply x moves h) (h.answering at))
-        (λ other. quiet_next x (spnego_resumed (values_of s) reply) (resumed_quiet (values_of s) reply other)
-        (resumed_role (values_of s) reply) moves.follows.as_planned (resumes_shown reply x moves h) h)
+    resumes_next reply x moves h =
+        let f = unless_map x ((resumed_offers (hand n k) (values_of s) reply s.mech).ends s2.mech x (values_of s2))
+        moves.follows.as_planned in
+        by_branch (Next n k x Has s2) (is_answering s.branch)
+        (λ at. later_next (is_answering s.branch ≡ false) x (λ off. false≢true (sym off ∙ at)) f (resumes_shown reply x moves h) h.role
+        (h.answering at))
+        (λ other. first_next (is_answering s.branch ≡ false) x other f (resumes_shown reply x moves h)
+        (marks_before ((hand n k).counts s.mech) ((hand n k).counts s2.mech) (moves.unmarked other)) h)
 
   -- ---- a context that was just made
 

@@ -19,16 +19,14 @@ use Rattle.sspi_tsreq.specs.declared.request.TsRequest.{TsRequest}
 use Rattle.sspi_mech.specs.Settings.{Setting}
 use Rattle.sspi_negotiate.specs.declared.protocol.NegotiatedProtocol.{NegotiatedProtocol}
 use Rattle.sspi_negotiate.specs.declared.state.NegotiateState.TheVariants as states
-use Rattle.sspi_negotiate.specs.Client.{spnego_client, spnego_resumed, is_guest}
+use Rattle.sspi_negotiate.specs.Client.{is_guest}
 use Rattle.sspi_negotiate.specs.Hand.{hand}
 use Rattle.sspi_negotiate.specs.Negotiate.{negotiate}
 use Rattle.sspi_negotiate.specs.Rows.{client_wants_mic}
 use Rattle.sspi_negotiate.specs.Values.{Negotiation, values_of}
 use Rattle.sspi_negotiate.specs.Verified.{IsVerified, Leaves, as_it_was, having_signed}
-use Rattle.sspi_negotiate.proofs.Ends.{ends}
-use Rattle.sspi_negotiate.proofs.Kept.{and_last}
-use Rattle.sspi_negotiate.proofs.Shown.{shown}
-use Rattle.sspi_negotiate.proofs.ShownClient.{client_shown as client_is_shown, resumed_shown}
+use Rattle.sspi_negotiate.proofs.ClientLeads.{and_last}
+use Rattle.sspi_negotiate.proofs.Shown.{client_shown as client_is_shown, resumed_shown}
 use Rattle.sspi_credssp.specs.declared.context.SspiContext.{SspiContext}
 use Rattle.sspi_credssp.specs.declared.context.SspiContext.TheVariants as contexts
 use Rattle.sspi_credssp.specs.declared.mode.ClientMode.{ClientMode}
@@ -48,7 +46,7 @@ use Rattle.sspi_delegate.specs.Turns.{GoesOn, AllGoOn, OthersGoOn, is_replied, i
 use Rattle.sspi_play.specs.Agreement.{TurnOf}
 use Rattle.sspi_play.specs.Faithful.{verifications_in}
 use Rattle.sspi_play.specs.Negotiated.{in_hand}
-use Rattle.sspi_play.proofs.ClientNeeds.{NeedsBy, Secures, client_secures, resumed_secures, OnlyRefuses, over_refuses}
+use Rattle.sspi_play.proofs.ClientNeeds.{NeedsBy, client_secures, resumed_secures, over_refuses}
 use Rattle.sspi_play.proofs.Marks.{hand_keeps}
 use Rattle.sspi_play.proofs.OnNegotiation.{OnNegotiation, map_on, IsLike, IsOfLike, counted_on, cleared_on}
 
@@ -193,47 +191,45 @@ module _ {N K : Type 0} (r q : ℕ) (n : Meaning Setting N) (k : Meaning Setting
     steps_next : (args : StepArgs) (x : Answer) → client_wants_mic args.requirements ≡ true → is_guest args.handle ≡ guest →
         (negotiate r n k).steps s args x s2 → (s.state ≢ states.Initial → NeedsBy guest (values_of s)) → Next n k guest x s2
     steps_next args (Done step) wants who moves need =
-        let plan = spnego_client moves.ip (values_of s) args in
-        let h : Secures guest (Done step) (values_of s2) = ends (Secures guest) (hand n k) plan s.mech s2.mech (Done step) (values_of s2)
-        (client_secures guest args wants who moves.ip (values_of s) need) moves.moves.follows.as_planned in (
+        let h = (client_secures (hand n k) guest args wants who moves.ip (values_of s) s.mech need).ends s2.mech (Done step)
+        (values_of s2) moves.moves.follows.as_planned in (
           h.0,
           λ ok. (
             h.1 ok,
             λ known. verified_one s.list s2.mech
-                (shown s.list (hand n k) plan ⊥ s.mech s2.mech step (values_of s2) (client_is_shown moves.ip (values_of s) args)
-                (λ never. absurd never) moves.moves.follows.as_planned (h.1 ok) (h.0 known)).1,
+                ((client_is_shown (hand n k) moves.ip (values_of s) args s.mech).ends s2.mech (Done step) (values_of s2)
+                moves.moves.follows.as_planned (h.1 ok) (h.0 known)).1,
           ),
         )
     steps_next args (Ask request) wants who moves need =
-        ends (Secures guest) (hand n k) (spnego_client moves.ip (values_of s) args) s.mech s2.mech (Ask request) (values_of s2)
-        (client_secures guest args wants who moves.ip (values_of s) need) moves.moves.follows.as_planned
+        (client_secures (hand n k) guest args wants who moves.ip (values_of s) s.mech need).ends s2.mech (Ask request) (values_of s2)
+        moves.moves.follows.as_planned
     steps_next args (Refused error) wants who moves need = tt
 
     resumes_next : (reply : Reply) (x : Answer) → (negotiate r n k).resumes s reply x s2 → NeedsBy guest (values_of s) →
         s.state ≢ states.Ok → Next n k guest x s2
     resumes_next reply (Done step) moves need before =
-        let plan = spnego_resumed (values_of s) reply in
-        let h : Secures guest (Done step) (values_of s2) = ends (Secures guest) (hand n k) plan s.mech s2.mech (Done step) (values_of s2)
-        (resumed_secures guest (values_of s) reply need before) moves.follows.as_planned in (
+        let h = (resumed_secures (hand n k) guest (values_of s) reply s.mech need before).ends s2.mech (Done step) (values_of s2)
+        moves.follows.as_planned in (
           h.0,
           λ ok. (
             h.1 ok,
             λ known. verified_one s.list s2.mech
-                (shown s.list (hand n k) plan ⊥ s.mech s2.mech step (values_of s2) (resumed_shown (values_of s) reply before)
-                (λ never. absurd never) moves.follows.as_planned (h.1 ok) (h.0 known)).1,
+                ((resumed_shown (hand n k) (values_of s) reply s.mech before).ends s2.mech (Done step) (values_of s2)
+                moves.follows.as_planned (h.1 ok) (h.0 known)).1,
           ),
         )
     resumes_next reply (Ask request) moves need before =
-        ends (Secures guest) (hand n k) (spnego_resumed (values_of s) reply) s.mech s2.mech (Ask request) (values_of s2)
-        (resumed_secures guest (values_of s) reply need before) moves.follows.as_planned
+        (resumed_secures (hand n k) guest (values_of s) reply s.mech need before).ends s2.mech (Ask request) (values_of s2)
+        moves.follows.as_planned
     resumes_next reply (Refused error) moves need before = tt
 
     -- one that is over asks no KDC
     over_asks_not : (args : StepArgs) (request : NetworkRequest) → s.state ≡ states.Ok → (negotiate r n k).steps s args (Ask request) s2 →
         ⊥
     over_asks_not args request over moves =
-        ends OnlyRefuses (hand n k) (spnego_client moves.ip (values_of s) args) s.mech s2.mech (Ask request) (values_of s2)
-        (over_refuses moves.ip (values_of s) args over) moves.moves.follows.as_planned
+        (over_refuses (hand n k) moves.ip (values_of s) args s.mech over).ends s2.mech (Ask request) (values_of s2)
+        moves.moves.follows.as_planned
 
   -- ---- a context
 

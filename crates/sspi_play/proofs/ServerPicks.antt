@@ -27,14 +27,13 @@ use Rattle.sspi_negotiate.specs.declared.state.NegotiateState.TheVariants as sta
 use Rattle.sspi_negotiate.specs.declared.state.Role.{Role}
 use Rattle.sspi_negotiate.specs.declared.state.Role.TheVariants as roles
 use Rattle.sspi_negotiate.specs.Acquire.{acquired_url}
+use Rattle.sspi_negotiate.specs.Does.{StaysPicked}
 use Rattle.sspi_negotiate.specs.Hand.{Origin, Configured, InPlaceOfNtlm, hand, hand_of}
 use Rattle.sspi_negotiate.specs.Negotiate.{negotiate}
 use Rattle.sspi_negotiate.specs.New.{first_in_hand, packages_in, IsFirst, fresh}
 use Rattle.sspi_negotiate.specs.Pick.{pick}
 use Rattle.sspi_negotiate.specs.Rule.{TakenBy}
-use Rattle.sspi_negotiate.specs.Server.{spnego_server}
 use Rattle.sspi_negotiate.specs.Values.{Values, Negotiation, values_of}
-use Rattle.sspi_negotiate.proofs.Ends.{ends}
 use Rattle.sspi_credssp.specs.declared.context.SspiContext.{SspiContext}
 use Rattle.sspi_credssp.specs.declared.context.SspiContext.TheVariants as contexts
 use Rattle.sspi_credssp.specs.declared.mode.ServerMode.{ServerMode}
@@ -46,8 +45,8 @@ use Rattle.sspi_credssp.specs.Requests.{token_of}
 use Rattle.sspi_play.specs.Negotiated.{HasRead, IsReadAs, protocol_of, protocol_from, picks_with, picked_by}
 use Rattle.sspi_play.proofs.Contexts.{HoldsOf, holds_map, IsOfMics, acquired_hand, holds_recounted, holds_identified}
 use Rattle.sspi_play.proofs.Contexts.{holds_accepted}
-use Rattle.sspi_play.proofs.Marks.{is_marked, marks_before, hand_keeps, quiet_all}
-use Rattle.sspi_play.proofs.Picking.{PicksOne, PicksAt, server_quiet, StaysChosen, StaysAt, server_stays}
+use Rattle.sspi_play.proofs.Marks.{is_marked, marks_before, hand_keeps}
+use Rattle.sspi_play.proofs.Picking.{PicksOne, server_picks}
 
 -- a list was read in one of these turns, and this mechanism is what a server of this configuration picks of it
 pub record WasChosen (config : NegotiateConfig) (turns : List Turn) (list : List (List ℕ)) (protocol : Protocol) : Type 0 where
@@ -143,40 +142,38 @@ module _ {N K : Type 0} (r q : ℕ) (n : Meaning Setting N) (k : Meaning Setting
     after_first at one = record {
       config = h.config;
       mode_is = h.mode_is;
-      packages = one.packages ∙ h.packages;
+      packages = one.packages at ∙ h.packages;
       first = λ first. absurd (one.begun first);
       unmarked = λ first. absurd (one.begun first);
       picked = λ late. record {
         read = record {
           at = record { later = []; turn = t; before = past; parts = refl };
-          read = subst (λ (x : List ℕ). IsReadAs x s2.list) token one.chosen.read;
+          read = subst (λ (x : List ℕ). IsReadAs x s2.list) token (one.chosen at).read;
         };
-        picked = picks_by h.config s.packages (hand_of s.mech) s2.list (Some one.chosen.picked) h.packages (h.first at) one.chosen.pick_is
-            ∙ ap (λ (x : Protocol). Some x) (sym one.chosen.choice);
+        picked = picks_by h.config s.packages (hand_of s.mech) s2.list (Some (one.chosen at).picked) h.packages (h.first at) (one.chosen at).pick_is
+            ∙ ap (λ (x : Protocol). Some x) (sym (one.chosen at).choice);
       };
     }
 
-    after_later : s.state ≢ states.Initial → StaysChosen (values_of s) (values_of s2) → KeepsPick n k mode (t ∷ past) s2
-    after_later late stays = record {
+    after_later : s.state ≢ states.Initial → s2.state ≢ states.Initial → StaysPicked (values_of s) (values_of s2) →
+        KeepsPick n k mode (t ∷ past) s2
+    after_later late begun stays = record {
       config = h.config;
       mode_is = h.mode_is;
       packages = stays.packages ∙ h.packages;
-      first = λ first. absurd (stays.begun first);
-      unmarked = λ first. absurd (stays.begun first);
+      first = λ first. absurd (begun first);
+      unmarked = λ first. absurd (begun first);
       picked = λ after. chosen_more h.config t past s2.list (hand_of s2.mech)
           (subst (λ (x : Protocol). WasChosen h.config past s2.list x) (sym stays.hand)
           (subst (λ (x : List (List ℕ)). WasChosen h.config past x (hand_of s.mech)) (sym stays.list) (h.picked late)));
     }
 
     step_done : (step : Step) → (negotiate r n k).accepts s args (Ok step) s2 → KeepsPick n k mode (t ∷ past) s2
-    step_done step moves = by_state (KeepsPick n k mode (t ∷ past) s2) s.state
-        (λ at. after_first at (ends (PicksAt (values_of s) args.input) (hand n k) (spnego_server (values_of s) args) s.mech s2.mech
-        (Done step) (values_of s2)
-        (quiet_all (PicksAt (values_of s) args.input) (spnego_server (values_of s) args) (server_quiet (values_of s) args at))
-        moves.moves.follows.as_planned))
-        (λ late. after_later late (ends (StaysAt (values_of s)) (hand n k) (spnego_server (values_of s) args) s.mech s2.mech
-        (Done step) (values_of s2)
-        (server_stays (values_of s) args late) moves.moves.follows.as_planned))
+    step_done step moves =
+        let one = (server_picks (hand n k) (values_of s) args s.mech).ends s2.mech (Done step) (values_of s2)
+        moves.moves.follows.as_planned in
+        by_state (KeepsPick n k mode (t ∷ past) s2) s.state (λ at. after_first at one)
+        (λ late. after_later late one.begun (moves.picked late))
 
     step_refused : (error : Error) → (negotiate r n k).accepts s args (Err error) s2 → ShowsPick n k mode (t ∷ past) s2
     step_refused error moves = record {

@@ -22,14 +22,13 @@ use Rattle.sspi_mech.specs.Settings.{Setting}
 use Rattle.sspi_negotiate.specs.declared.protocol.NegotiatedProtocol.{NegotiatedProtocol}
 use Rattle.sspi_negotiate.specs.declared.protocol.Protocol.{Protocol}
 use Rattle.sspi_negotiate.specs.declared.state.NegotiateState.TheVariants as states
+use Rattle.sspi_negotiate.specs.Does.{StaysPicked}
 use Rattle.sspi_negotiate.specs.Hand.{hand, hand_of}
 use Rattle.sspi_negotiate.specs.Negotiate.{negotiate}
 use Rattle.sspi_negotiate.specs.Rows.{is_over as is_over_status, is_guest_text}
-use Rattle.sspi_negotiate.specs.Server.{spnego_server}
 use Rattle.sspi_negotiate.specs.Values.{Values, Negotiation, values_of}
 use Rattle.sspi_negotiate.specs.Verified.{IsGuestNamed}
 use Rattle.sspi_negotiate.proofs.Ending.{server_ended_before}
-use Rattle.sspi_negotiate.proofs.Ends.{ends}
 use Rattle.sspi_credssp.specs.declared.context.SspiContext.{SspiContext}
 use Rattle.sspi_credssp.specs.declared.context.SspiContext.TheVariants as contexts
 use Rattle.sspi_credssp.specs.declared.mode.ServerMode.{ServerMode}
@@ -52,8 +51,7 @@ use Rattle.sspi_play.proofs.ClientVerifies.{VerifiedOne, one_stays, verified_one
 use Rattle.sspi_play.proofs.Contexts.{identified_hand}
 use Rattle.sspi_play.proofs.Marks.{hand_keeps}
 use Rattle.sspi_play.proofs.OnNegotiation.{OnNegotiation, map_on, IsLike, IsOfLike, counted_on, cleared_on}
-use Rattle.sspi_play.proofs.Picking.{StaysChosen, StaysAt, server_stays}
-use Rattle.sspi_play.proofs.ServerNeeds.{AreNeeded, Secured, SecuredAt, server_secured}
+use Rattle.sspi_play.proofs.ServerNeeds.{AreNeeded, server_secured}
 use Rattle.sspi_play.proofs.ServerOver.{not_over, some_status, over_some, replied_unrefused}
 use Rattle.sspi_play.proofs.ServerPicks.{by_state}
 
@@ -183,7 +181,7 @@ module _ {N K P : Type 0} (r q : ℕ) (n : Meaning Setting N) (k : Meaning Setti
   Needs s = s.state ≢ states.Initial → s.state ≢ states.Ok → AreNeeded (values_of s)
 
   -- a mechanism and a list that stay need MICs as before
-  mic_before : (old new : Values) → StaysChosen old new → NeedsMic new.hand new.list → NeedsMic old.hand old.list
+  mic_before : (old new : Values) → StaysPicked old new → NeedsMic new.hand new.list → NeedsMic old.hand old.list
   mic_before old new stays mic = subst (λ (x : Protocol). NeedsMic x old.list) stays.hand
       (subst (λ (x : List (List ℕ)). NeedsMic new.hand x) stays.list mic)
 
@@ -223,9 +221,8 @@ module _ {N K P : Type 0} (r q : ℕ) (n : Meaning Setting N) (k : Meaning Setti
         (negotiate r n k).accepts s args x s2 → Needs s → NextOf accept.Unknown x s2
     step_next s s2 args (Err error) moves need = tt
     step_next s s2 args (Ok step) moves need =
-        let h : Secured s.state step.status (values_of s2) =
-        ends (SecuredAt s.state) (hand n k) (spnego_server (values_of s) args) s.mech s2.mech (Done step) (values_of s2)
-        (server_secured (values_of s) args need) moves.moves.follows.as_planned in
+        let h = (server_secured (hand n k) (values_of s) args s.mech need).ends s2.mech (Done step) (values_of s2)
+        moves.moves.follows.as_planned in
         record {
           begun = h.begun;
           over = h.over;
@@ -234,9 +231,8 @@ module _ {N K P : Type 0} (r q : ℕ) (n : Meaning Setting N) (k : Meaning Setti
           verified = λ at mic. by_state (VerifiedOne n k s2 ⊎ IsGuestNamed (hand n k) s2.mech) s.state
               (λ first. absurd (h.first first mic at))
               (λ late. ⊎_map (verified_one r q n k ln lk s2.list s2.mech) (λ guest. guest)
-              (server_ended_before n k s s2 args step moves at late (need late h.before (mic_before (values_of s) (values_of s2)
-              (ends (StaysAt (values_of s)) (hand n k) (spnego_server (values_of s) args) s.mech s2.mech (Done step) (values_of s2)
-              (server_stays (values_of s) args late) moves.moves.follows.as_planned) mic))));
+              (server_ended_before n k s s2 args step moves at late (need late h.before
+              (mic_before (values_of s) (values_of s2) (moves.picked late) mic))));
         }
 
     accepted_on : (m m2 : SspiContext N K) (args : AcceptArgs) (x : Result Step Error) → (either r n k).accepts m args x m2 →
