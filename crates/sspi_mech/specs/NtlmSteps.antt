@@ -82,8 +82,22 @@ server_step (AuthenticateSent name) m input = Stops OutOfSequence
 server_step ChallengeSent m input = claims m (claim_of input)
 server_step (Claimed claim) m input = Stops OutOfSequence
 
--- ---- what a call that makes a step answers; want of memory may come in place of each outcome
+-- ---- what a call that makes a step answers
 
+-- where memory may be wanting: the step would be made, or be refused for too long a name, which is measured once it was copied
+abbrev pub MayWant : Outcome → Type 0
+MayWant (Goes m step) = Unit {0}
+MayWant (Stops kind) = kind ≡ InternalError
+
+-- the same of the credentials of a handle
+abbrev pub MayWantLogin : Result Login ErrorKind → Type 0
+MayWantLogin (Ok login) = Unit {0}
+MayWantLogin (Err kind) = kind ≡ InternalError
+
+-- the outcome that there is; want of memory comes only where it may
 abbrev pub Steps : Outcome → NtlmState → Result Step Error → NtlmState → Type 0
 Steps outcome m (Ok step) m2 = outcome ≡ Goes m2 step
-Steps outcome m (Err error) m2 = (error.error_type ≢ InsufficientMemory → outcome ≡ Stops error.error_type) × (m2 ≡ m)
+Steps outcome m (Err error) m2 =
+    (error.error_type ≢ InsufficientMemory → outcome ≡ Stops error.error_type)
+    × (m2 ≡ m)
+    × (error.error_type ≡ InsufficientMemory → MayWant outcome)

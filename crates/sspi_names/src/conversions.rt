@@ -1,6 +1,7 @@
 ghost use Rattle.std.specs.Prelude.{◌≡◌, Some, IfOk, is_none};
 ghost use Rattle.sspi_names.specs.Identity.{AreBuffers, buffers_of, identity_of, user_text, domain_text, IsIdentified};
 ghost use Rattle.sspi_names.specs.Splits.{IsNameOfParts};
+ghost use Rattle.sspi_names.specs.Named.{IsNamed};
 ghost use Rattle.sspi_names.specs.Name.{new_name, parse_name, has_separator, IsName};
 ghost use Rattle.sspi_names.specs.Utf16.{text_of};
 
@@ -54,6 +55,21 @@ impl AuthIdentity {
                 value: Text::from_string(password),
             },
         })
+    }
+}
+
+impl AuthIdentityBuffers {
+    /// The name of these buffers: `Username::new` of the user and the domain. `MixedFormat` exactly where they mix the
+    /// forms of a name; memory is taken only where they do not.
+    pub fn username(&self, alloc: Global) -> Result<Username, UsernameError>
+        ensures { IsNamed result (new_name (text_of self.now.user) (text_of self.now.domain)) }
+    {
+        if mix_forms(&self.user, &self.domain) {
+            return Err(UsernameError::MixedFormat);
+        }
+        let user = self.user.to_string(alloc)?;
+        let domain = self.domain.to_string(alloc)?;
+        Username::new(alloc, user.as_str(), Some(domain.as_str()))
     }
 }
 

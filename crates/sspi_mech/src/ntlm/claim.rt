@@ -1,4 +1,4 @@
-ghost use Rattle.std.specs.Prelude.{◌≡◌, find, option_copied};
+ghost use Rattle.std.specs.Prelude.{◌≡◌, find, option_copied, IfErr, IsOk};
 ghost use Rattle.std.specs.List.{list_any};
 ghost use Rattle.sspi_mech.specs.NtlmClaims.{claim_of};
 ghost use Rattle.sspi_mech.specs.NtlmIdentities.{has_password, proves, claimed_key, key_at};
@@ -12,9 +12,10 @@ use sspi_names::{Credentials, Username};
 use sspi_types::{Bytes, ErrorKind, Reason};
 use std::alloc::Global;
 
-/// Who a client says it is in its last message.
+/// Who a client says it is in its last message. Memory is taken only for a name that a client may have.
 pub fn claim_of(alloc: Global, message: &[u8]) -> Result<Claim, Refusal>
-    ensures { Gives result (claim_of message.now) }
+    ensures answer { Gives result (claim_of message.now) }
+    ensures memory { IfErr result (λ error. error.error_type ≡ ErrorKind.InsufficientMemory → IsOk (claim_of message.now)) }
 {
     let Some((name, proof)) = read_authenticate(message) else {
         return Err(Refusal::malformed());

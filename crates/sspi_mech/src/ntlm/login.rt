@@ -1,6 +1,6 @@
-ghost use Rattle.std.specs.Prelude.{◌≤◌, length, IfOk, option_copied};
+ghost use Rattle.std.specs.Prelude.{◌≡◌, ◌≤◌, length, IfOk, IfErr, option_copied};
 ghost use Rattle.sspi_names.specs.Name.{inner_of};
-ghost use Rattle.sspi_mech.specs.NtlmSteps.{login_of};
+ghost use Rattle.sspi_mech.specs.NtlmSteps.{login_of, MayWantLogin};
 ghost use Rattle.sspi_mech.specs.Answered.{Gives};
 
 use crate::named::LONGEST_NAME;
@@ -18,9 +18,11 @@ pub struct Login {
     pub password: Text,
 }
 
-/// The name and the password of a client's credentials.
+/// The name and the password of a client's credentials. Memory is taken only for a name that does not mix the two forms.
 pub fn login_of(alloc: Global, handle: Option<&CredentialsBuffers>) -> Result<Login, Refusal>
     ensures answer { Gives result (login_of (option_copied handle.entry)) }
+    ensures memory { IfErr result (λ error. error.error_type ≡ ErrorKind.InsufficientMemory →
+        MayWantLogin (login_of (option_copied handle.entry))) }
     ensures short { IfOk result (λ login. length (inner_of login.name) ≤ 65535) }
 {
     let buffers = match handle {
@@ -31,9 +33,7 @@ pub fn login_of(alloc: Global, handle: Option<&CredentialsBuffers>) -> Result<Lo
         )),
         Some(CredentialsBuffers::AuthIdentity(buffers)) => buffers,
     };
-    let user = buffers.user.to_string(alloc)?;
-    let domain = buffers.domain.to_string(alloc)?;
-    let name = Username::new(alloc, user.as_str(), Some(domain.as_str()))?;
+    let name = buffers.username(alloc)?;
     if name.inner().len() > LONGEST_NAME {
         return Err(Refusal::new(ErrorKind::InternalError, Reason::TooLong));
     }
