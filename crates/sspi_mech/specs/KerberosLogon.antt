@@ -1,5 +1,5 @@
 -- Who a client of plain Kerberos is, and which KDC it asks.
-use Rattle.std.specs.Prelude.{ℕ, List, length, take, codes, nat_lt, Option, None, Some, Result, Ok, Err, if◌then◌else◌}
+use Rattle.std.specs.Prelude.{◌≡◌, ◌⊎◌, ℕ, List, length, take, codes, nat_lt, Option, None, Some, Result, Ok, Err, if◌then◌else◌}
 use Rattle.std.specs.Str.{bytes_eq}
 use Rattle.sspi_types.specs.declared.credential_use.CredentialUse.{CredentialUse}
 use Rattle.sspi_types.specs.declared.credential_use.CredentialUse.TheVariants.{Inbound, Outbound, Both, Default}
@@ -76,6 +76,14 @@ logon_as realms (Err kind) = Err kind
 
 abbrev pub logon_of : Realms → Option CredentialsBuffers → Result Logon ErrorKind
 logon_of realms handle = logon_as realms (name_in handle)
+
+-- what is found out of a name once it was copied out of the credentials: that it has no KDC, or is too long
+abbrev pub IsLate : ErrorKind → Type 0
+IsLate kind = (kind ≡ NoAuthenticatingAuthority) ⊎ (kind ≡ InternalError)
+
+abbrev pub MayWantLogon : Result Logon ErrorKind → Type 0
+MayWantLogon (Ok logon) = Unit {0}
+MayWantLogon (Err kind) = IsLate kind
 
 -- ---- the request
 

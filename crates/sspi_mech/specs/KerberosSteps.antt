@@ -21,7 +21,7 @@ use Rattle.sspi_mech.specs.declared.step.Progressing.{Progressing}
 use Rattle.sspi_mech.specs.declared.step.Progressing.TheVariants.{Done, Suspended}
 use Rattle.sspi_mech.specs.declared.step.Reply.{Reply}
 use Rattle.sspi_mech.specs.declared.step.Step.{Step}
-use Rattle.sspi_mech.specs.KerberosLogon.{kdc_of, logon_of, request_at}
+use Rattle.sspi_mech.specs.KerberosLogon.{kdc_of, logon_of, request_at, IsLate}
 use Rattle.sspi_mech.specs.KerberosMessages.{reply_proof, ticket_request, ticket_reply, ap_request, ap_reply, is_ticket_request}
 use Rattle.sspi_mech.specs.KerberosMessages.{read_ticket, read_ap_request, read_ap_reply, as_request, tgs_request}
 use Rattle.sspi_mech.specs.KerberosReplies.{first_key_in, session_key_in}
@@ -155,10 +155,32 @@ server_step (Ended name) m input = Stops OutOfSequence
 server_step TicketSent m input = admits m true (arrival_of input)
 server_step (Accepted peer) m input = Stops OutOfSequence
 
--- ---- what a call that makes a step answers; want of memory may come in place of each outcome
+-- ---- what a call that makes a step answers
 
+-- What a step finds out once it copied a name out of the credentials, for which memory may be wanting first. No other step copies one.
+abbrev pub IsFoundLate : Stage → ErrorKind → Type 0
+IsFoundLate Unused kind = IsLate kind
+IsFoundLate PairingAsked kind = ⊥
+IsFoundLate (TicketAsked key) kind = IsLate kind
+IsFoundLate (LogonAsked name) kind = ⊥
+IsFoundLate (SessionAsked name) kind = ⊥
+IsFoundLate (SessionSent name) kind = ⊥
+IsFoundLate (Ended name) kind = ⊥
+IsFoundLate TicketSent kind = ⊥
+IsFoundLate (Accepted peer) kind = ⊥
+
+-- where memory may be wanting: the step would be made, a KDC asked, or a refusal be found late
+abbrev pub MayWant : Stage → Outcome → Type 0
+MayWant stage (Goes m step) = Unit {0}
+MayWant stage (Asks m request) = Unit {0}
+MayWant stage (Stops kind) = IsFoundLate stage kind
+
+-- the refusal that there is; want of memory comes only where it may
 abbrev pub Stopped : Outcome → KerberosState → Error → KerberosState → Type 0
-Stopped outcome m error m2 = (error.error_type ≢ InsufficientMemory → outcome ≡ Stops error.error_type) × (m2 ≡ m)
+Stopped outcome m error m2 =
+    (error.error_type ≢ InsufficientMemory → outcome ≡ Stops error.error_type)
+    × (m2 ≡ m)
+    × (error.error_type ≡ InsufficientMemory → MayWant m.stage outcome)
 
 abbrev pub Moves : Outcome → KerberosState → Result Progressing Error → KerberosState → Type 0
 Moves outcome m (Ok (Done step)) m2 = outcome ≡ Goes m2 step

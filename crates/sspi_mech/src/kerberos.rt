@@ -150,6 +150,7 @@ impl Kerberos {
         handle: Option<&CredentialsBuffers>,
         pairing: bool,
     ) -> Result<Progressing, Refusal>
+        requires { self.now.stage ≡ Stage.Unused }
         ensures { Moves (begins self.old pairing (logon_of self.old.realms (option_copied handle.entry)))
             self.old (answered result) self.new }
     {
@@ -171,6 +172,7 @@ impl Kerberos {
         handle: Option<&CredentialsBuffers>,
         input: &[u8],
     ) -> Result<Progressing, Refusal>
+        requires { self.now.stage ≡ Stage.TicketAsked key.now }
         ensures { Moves (takes_ticket self.old key.now (read_ticket input.now) (option_copied handle.entry))
             self.old (answered result) self.new }
     {

@@ -1,3 +1,4 @@
+ghost use Rattle.std.specs.Prelude.{◌≡◌, IfErr, IsOk};
 ghost use Rattle.sspi_mech.specs.KerberosSteps.{arrival_of};
 ghost use Rattle.sspi_mech.specs.Answered.{Gives};
 
@@ -17,9 +18,10 @@ pub struct Arrival {
     pub key: [u8; 32],
 }
 
-/// What a client says in its last message but one.
+/// What a client says in its last message but one. Memory is taken only for a name that a client may have.
 pub fn arrival_of(alloc: Global, message: &[u8]) -> Result<Arrival, Refusal>
-    ensures { Gives result (arrival_of message.now) }
+    ensures answer { Gives result (arrival_of message.now) }
+    ensures memory { IfErr result (λ error. error.error_type ≡ ErrorKind.InsufficientMemory → IsOk (arrival_of message.now)) }
 {
     let Some((name, key)) = read_ap_request(message) else {
         return Err(Refusal::malformed());

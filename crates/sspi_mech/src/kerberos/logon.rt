@@ -1,6 +1,6 @@
-ghost use Rattle.std.specs.Prelude.{◌≡◌, ◌≤◌, length, option_copied};
+ghost use Rattle.std.specs.Prelude.{◌≡◌, ◌≤◌, length, option_copied, IfErr, IsOk};
 ghost use Rattle.sspi_names.specs.Name.{inner_of};
-ghost use Rattle.sspi_mech.specs.KerberosLogon.{acquired, name_in, short_name, logon_of, protocol_of, request_at};
+ghost use Rattle.sspi_mech.specs.KerberosLogon.{acquired, name_in, short_name, logon_of, MayWantLogon, protocol_of, request_at};
 ghost use Rattle.sspi_mech.specs.Answered.{Gives};
 
 use crate::kerberos::realms::Realms;
@@ -79,15 +79,15 @@ pub fn buffers_of(
 /// The name in a client's credentials.
 fn name_in(alloc: Global, handle: Option<&CredentialsBuffers>) -> Result<Username, Refusal>
     ensures answer { Gives result (name_in (option_copied handle.entry)) }
+    ensures memory { IfErr result (λ error. error.error_type ≡ ErrorKind.InsufficientMemory →
+        IsOk (name_in (option_copied handle.entry))) }
 {
     let buffers = match handle {
         None => return Err(Refusal::new(ErrorKind::NoCredentials, Reason::NoAuthData)),
         Some(CredentialsBuffers::Keytab(identity)) => return Ok(identity.username.clone(alloc)?),
         Some(CredentialsBuffers::AuthIdentity(buffers)) => buffers,
     };
-    let user = buffers.user.to_string(alloc)?;
-    let domain = buffers.domain.to_string(alloc)?;
-    Ok(Username::new(alloc, user.as_str(), Some(domain.as_str()))?)
+    Ok(buffers.username(alloc)?)
 }
 
 /// Who a client is by its credentials, and where its KDC is.
@@ -97,6 +97,8 @@ pub fn logon_of(
     handle: Option<&CredentialsBuffers>,
 ) -> Result<Logon, Refusal>
     ensures answer { Gives result (logon_of realms.now (option_copied handle.entry)) }
+    ensures memory { IfErr result (λ error. error.error_type ≡ ErrorKind.InsufficientMemory →
+        MayWantLogon (logon_of realms.now (option_copied handle.entry))) }
 {
     let name = name_in(alloc, handle)?;
     let url = realms.kdc_of(alloc, &name)?;
