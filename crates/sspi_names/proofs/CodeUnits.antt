@@ -3,6 +3,7 @@ use Rattle.std.proofs.Common.{◌≡◌, ◌⊎◌, inl, inr, ℕ, suc, ◌+◌,
 use Rattle.std.proofs.Common.{◌∷◌, ◌++◌, Bool, true, false, ◌&&◌, not, cond, Option, Some, Result, Ok, Err}
 use Rattle.std.proofs.Common.{length, get_or, take, drop, map, unwrap_or, refl, sym, ap, ◌∙◌, subst, arith}
 use Rattle.std.specs.Prelude.{is_some}
+use Rattle.std.specs.Result.{is_ok}
 use Rattle.std.specs.List.{All, list_any, flat_map}
 use Rattle.std.specs.Str.{IsUtf8, chars, all_scalars, encode_utf8_all}
 use Rattle.std.specs.Char.Escape.{encode_utf16}
@@ -314,6 +315,32 @@ even_decoded bytes even paired = decoded_even bytes even ∙ rw paired
 pub even_refused : (bytes : List ℕ) → length bytes % 2 ≡ 0 → has_unpaired_surrogate (units_le bytes) ≡ true
     → decode_le bytes ≡ Err UnpairedSurrogate
 even_refused bytes even paired = decoded_even bytes even ∙ rw paired
+
+ok_by : (unpaired well_formed : Bool) (units : List ℕ) → unpaired ≡ not well_formed →
+    is_ok (cond {A = Result (List ℕ) Utf16Error} unpaired (Err UnpairedSurrogate) (Ok units)) ≡ well_formed
+ok_by true true units e = absurd (true≢false e)
+ok_by true false units e = refl
+ok_by false true units e = refl
+ok_by false false units e = absurd (true≢false (sym e))
+
+-- whether there is a text, by both tests
+pub even_ok : (bytes : List ℕ) (well_formed : Bool) → length bytes % 2 ≡ 0 → has_unpaired_surrogate (units_le bytes) ≡ not well_formed
+    → well_formed ≡ is_ok (decode_le bytes)
+even_ok bytes well_formed even e =
+    sym (ap is_ok (decoded_even bytes even) ∙ ok_by (has_unpaired_surrogate (units_le bytes)) well_formed (units_le bytes) e)
+
+pub odd_ok : (bytes : List ℕ) → ¬ (length bytes % 2 ≡ 0) → false ≡ is_ok (decode_le bytes)
+odd_ok bytes odd = sym (ap is_ok (odd_refused bytes odd))
+
+pub ruleset decoded_ok = (even_ok, odd_ok)
+
+two_more : (n : ℕ) → suc (suc (2 * n)) ≡ 2 * suc n
+two_more n = omega arith
+
+pub length_bytes_le : (units : List ℕ) → length (bytes_le units) ≡ 2 * length units
+unfolding bytes_le
+length_bytes_le [] = refl
+length_bytes_le (u ∷ units) = ap (λ n. suc (suc n)) (length_bytes_le units) ∙ two_more (length units)
 
 abbrev refused : Utf16Error → Result (List ℕ) Utf16Error
 refused e = Err e

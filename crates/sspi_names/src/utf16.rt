@@ -1,5 +1,6 @@
 ghost use Rattle.std.specs.Prelude.{◌≡◌, ◌==◌, ◌≤◌, ◌∷◌, count_by, length, true, not, IfOk, IfSome, MatchOption, string_bytes};
 ghost use Rattle.std.specs.Char.Utf16.{has_unpaired_surrogate};
+ghost use Rattle.std.specs.Result.{is_ok};
 ghost use Rattle.sspi_names.specs.Utf16.{units_le};
 
 use crate::error::Utf16Error;
@@ -73,6 +74,26 @@ impl Utf16Text {
         Ok(Utf16Text {
             units: units_from_le(alloc, bytes)?,
         })
+    }
+
+    /// Whether `from_bytes_le` takes the bytes as a text. Takes no memory.
+    #[tactic(auto, using(crate::proofs::CodeUnits::decoded_ok))]
+    pub fn is_text_le(bytes: &[u8]) -> bool
+        ensures { result ≡ is_ok (decode_le bytes.now) }
+    {
+        if bytes.len() % 2 == 0 {
+            is_well_formed(bytes)
+        } else {
+            false
+        }
+    }
+
+    /// How many bytes `to_bytes_le` makes.
+    #[tactic(auto, using(crate::proofs::CodeUnits::length_bytes_le))]
+    pub fn byte_len(&self) -> usize
+        ensures { result ≡ length (bytes_le self.now) }
+    {
+        2 * self.units.len()
     }
 
     /// The code units as bytes, the low byte of each first.

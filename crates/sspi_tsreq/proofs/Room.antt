@@ -5,7 +5,12 @@ use Rattle.std.proofs.lemmas.List.{length-append}
 use Rattle.sspi_ber.specs.Forms.{max_content}
 use Rattle.sspi_ber.specs.Short.{element, element_size, header, len_short, int_short, int_content}
 use Rattle.sspi_ber.proofs.Written.{length-header, length-element, size_above, wrote_then, front_then, front_more, wrote_nothing}
-use Rattle.sspi_tsreq.specs.Creds.{wrapped_octets, password_fields, password_type_field, creds_body, spelled_if_fits, too_long}
+use Rattle.std.specs.Result.{IsOk, is_ok}
+use Rattle.sspi_types.specs.Errors.{memory_error}
+use Rattle.sspi_types.specs.declared.error.Error.{Error}
+use Rattle.sspi_names.specs.Utf16.{bytes_le}
+use Rattle.sspi_names.specs.declared.identity.AuthIdentityBuffers.{AuthIdentityBuffers}
+use Rattle.sspi_tsreq.specs.Creds.{wrapped_octets, password_fields, password_type_field, creds_body, spelled_if_fits, too_long, buffers_text}
 use Rattle.sspi_tsreq.specs.CredsSizes.{password_fields_size, body_size, FitTexts}
 use Rattle.sspi_tsreq.specs.Size.{IsCapped}
 use Rattle.sspi_tsreq.proofs.Capped.{capped_same, capped_more, capped_add, capped_fits, capped_past}
@@ -124,3 +129,32 @@ module _ (domain user password : List ℕ) (size : ℕ) (capped : IsCapped size 
 -- all that a sink has which began empty
 pub written_whole : (start now text items : List ℕ) → start ≡ [] → now ≡ start ++ text → items ≡ now → items ≡ text
 written_whole start now text items empty appended same = same ∙ appended ∙ ap (λ front. front ++ text) empty
+
+-- ---- what is measured before memory is taken
+
+pub fits_ok : (domain user password : List ℕ) (size : ℕ) → IsCapped size (body_size (length domain) (length user) (length password)) →
+    size ≤ max_content → IsOk (spelled_if_fits (creds_body domain user password))
+fits_ok domain user password size capped le = ap is_ok (fits_spelled domain user password size capped le)
+
+pub long_unwanted : (error : Error) → error ≡ too_long → error ≡ memory_error → ⊥
+long_unwanted error e m = cc_of (ap (λ (x : Error). x.error_type) (sym e ∙ m))
+  where
+    cc_of : too_long.error_type ≡ memory_error.error_type → ⊥
+    cc_of f = cc
+
+lengths_of : (b : AuthIdentityBuffers) (domain user password : ℕ) → domain ≡ length (bytes_le b.domain) → user ≡ length (bytes_le b.user) →
+    password ≡ length (bytes_le b.password.value) → (size : ℕ) → IsCapped size (body_size domain user password) →
+    IsCapped size (body_size (length (bytes_le b.domain)) (length (bytes_le b.user)) (length (bytes_le b.password.value)))
+lengths_of b domain user password d u p size capped = rw (← d, ← u, ← p) capped
+
+pub fits_buffers : (b : AuthIdentityBuffers) (domain user password size : ℕ) → domain ≡ length (bytes_le b.domain) →
+    user ≡ length (bytes_le b.user) → password ≡ length (bytes_le b.password.value) → IsCapped size (body_size domain user password) →
+    size ≤ max_content → IsOk (buffers_text b)
+unfolding buffers_text
+fits_buffers b domain user password size d u p capped le = fits_ok _ _ _ size (lengths_of b domain user password d u p size capped) le
+
+pub past_buffers : (b : AuthIdentityBuffers) (domain user password size : ℕ) → domain ≡ length (bytes_le b.domain) →
+    user ≡ length (bytes_le b.user) → password ≡ length (bytes_le b.password.value) → IsCapped size (body_size domain user password) →
+    max_content < size → buffers_text b ≡ Err too_long
+unfolding buffers_text
+past_buffers b domain user password size d u p capped lt = past_refused _ _ _ size (lengths_of b domain user password d u p size capped) lt

@@ -9,13 +9,15 @@ use Rattle.sspi_ber.specs.declared.wire_kind.WireKind.TheVariants.{UnexpectedEof
 use Rattle.sspi_ber.specs.Pieces.{Read, header_at}
 use Rattle.sspi_ber.specs.Outside.{Answers, Reads, ReadCause}
 use Rattle.sspi_ber.proofs.PiecesMatch.{header_match}
-use Rattle.sspi_names.specs.Utf16.{bad_text}
-use Rattle.std.specs.Result.{IfErr}
+use Rattle.sspi_names.specs.Utf16.{bad_text, decode_le}
+use Rattle.std.specs.Result.{IfErr, IsErr, IsOk, is_ok}
+use Rattle.std.proofs.lemmas.Bool.{and_parts, true≢false}
+use Rattle.sspi_names.specs.declared.identity.AuthIdentityBuffers.{AuthIdentityBuffers}
 use Rattle.sspi_names.specs.declared.credentials.CredentialsBuffers.{CredentialsBuffers}
 use Rattle.sspi_tsreq.specs.Creds.{Fields, Passwords, malformed, unknown_type, smart_card, spelled_or_malformed, password_type}
 use Rattle.sspi_tsreq.specs.Creds.{texts_of, fields_at, passwords_at, creds_in, creds_of}
-use Rattle.sspi_tsreq.specs.CredsReading.{IsLate, refusal_by}
-use Rattle.sspi_tsreq.specs.CredsGrammar.{HasPasswords, BeginsSequence}
+use Rattle.sspi_tsreq.specs.CredsReading.{IsLate, refusal_by, are_texts}
+use Rattle.sspi_tsreq.specs.CredsGrammar.{HasPasswords, BeginsSequence, HasBadText, AreTextsOf}
 use Rattle.sspi_tsreq.proofs.CredsAre.{Form, malformed_form, unknown_form, smart_card_form, bad_text_form, stands_form, form_of}
 use Rattle.sspi_tsreq.proofs.CredsAre.{texts_cases, texts_answer, malformed_refused, unknown_refused, smart_card_refused}
 
@@ -57,6 +59,52 @@ pub late_in : (body : List ℕ) (fields : Fields) (passwords : Passwords) → sp
     → spelled_or_malformed (passwords_at fields.credentials) ≡ Ok passwords → IsLate (creds_in body)
 unfolding creds_in
 late_in body fields passwords e f g = rw (e, f, g) (texts_late passwords)
+
+-- ---- all three are judged before one of them is copied
+
+all_read : (texts : Passwords) (buffers : AuthIdentityBuffers) → AreTextsOf texts buffers → are_texts texts ≡ true
+all_read texts buffers t = rw (t.domain_text, t.user_text, t.password_text) refl
+
+not_both : {A E : Type 0} (r : Result A E) → is_ok r ≡ true → IsErr r → ⊥
+not_both (Ok x) ok bad = cc
+not_both (Err e) ok bad = cc
+
+not_bad_texts : (texts : Passwords) → are_texts texts ≡ true → HasBadText texts → ⊥
+not_bad_texts texts e bad =
+    let parts = and_parts _ _ e in
+    let others = and_parts _ _ parts.1 in
+    elim bad [
+      | inl domain ↦ not_both (decode_le texts.domain) parts.0 domain
+      | inr more ↦ elim more [
+        | inl user ↦ not_both (decode_le texts.user) others.0 user
+        | inr password ↦ not_both (decode_le texts.password) others.1 password
+      ]
+    ]
+
+pub some_bad : (texts : Passwords) → are_texts texts ≡ false → texts_of texts ≡ Err bad_text
+some_bad texts e =
+    elim (texts_cases texts) [
+      | inl (buffers, t) ↦ absurd (true≢false (sym (all_read texts buffers t) ∙ e))
+      | inr (bad, f) ↦ f
+    ]
+
+pub all_texts : (texts : Passwords) → are_texts texts ≡ true → IsOk (texts_of texts)
+all_texts texts e =
+    elim (texts_cases texts) [
+      | inl (buffers, t) ↦ ap is_ok (texts_answer texts buffers t)
+      | inr (bad, f) ↦ absurd (not_bad_texts texts e bad)
+    ]
+
+pub bad_unwanted : (error : Error) → error ≡ bad_text → error ≡ memory_error → ⊥
+bad_unwanted error e m = not_wanted bad_text error (λ f. cc) (sym e) m
+
+pub ok_in : (body : List ℕ) (fields : Fields) (passwords : Passwords) → spelled_or_malformed (fields_at body) ≡ Ok fields →
+    password_type fields.cred_type ≡ Ok tt
+    → spelled_or_malformed (passwords_at fields.credentials) ≡ Ok passwords → IsOk (texts_of passwords) → IsOk (creds_in body)
+unfolding creds_in
+ok_in body fields passwords e f g ok = rw (e, f, g) ok
+
+pub ruleset judged = (some_bad, all_texts, bad_unwanted)
 
 pub late_if : {X : Type 0} (result : Result X Error) (answer : Result CredentialsBuffers Error) → IsLate answer →
     IfErr result (λ error. error ≡ memory_error → IsLate answer)

@@ -1,8 +1,8 @@
-ghost use Rattle.std.specs.Prelude.{◌≡◌, Ok, Err, IfErr, IfSome};
+ghost use Rattle.std.specs.Prelude.{◌≡◌, Ok, Err, IfErr, IfSome, IsOk};
 ghost use Rattle.sspi_ber.specs.Outside.{Gives, LeavesRest, NeedsNoMemory};
-ghost use Rattle.sspi_names.specs.Utf16.{decode_le};
+ghost use Rattle.sspi_names.specs.Utf16.{decode_le, bad_text};
 ghost use Rattle.sspi_tsreq.specs.CredsAnswers.{CredsCause, IsCredsRefusal, IsOrMemory, ReadsCreds};
-ghost use Rattle.sspi_tsreq.specs.CredsReading.{refusal_by, Is, IsLate};
+ghost use Rattle.sspi_tsreq.specs.CredsReading.{refusal_by, Is, IsLate, are_texts};
 ghost use Rattle.sspi_tsreq.specs.CredsGrammar.{BeginsSequence, HasPasswords};
 ghost use Rattle.sspi_types.specs.Errors.{memory_error};
 ghost use Rattle.sspi_tsreq.specs.Creds.{creds_in, creds_of, fields_at, malformed, octets_in, password_type, passwords_at};
@@ -46,8 +46,8 @@ pub fn read_ts_credentials<S: Source>(
     }
 }
 
-/// The same of bytes in memory, which are read where they stand. Memory is taken for the texts alone, so want of memory comes
-/// only where both structures were found: never in place of `UnsupportedFunction` or `InvalidToken`.
+/// The same of bytes in memory, which are read where they stand. Memory is taken for the texts alone, once all of them are known to
+/// be texts. So want of memory comes only where the bytes stand for credentials, and never in place of another refusal.
 #[tactic(auto, using(crate::proofs::Unwanted::late_has), unfolding(crate::specs::Creds::creds_of))]
 pub fn read_ts_credentials_from_slice(
     alloc: Global,
@@ -55,6 +55,7 @@ pub fn read_ts_credentials_from_slice(
 ) -> Result<CredentialsBuffers, Error>
     ensures read { IsOrMemory (λ buffers. buffers) result (creds_of bytes.now) }
     ensures memory { IfErr result (λ error. error ≡ memory_error → HasPasswords bytes.now) }
+    ensures exact { IfErr result (λ error. error ≡ memory_error → IsOk (creds_of bytes.now)) }
 {
     match read_element(&mut SliceSource::new(bytes), SEQUENCE) {
         Ok(body) => read_creds(alloc, body),
@@ -79,10 +80,11 @@ struct Passwords<'a> {
 }
 
 /// The buffers inside TSCredentials.
-#[tactic(auto, using(crate::proofs::Unwanted::late), unfolding(crate::specs::Creds::creds_in))]
+#[tactic(auto, using(crate::proofs::Unwanted::late, crate::proofs::Unwanted::ok_in), unfolding(crate::specs::Creds::creds_in))]
 fn read_creds(alloc: Global, body: &[u8]) -> Result<CredentialsBuffers, Error>
     ensures read { IsOrMemory (λ buffers. buffers) result (creds_in body.now) }
     ensures late { IfErr result (λ error. error ≡ memory_error → IsLate (creds_in body.now)) }
+    ensures exact { IfErr result (λ error. error ≡ memory_error → IsOk (creds_in body.now)) }
 {
     let fields = spelled_fields(body)?;
     expect_password(fields.cred_type)?;
@@ -168,11 +170,26 @@ fn expect_password(cred_type: &[u8]) -> Result<(), Error>
     }
 }
 
-#[tactic(auto, unfolding(crate::specs::Creds::texts_of))]
-fn read_texts(alloc: Global, passwords: &Passwords<'_>) -> Result<CredentialsBuffers, Error>
-    ensures { IsOrMemory (λ buffers. buffers) result
-        (texts_of (record { domain = passwords.now.domain.now; user = passwords.now.user.now; password = passwords.now.password.now })) }
+/// Whether each is a text. Takes no memory.
+fn are_texts(passwords: &Passwords<'_>) -> bool
+    ensures { result ≡ are_texts
+        (record { domain = passwords.now.domain.now; user = passwords.now.user.now; password = passwords.now.password.now }) }
 {
+    Utf16Text::is_text_le(passwords.domain)
+        && Utf16Text::is_text_le(passwords.user)
+        && Utf16Text::is_text_le(passwords.password)
+}
+
+#[tactic(auto, using(crate::proofs::Unwanted::judged), unfolding(crate::specs::Creds::texts_of))]
+fn read_texts(alloc: Global, passwords: &Passwords<'_>) -> Result<CredentialsBuffers, Error>
+    ensures read { IsOrMemory (λ buffers. buffers) result
+        (texts_of (record { domain = passwords.now.domain.now; user = passwords.now.user.now; password = passwords.now.password.now })) }
+    ensures exact { IfErr result (λ error. error ≡ memory_error → IsOk
+        (texts_of (record { domain = passwords.now.domain.now; user = passwords.now.user.now; password = passwords.now.password.now }))) }
+{
+    if !are_texts(passwords) {
+        return Err(no_texts());
+    }
     let domain = read_text(alloc, passwords.domain)?;
     let user = read_text(alloc, passwords.user)?;
     let password = read_text(alloc, passwords.password)?;
@@ -202,6 +219,12 @@ fn refusal_of(kind: WireKind) -> Error
             kind,
         ),
     }
+}
+
+fn no_texts() -> Error
+    ensures { result ≡ bad_text }
+{
+    Error::new(ErrorKind::InvalidParameter, Reason::Utf)
 }
 
 fn not_spelled() -> Error

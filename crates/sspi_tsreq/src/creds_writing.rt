@@ -1,10 +1,11 @@
-ghost use Rattle.std.specs.Prelude.{◌≡◌, ◌+◌, ◌*◌, ◌≤◌, Ok, IfOk, length};
+ghost use Rattle.std.specs.Prelude.{◌≡◌, ◌+◌, ◌*◌, ◌≤◌, Ok, IfOk, IfErr, IsOk, length};
+ghost use Rattle.sspi_types.specs.Errors.{memory_error};
 ghost use Rattle.sspi_ber.specs.Forms.{max_content};
 ghost use Rattle.sspi_ber.specs.Outside.{Writes, WriteCause};
 ghost use Rattle.sspi_ber.specs.Short.{element, element_size};
 ghost use Rattle.sspi_names.specs.Identity.{AreBuffers};
 ghost use Rattle.sspi_tsreq.specs.Creds.{buffers_text, delegated_credentials, creds_body, creds_of, creds_text, wrapped_octets};
-ghost use Rattle.sspi_tsreq.specs.Creds.{password_fields, password_type_field, spelled_if_fits};
+ghost use Rattle.sspi_tsreq.specs.Creds.{password_fields, password_type_field, spelled_if_fits, too_long};
 ghost use Rattle.sspi_tsreq.specs.CredsAnswers.{IsOrMemory, RefusesKeytab};
 ghost use Rattle.sspi_tsreq.specs.CredsSizes.{FitTexts, body_size, password_fields_size};
 ghost use Rattle.sspi_tsreq.specs.Size.{IsCapped};
@@ -32,7 +33,8 @@ struct Texts<'a> {
 /// `CredentialLess`, with three empty texts.
 ///
 /// `UnsupportedPreAuth` comes exactly for a keytab, in both modes, and then no memory is taken; `InternalError` exactly where the
-/// content passes `sspi_ber::MAX_CONTENT`, 1048576 octets, which is seen once the texts are spelled.
+/// content passes `sspi_ber::MAX_CONTENT`, 1048576 octets, which is measured before the texts are spelled. So want of memory comes only
+/// where there is a text to be written.
 pub fn write_ts_credentials(
     alloc: Global,
     credentials: &CredentialsBuffers,
@@ -40,6 +42,7 @@ pub fn write_ts_credentials(
 ) -> Result<Vec<u8>, Error>
     ensures text { IsOrMemory (λ text. text.items) result (creds_text credentials.now cred_ssp_mode) }
     ensures keytab { RefusesKeytab credentials.now result }
+    ensures exact { IfErr result (λ error. error ≡ memory_error → IsOk (creds_text credentials.now cred_ssp_mode)) }
     ensures read_back { IfOk result (λ text. creds_of text.items ≡ Ok (delegated_credentials cred_ssp_mode credentials.now)) }
 {
     match credentials {
@@ -61,11 +64,17 @@ pub fn write_ts_credentials(
     }
 }
 
-#[tactic(auto, unfolding(crate::specs::Creds::buffers_text))]
+#[tactic(auto, using(crate::proofs::Room::fits_buffers, crate::proofs::Room::past_buffers, crate::proofs::Room::long_unwanted), unfolding(crate::specs::Creds::buffers_text))]
 fn write_buffers(alloc: Global, buffers: &AuthIdentityBuffers) -> Result<Vec<u8>, Error>
     ensures text { IsOrMemory (λ text. text.items) result (buffers_text buffers.now) }
+    ensures exact { IfErr result (λ error. error ≡ memory_error → IsOk (buffers_text buffers.now)) }
     ensures well_formed { IfOk result (λ _. AreBuffers buffers.now) }
 {
+    let password = buffers.password.value.byte_len();
+    let size = capped_body(buffers.domain.byte_len(), buffers.user.byte_len(), password);
+    if size > MAX_CONTENT {
+        return Err(too_long());
+    }
     let domain = buffers.domain.to_bytes_le(alloc)?;
     let user = buffers.user.to_bytes_le(alloc)?;
     let password = buffers.password.value.to_bytes_le(alloc)?;
@@ -80,19 +89,28 @@ fn write_buffers(alloc: Global, buffers: &AuthIdentityBuffers) -> Result<Vec<u8>
 }
 
 /// TSCredentials with these texts, where their content fits.
+#[tactic(auto, using(crate::proofs::Room::fits_ok, crate::proofs::Room::long_unwanted))]
 fn write_texts(alloc: Global, texts: &Texts<'_>) -> Result<Vec<u8>, Error>
-    ensures { IsOrMemory (λ text. text.items) result
+    ensures text { IsOrMemory (λ text. text.items) result
         (spelled_if_fits (creds_body texts.now.domain.now texts.now.user.now texts.now.password.now)) }
+    ensures exact { IfErr result (λ error. error ≡ memory_error →
+        IsOk (spelled_if_fits (creds_body texts.now.domain.now texts.now.user.now texts.now.password.now))) }
 {
     let size = capped_body(texts.domain.len(), texts.user.len(), texts.password.len());
     if size > MAX_CONTENT {
-        return Err(Error::new(ErrorKind::InternalError, Reason::TooLong));
+        return Err(too_long());
     }
     let mut sink = VecSink::with_capacity(alloc, size_of_element(size))?;
     match write_creds(&mut sink, texts, size) {
         Ok(()) => Ok(sink.into_inner()),
         Err(kind) => Err(Error::from(kind)),
     }
+}
+
+fn too_long() -> Error
+    ensures { result ≡ too_long }
+{
+    Error::new(ErrorKind::InternalError, Reason::TooLong)
 }
 
 /// How many bytes the content of TSPasswordCreds takes whose texts have so many, or a number past the limit.

@@ -12,9 +12,13 @@ returns-in-WithCredentials-clause-read_back c =
 
 pub returns-in-CredentialLess-clause-text : goal.returns-in-CredentialLess-clause-text
 unfolding buffers_text bytes_le
-returns-in-CredentialLess-clause-text c = rw (c.in-AuthIdentity.is, c.in-CredentialLess.is) c.write_texts.ensures
+returns-in-CredentialLess-clause-text c = rw (c.in-AuthIdentity.is, c.in-CredentialLess.is) c.write_texts.ensures.text
 
 pub returns-in-CredentialLess-clause-read_back : goal.returns-in-CredentialLess-clause-read_back
 returns-in-CredentialLess-clause-read_back c =
     rw (c.in-AuthIdentity.is, c.in-CredentialLess.is)
-    (empty_answer (λ (text : Vec ℕ Global). text.items) c.write_texts.result c.in-AuthIdentity.buffers c.write_texts.ensures)
+    (empty_answer (λ (text : Vec ℕ Global). text.items) c.write_texts.result c.in-AuthIdentity.buffers c.write_texts.ensures.text)
+
+pub returns-in-CredentialLess-clause-exact : goal.returns-in-CredentialLess-clause-exact
+unfolding buffers_text bytes_le
+returns-in-CredentialLess-clause-exact c = rw (c.in-AuthIdentity.is, c.in-CredentialLess.is) c.write_texts.ensures.exact
