@@ -7,23 +7,9 @@ ghost use Rattle.sspi_negotiate.specs.Identity.{is_refused_identity};
 ghost use Rattle.sspi_negotiate.specs.Negotiate.{negotiate};
 
 use crate::negotiate::Negotiate;
-use crate::protocol::Protocol;
 use sspi_mech::Mechanism;
 use sspi_names::{ContextNames, Credentials};
-use sspi_types::{Error, ErrorKind, Reason, SecurityStatus};
-
-/// A keytab, while NTLM is in hand.
-fn is_refused_identity(protocol: Protocol, identity: &Credentials) -> bool
-    ensures { result ≡ is_refused_identity protocol identity.now }
-{
-    match identity {
-        Credentials::AuthIdentity(_) => false,
-        Credentials::Keytab(_) => match protocol {
-            Protocol::Ntlm => true,
-            Protocol::Kerberos => false,
-        },
-    }
-}
+use sspi_types::{Error, ErrorKind, SecurityStatus};
 
 impl<N: Mechanism, K: Mechanism> Negotiate<N, K> {
     /// The name that was authenticated: on a server the peer's, on a client its own. With the plain mechanisms `OutOfSequence`
@@ -49,16 +35,12 @@ impl<N: Mechanism, K: Mechanism> Negotiate<N, K> {
         ensures codeless { IfErr result (λ error. error.nstatus ≡ None) }
         ensures keytab { is_refused_identity (hand_of self.old.mech) identity ≡ true →
             IfErr result (λ error. error.error_type ≡ ErrorKind.IncompleteCredentials) × IsErr result }
-        ensures cause { is_refused_identity (hand_of self.old.mech) identity ≡ false →
-            IfErr result (λ error. error.error_type ≢ ErrorKind.InsufficientMemory →
-            (negotiate N.REQUESTS N.meaning K.meaning).refuses self.old (ToIdentify (identity ∷ [])) error.error_type) }
+        ensures cause { let c = negotiate N.REQUESTS N.meaning K.meaning in
+            is_refused_identity (hand_of self.old.mech) identity ≡ false →
+            IfErr result (λ error. IsRefusedAs (c.permits self.old (ToIdentify (identity ∷ [])))
+            (c.refuses self.old (ToIdentify (identity ∷ []))) error.error_type) }
     {
-        if is_refused_identity(self.protocol.protocol(), &identity) {
-            return Err(Error::new(ErrorKind::IncompleteCredentials, Reason::NotPassword));
-        }
-        let mut identities = Vec::new(self.alloc);
-        identities.push(identity)?;
-        self.custom_set_auth_identities(identities)
+        Ok(self.protocol.set_identity(&identity)?)
     }
 
     /// Tells a server which identities its peer may have. NTLM takes those with a password, Kerberos the first. The kept

@@ -1,5 +1,5 @@
 // The calls of the mechanism in hand.
-ghost use Rattle.std.specs.Prelude.{◌≡◌, ◌≢◌, ◌<◌, IsTrue, IfOk, IfErr};
+ghost use Rattle.std.specs.Prelude.{◌≡◌, ◌≢◌, ◌<◌, [], ◌∷◌, true, false, IsTrue, IsErr, IfOk, IfErr};
 ghost use Rattle.std.specs.Prelude.{OnOk, OnErr, Some, None, option_copied};
 ghost use Rattle.sspi_types.specs.Errors.{memory_error};
 ghost use Rattle.sspi_mech.specs.Answers.{IfRefused};
@@ -10,6 +10,7 @@ ghost use Rattle.sspi_mech.specs.Refusals.{refusal_of};
 ghost use Rattle.sspi_mech.specs.Answered.{IsRefusedAs, answered};
 ghost use Rattle.sspi_negotiate.specs.declared.protocol.Protocol.TheVariants as protocols;
 ghost use Rattle.sspi_negotiate.specs.Hand.{InPlaceOfNtlm, in_place_of_kerberos, hand, hand_of, asks_left};
+ghost use Rattle.sspi_negotiate.specs.Identity.{is_refused_identity};
 ghost use Rattle.sspi_negotiate.specs.Verified.{HasNoMic};
 
 use crate::protocol::NegotiatedProtocol;
@@ -18,8 +19,9 @@ use sspi_mech::{
     Mechanism, NtlmConfig, Refusal, Reply, Step, first_of, with_passwords,
 };
 use sspi_names::{Credentials, CredentialsBuffers, KdcTable, Username};
-use sspi_types::{CredentialUse, Error, ErrorKind, SecurityStatus, Text};
+use sspi_types::{CredentialUse, Error, ErrorKind, Reason, SecurityStatus, Text};
 use std::alloc::{AllocError, Global};
+use std::slice::from_ref;
 
 fn kerberos_config(
     alloc: Global,
@@ -202,6 +204,34 @@ impl<N: Mechanism, K: Mechanism> NegotiatedProtocol<N, K> {
             }
             NegotiatedProtocol::Kerberos(mechanism) => {
                 Ok(mechanism.set_identities(&first_of(identities))?)
+            }
+        }
+    }
+
+    /// The same of one identity. A keytab is refused while NTLM is in hand.
+    pub(crate) fn set_identity(&mut self, identity: &Credentials) -> Result<(), Refusal>
+        // What `Ok` holds.
+        ensures identified { OnOk result ((hand N.meaning K.meaning).identifies self.old (identity.now ∷ []) self.new) }
+        // What holds of every answer.
+        ensures count { (hand N.meaning K.meaning).counts self.new ≡ (hand N.meaning K.meaning).counts self.old }
+        // What a refusal says, and what it leaves.
+        ensures err { OnErr result (self.new ≡ self.old) }
+        ensures keytab { is_refused_identity (hand_of self.old) identity.now ≡ true →
+            IfErr result (λ error. error.error_type ≡ ErrorKind.IncompleteCredentials) × IsErr result }
+        ensures cause { let c = hand N.meaning K.meaning in is_refused_identity (hand_of self.old) identity.now ≡ false →
+            IfErr result (λ error. IsRefusedAs (c.permits self.old (ToIdentify (identity.now ∷ [])))
+            (c.refuses self.old (ToIdentify (identity.now ∷ []))) error.error_type) }
+    {
+        match self {
+            NegotiatedProtocol::Ntlm(mechanism) => match identity {
+                Credentials::AuthIdentity(_) => Ok(mechanism.set_identities(from_ref(identity))?),
+                Credentials::Keytab(_) => Err(Refusal::new(
+                    ErrorKind::IncompleteCredentials,
+                    Reason::NotPassword,
+                )),
+            },
+            NegotiatedProtocol::Kerberos(mechanism) => {
+                Ok(mechanism.set_identities(from_ref(identity))?)
             }
         }
     }

@@ -1,7 +1,9 @@
 // What a negotiation does with messages: what the mechanism in hand does.
-ghost use Rattle.std.specs.Prelude.{◌≡◌, IfOk, IfErr, OnErr};
+ghost use Rattle.std.specs.Prelude.{◌≡◌, IfOk, IfErr, OnErr, IsSome};
 ghost use Rattle.sspi_messages.specs.Messages.{to_encrypt, to_decrypt, to_sign, to_verify};
-ghost use Rattle.sspi_messages.specs.Messages.{Encrypts, Decrypts, Signs, Verifies, Refuses, IsRefusal};
+ghost use Rattle.sspi_messages.specs.Messages.{Encrypts, Decrypts, Signs, Verifies, Refuses, IsRefusal, IsJudged};
+ghost use Rattle.sspi_messages.specs.Buffers.{bytes_in};
+ghost use Rattle.sspi_types.specs.declared.buffer_type.BufferType.TheVariants.{Stream};
 ghost use Rattle.sspi_messages.specs.Protecting.{protecting};
 ghost use Rattle.sspi_negotiate.specs.Negotiate.{negotiate};
 
@@ -61,7 +63,8 @@ impl<N: Mechanism, K: Mechanism> Negotiate<N, K> {
     /// Of each type the first buffer without flags is taken; `InvalidToken` where Data is missing, where there is neither
     /// Stream nor Token, and for a blob of under 16 bytes, before the mechanism is asked. With the plain mechanisms
     /// `OutOfSequence` before there is a key, `ContextExpired` once all numbers of messages are used, `MessageAltered` for what
-    /// the peer did not seal as this message. Refused, the negotiation and all buffers are as they were.
+    /// the peer did not seal as this message. Out of memory never stands for the refusal of a blob in Stream; Token and Data
+    /// are joined first, which takes memory. Refused, the negotiation and all buffers are as they were.
     pub fn decrypt_message(
         &mut self,
         message: &mut [SecurityBuffer],
@@ -71,6 +74,8 @@ impl<N: Mechanism, K: Mechanism> Negotiate<N, K> {
             Decrypts (protecting (negotiate N.REQUESTS N.meaning K.meaning)) self.old message.old self.new message.new) }
         ensures refused { IfErr result (λ error.
             Refuses (protecting (negotiate N.REQUESTS N.meaning K.meaning)) (to_decrypt message.old) self.old error self.new) }
+        ensures judged { IfErr result (λ error. IsSome (bytes_in Stream message.old) →
+            IsJudged (protecting (negotiate N.REQUESTS N.meaning K.meaning)) self.old (to_decrypt message.old) error.error_type) }
         ensures buffers { OnErr result (message.new ≡ message.old) }
     {
         decrypt_message(self, message)
