@@ -2,6 +2,7 @@ ghost use Rattle.std.specs.Prelude.{List, [], ◌∷◌, Option, ◌≡◌, ◌�
 ghost use Rattle.std.specs.Prelude.{option_copied};
 ghost use Rattle.sspi_mech.specs.Calls.{step_args, accept_args, no_counts, one_sealing, one_unsealing};
 ghost use Rattle.sspi_mech.specs.Calls.{ToAcquire, ToName, ToIdentify, ToComplete, ToSeal, ToUnseal};
+ghost use Rattle.sspi_mech.specs.Answered.{IsRefusedAs};
 ghost use Rattle.sspi_mech.specs.Answers.{answer_of};
 ghost use Rattle.sspi_names.specs.declared.identity.AuthIdentity.{AuthIdentity};
 ghost use Rattle.sspi_credssp.specs.Refusal.{IsRefusedBy};
@@ -212,9 +213,9 @@ impl<N: Mechanism, K: Mechanism> SspiContext<N, K> {
         ensures codeless { IfErr result (λ error. error.nstatus ≡ None) }
         ensures keytab { is_refused_identity (protocol_of self.old) identity ≡ true →
             IfErr result (λ error. error.error_type ≡ ErrorKind.IncompleteCredentials) × IsErr result }
-        ensures cause { is_refused_identity (protocol_of self.old) identity ≡ false →
-            IfErr result (λ error. error.error_type ≢ ErrorKind.InsufficientMemory →
-            (either N.REQUESTS N.meaning K.meaning).refuses self.old (ToIdentify (identity ∷ [])) error.error_type) }
+        ensures cause { let c = either N.REQUESTS N.meaning K.meaning in is_refused_identity (protocol_of self.old) identity ≡ false →
+            IfErr result (λ error. IsRefusedAs (c.permits self.old (ToIdentify (identity ∷ [])))
+            (c.refuses self.old (ToIdentify (identity ∷ []))) error.error_type) }
     {
         match self {
             SspiContext::Negotiate(negotiation) => negotiation.custom_set_auth_identity(identity),
