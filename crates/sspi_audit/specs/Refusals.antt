@@ -55,7 +55,7 @@ ClientStops f t kind =
     (FindsOldServer f t kind ⊎ ClientStateRefuses f t f.state kind))
 
 abbrev pub ClientRefuses : ShownFrame → Turn → ErrorKind → Type 0
-ClientRefuses f t kind = (t.acts.sealed ≡ false) × ClientStops f t kind
+ClientRefuses f t kind = ((t.acts.sealed ≡ false) × (t.acts.proved ≡ false)) × ClientStops f t kind
 
 -- ---- a server (MS-CSSP 3.1.5.2)
 

@@ -73,11 +73,11 @@ fn client_state_refuses(frame: &Frame, turn: &Turn, kind: ErrorKind) -> bool
     }
 }
 
-/// A client's refusal of this kind, before it has sealed its credentials.
+/// A client's refusal of this kind, before it has sealed its proof or its credentials.
 pub(crate) fn client_refuses(frame: &Frame, turn: &Turn, kind: ErrorKind) -> bool
     ensures { IsTrue result ↔ ClientRefuses frame.now turn.now kind }
 {
-    !turn.acts.sealed && client_stops(frame, turn, kind)
+    !turn.acts.sealed && !turn.acts.proved && client_stops(frame, turn, kind)
 }
 
 fn client_stops(frame: &Frame, turn: &Turn, kind: ErrorKind) -> bool

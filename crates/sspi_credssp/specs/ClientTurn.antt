@@ -158,8 +158,8 @@ module _ {C : Type 0} (c : Meaning ContextSetting C) where
     -- a call that took no step only has the context count, and one whose step gave no answer has no token
     pub unstepped : new.acts.negotiated ≡ false → SameBut c old.context new.context
     pub unanswered : new.acts.status ≡ None → new.output ≡ []
-    -- once the credentials are sealed a call is not refused
-    pub ended : IfRefused out (new.acts.sealed ≡ false)
+    -- once its proof or its credentials are sealed a call is not refused
+    pub ended : IfRefused out ((new.acts.sealed ≡ false) × (new.acts.proved ≡ false))
 
   pub record ClientTurn (old : ClientView C) (d : TsRequest) (out : Outcome) (new : ClientView C) : Type 0 where
     pub turn : IsClientTurn (client_frame old new) (client_turn d out new)

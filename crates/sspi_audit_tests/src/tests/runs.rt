@@ -7,14 +7,16 @@ use crate::tests::ntlm::EXCHANGE;
 use crate::tests::records::are_judged_by_both;
 
 /// Records that no exchange leaves, of which `audit` does not ask: a client that was told an error, or another version, and opened the
-/// proof and sealed its credentials all the same; one that sealed them and was refused; a token without a step; and a last delivery of
-/// which 1048582 bytes were taken, ended or not.
+/// proof and sealed its credentials all the same; one that sealed them, or its own proof, and was refused; a token without a step; and
+/// a last delivery of which 1048582 bytes were taken, ended or not.
 const LEFT_BY_NONE: &str = "\
 yes4 no4 01234 abcd 4.given=U 4.outcome=InvalidToken 4.message=- d.delivered=U
 yes4 no4 01234 abcd 4.given=U 4.outcome=LogonDenied 4.message=- d.delivered=U
 yes4 no4 01234 abcd 4.given=V 4.outcome=MessageAltered 4.message=- d.delivered=V
 yes4 no4 01234 abcd 4.outcome=LogonDenied 4.message=-
 yes4 no4 01234 abcd 4.outcome=InsufficientMemory 4.message=-
+yes- no2 012 ab 2.outcome=LogonDenied 2.message=-
+yes- no2 012 ab 2.outcome=InsufficientMemory 2.message=-
 yes4 no4 012345 abcde 4.output=00
 yes4 no5 01234 abcde e.delivered=E+00*1048478
 yes4 no5 01234 abcde e.delivered=E+00*1048478 e.ended=no";
@@ -67,7 +69,8 @@ yes- yes- 012 ab 2.acts=- 2.output= 2.outcome=DowngradeDetected 2.message=-
 yes- no2 012 ab 2.acts=- 2.output= 2.outcome=LogonDenied 2.message=-
 yes- no2 012 ab 2.acts=step 2.output=00 2.outcome=LogonDenied 2.message=-
 yes- yes- 012 ab 2.acts=step 2.output= 2.outcome=LogonDenied 2.message=-
-yes- yes- 012 ab 2.acts=step,ok 2.outcome=LogonDenied 2.message=-";
+yes- yes- 012 ab 2.acts=step,ok 2.outcome=LogonDenied 2.message=-
+yes- yes- 012 ab 2.acts=step,ok 2.outcome=InsufficientMemory 2.message=-";
 
 /// A server's refusals: by its acts, its version in the error request, and what was taken of that, which no end reads.
 const SERVER_REFUSALS: &str = "\
