@@ -3,6 +3,7 @@ pub mod Asked
 pub mod Causes
 pub mod CheckedCode
 pub mod ClientReady
+pub mod ClientRefusals
 pub mod ContextLaws
 pub mod ClientHeeding
 pub mod CredentialRefusals

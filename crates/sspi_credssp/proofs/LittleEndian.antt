@@ -129,6 +129,33 @@ pub decremented-incremented : (bs : List ℕ) → AreBytes bs → decremented (i
 decremented-incremented bs h =
     rw (sym (carried-incremented bs h)) (sym (borrowed-decremented (carried bs) (carried-bytes bs h)) ∙ borrowed-carried bs h)
 
+borrowed-bytes : (bs : List ℕ) → AreBytes bs → AreBytes (borrowed bs)
+borrowed-bytes [] h = tt
+borrowed-bytes (b ∷ bs) h =
+    let in_range : b < 256 = h.0 in
+    elim (eqb_tells b 0) [
+      | inl w ↦ rw w.0 (lit< tt, borrowed-bytes bs h.1)
+      | inr w ↦ rw w.0 (omega arith, h.1)
+    ]
+
+below_last : (b : ℕ) → b < 256 → b ≢ 0 → eqb (b - 1) 255 ≡ false
+below_last b h d = elim (eqb_tells (b - 1) 255) [ inl w ↦ absurd (let e : b - 1 ≡ 255 = w.1 in omega arith) | inr w ↦ w.0 ]
+
+carried-borrowed : (bs : List ℕ) → AreBytes bs → carried (borrowed bs) ≡ bs
+carried-borrowed [] h = refl
+carried-borrowed (b ∷ bs) h =
+    let in_range : b < 256 = h.0 in
+    elim (eqb_tells b 0) [
+      | inl w ↦ rw w.0 (ap (λ xs. 0 ∷ xs) (carried-borrowed bs h.1) ∙ ap (λ x. x ∷ bs) (sym w.1))
+      | inr w ↦ rw (w.0, below_last b in_range w.1)
+          (ap (λ x. x ∷ bs) (let d : b ≢ 0 = w.1 in let e : b - 1 + 1 ≡ b = omega arith in e))
+    ]
+
+-- what was taken away is added again
+pub incremented-decremented : (bs : List ℕ) → AreBytes bs → incremented (decremented bs) ≡ bs
+incremented-decremented bs h =
+    rw (sym (borrowed-decremented bs h)) (sym (carried-incremented (borrowed bs) (borrowed-bytes bs h)) ∙ carried-borrowed bs h)
+
 -- where a walk stops it has written one more byte, and what it leaves stays
 pub carried_stops : (i : ℕ) (bs : List ℕ) → i < length bs → get_or bs i 0 ≢ 255 →
     take i bs ++ carried (drop i bs) ≡ set bs i (get_or bs i 0 + 1)

@@ -1,5 +1,5 @@
 -- What follows where a blob opens to one text.
-use Rattle.std.proofs.Common.{◌≡◌, ℕ, ◌-◌, List, Bool, true, false, Option, None, Some, Result, Ok, Err, OnErr, IfErr, sym, ◌∙◌, ap, subst}
+use Rattle.std.proofs.Common.{◌≡◌, ℕ, ◌-◌, List, Bool, true, Option, None, Some, Result, Ok, Err, OnErr, IfErr, sym, ◌∙◌, ap, subst}
 use Rattle.sspi_types.specs.declared.error_kind.ErrorKind.{ErrorKind}
 use Rattle.sspi_names.specs.declared.identity.AuthIdentity.{AuthIdentity}
 use Rattle.sspi_mech.specs.declared.refusal.Refusal.{Refusal}
@@ -41,19 +41,25 @@ module _ {C : Type 0} (c : Meaning ContextSetting C) (laws : IsContext c) where
   pub not_altered : (m : C) (blob proof : List ℕ) → c.opens m ((c.counts m).unsealings - 1) blob proof → OpensOther c m blob proof → ⊥
   not_altered m blob proof opens (opens_other text opened differs) = differs (laws.one_text m _ blob text proof opened opens)
 
-  pub owed_exactly : {acts acts2 : Acts} {same : Bool} (m m2 : C) (checked : Bool) (blob proof : List ℕ) (kind : ErrorKind) →
-      HasOpened c m m2 acts acts2 blob proof same → same ≡ true → AlteredExactly c checked m2 blob proof kind
-  owed_exactly m m2 false blob proof kind opened is = tt
-  owed_exactly m m2 true blob proof kind opened is = other_is_altered
-      (λ other. absurd (not_altered m2 blob proof (subst (λ (b : Bool). OpensAs c m2 blob proof b) is opened.holds) other))
+  pub owed_exactly : {acts acts2 : Acts} {same : Bool} (m m2 : C) (blob proof : List ℕ) (kind : ErrorKind) →
+      HasOpened c m m2 acts acts2 blob proof same → same ≡ true → AlteredExactly c acts2.checked m2 blob proof kind
+  owed_exactly m m2 blob proof kind opened is =
+      rw (ap (λ (a : Acts). a.checked) opened.noted) (other_is_altered
+      (λ other. absurd (not_altered m2 blob proof (subst (λ (b : Bool). OpensAs c m2 blob proof b) is opened.holds) other)))
+
+  -- whatever comes of the rest
+  pub owed_always : {T : Type 0} {acts acts2 : Acts} {same : Bool} (r : Result T Refusal) (m m2 : C) (blob proof : List ℕ) →
+      HasOpened c m m2 acts acts2 blob proof same → same ≡ true →
+      IfErr r (λ e. AlteredExactly c acts2.checked m2 blob proof e.error_type)
+  owed_always (Ok x) m m2 blob proof opened is = tt
+  owed_always (Err e) m m2 blob proof opened is = owed_exactly m m2 blob proof e.error_type opened is
 
   -- what the end then owes is sealed, or that is refused
-  pub sealed_exactly : {T : Type 0} {acts acts2 : Acts} {same : Bool} (r : Result T Refusal) (m m1 m2 : C) (checked : Bool)
-      (blob proof : List ℕ) → HasOpened c m m1 acts acts2 blob proof same → same ≡ true → OnErr r (m2 ≡ m1) →
-      IfErr r (λ e. AlteredExactly c checked m2 blob proof e.error_type)
-  sealed_exactly (Ok x) m m1 m2 checked blob proof opened is stays = tt
-  sealed_exactly (Err e) m m1 m2 checked blob proof opened is stays =
-      rw stays (owed_exactly m m1 checked blob proof e.error_type opened is)
+  pub sealed_exactly : {T : Type 0} {acts acts2 : Acts} {same : Bool} (r : Result T Refusal) (m m1 m2 : C) (blob proof : List ℕ) →
+      HasOpened c m m1 acts acts2 blob proof same → same ≡ true → OnErr r (m2 ≡ m1) →
+      IfErr r (λ e. AlteredExactly c acts2.checked m2 blob proof e.error_type)
+  sealed_exactly (Ok x) m m1 m2 blob proof opened is stays = tt
+  sealed_exactly (Err e) m m1 m2 blob proof opened is stays = rw stays (owed_exactly m m1 blob proof e.error_type opened is)
 
   pub only_unsealed : (m : C) (context : Option C) (blob proof : List ℕ) → SameBut c (Some m) context →
       OpensIn c context ((c.counts m).unsealings - 1) (Some blob) proof →

@@ -15,6 +15,7 @@ use Rattle.sspi_names.specs.Name.{bad_name, down_level}
 use Rattle.sspi_tsreq.specs.declared.mode.CredSspMode.{CredSspMode}
 use Rattle.sspi_tsreq.specs.declared.mode.CredSspMode.TheVariants.{WithCredentials, CredentialLess}
 use Rattle.sspi_tsreq.specs.Creds.{creds_text, creds_of, malformed}
+use Rattle.sspi_mech.specs.Answered.{IsRefusedAs}
 use Rattle.sspi_mech.specs.Calls.{ToUnseal}
 use Rattle.sspi_mech.specs.Meaning.{Meaning}
 use Rattle.sspi_credssp.specs.declared.public_key.EndpointType.{EndpointType}
@@ -115,8 +116,9 @@ module _ {S C : Type 0} (c : Meaning S C) where
   pub data OtherIsAltered (m : C) (blob proof : List ℕ) (kind : ErrorKind) : Type 0 where
     other_is_altered : (OpensOther m blob proof → kind ≡ MessageAltered) → OtherIsAltered m blob proof kind
 
+  -- a blob that the context does not open is out of memory only where the context would open it
   abbrev pub AlteredExactly : Bool → C → List ℕ → List ℕ → ErrorKind → Type 0
-  AlteredExactly false m blob proof kind = Unit {0}
+  AlteredExactly false m blob proof kind = IsRefusedAs (c.permits m (ToUnseal blob)) (c.refuses m (ToUnseal blob)) kind
   AlteredExactly true m blob proof kind = OtherIsAltered m blob proof kind
 
   -- why an exchange of proofs was refused, by whether the blob was opened

@@ -225,7 +225,8 @@ impl<N: Mechanism, K: Mechanism> CredSspClient<N, K> {
     /// and the kinds of sealing the proof. Where the server's proof is due, `InvalidToken` where it is absent or has under 16
     /// bytes, the kinds of opening it, `MessageAltered` where it is not the right one, and the kinds of the credentials' text
     /// and of sealing it. `OutOfSequence` once the last message was made. Out of memory may come in place of what stands
-    /// behind the version, but for the absent or short proof, the one that is not the right one, and that last one.
+    /// behind the version, but for the absent or short proof, the one that the context does not open, the one that is not the
+    /// right one, and that last one.
     ///
     /// A call that is refused while a turn is suspended, for the code or for the version only forgets what the last call did.
     /// Any other leaves the state, the mode and what was acquired before, and a context that it made stays. The request is

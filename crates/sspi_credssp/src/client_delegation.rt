@@ -47,13 +47,14 @@ impl<N: Mechanism, K: Mechanism> CredSspClient<N, K> {
         Ok(ClientState::FinalMessage(with_credentials(request, credentials)))
     }
 
-    // The proof that this end owes, by the key of the channel and the client's nonce.
-    pub(crate) fn proof_of(&self, end: EndpointType, version: u32) -> Result<Bytes, AllocError>
-        ensures { IfOk result (λ proof. proof ≡ prescribed end version self.now.settings.nonce self.now.settings.public_key) }
+    // The proof that the client owes, by the key of the channel and its nonce.
+    pub(crate) fn own_proof(&self, version: u32) -> Result<Bytes, AllocError>
+        ensures { IfOk result (λ proof.
+            proof ≡ prescribed EndpointType.Client version self.now.settings.nonce self.now.settings.public_key) }
     {
         prescribed_proof(
             self.alloc,
-            end,
+            EndpointType::Client,
             version,
             &self.client_nonce,
             self.public_key.as_slice(),
@@ -80,11 +81,20 @@ impl<N: Mechanism, K: Mechanism> CredSspClient<N, K> {
         let Some(version) = self.peer_version else {
             unreachable!()
         };
-        let proof = self.proof_of(EndpointType::Server, version)?;
         let Some(context) = &mut self.context else {
             unreachable!()
         };
-        if opens_to(context, &mut self.acts, blob, proof.as_slice())? {
+        let end = EndpointType::Server;
+        let key = self.public_key.as_slice();
+        if opens_to(
+            context,
+            &mut self.acts,
+            blob,
+            end,
+            version,
+            &self.client_nonce,
+            key,
+        )? {
             let text = write_credentials(self.alloc, &self.credentials, self.cred_ssp_mode)?;
             seal_text(context, &mut self.acts.sealed, &text)
         } else {

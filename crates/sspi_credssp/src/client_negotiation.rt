@@ -15,7 +15,6 @@ use crate::client::CredSspClient;
 use crate::client_state::{ClientState, Progress};
 use crate::context::SspiContext;
 use crate::proof::seal_text;
-use crate::public_key::EndpointType;
 use crate::request::{with_proof, with_tokens};
 use crate::state::CredSspState;
 use crate::token::{copy_token, token_of};
@@ -252,7 +251,7 @@ impl<N: Mechanism, K: Mechanism> CredSspClient<N, K> {
         let Some(version) = self.peer_version else {
             return Err(Refusal::new(ErrorKind::InternalError, Reason::NoVersion));
         };
-        let proof = self.proof_of(EndpointType::Client, version)?;
+        let proof = self.own_proof(version)?;
         let Some(context) = &mut self.context else {
             unreachable!()
         };

@@ -1,12 +1,14 @@
 // Proofs of the channel's key: the blob that holds the peer's, what it opens to, and the sealing of one's own.
-ghost use Rattle.std.specs.Prelude.{◌≡◌, ◌≢◌, ◌==◌, ◌-◌, None, Some, true, false, length, nat_lt, IsTrue, IfOk, IfErr, OnErr, OnOk};
+ghost use Rattle.std.specs.Prelude.{◌≡◌, ◌≢◌, ◌-◌, None, Some, true, length, nat_lt, IfOk, IfErr, OnErr, OnOk};
+ghost use Rattle.sspi_mech.specs.Answered.{IsRefusedAs};
 ghost use Rattle.sspi_mech.specs.Calls.{one_sealing, ToSeal, ToUnseal};
 ghost use Rattle.sspi_credssp.specs.Context.{either};
-ghost use Rattle.sspi_credssp.specs.Exchange.{BlobStops};
+ghost use Rattle.sspi_credssp.specs.Exchange.{BlobStops, prescribed};
 ghost use Rattle.sspi_credssp.specs.Opened.{IsLongBlob, IsSealedBlob, HasOpened};
 
 use crate::acts::Acts;
 use crate::context::SspiContext;
+use crate::public_key::{EndpointType, is_prescribed};
 use crate::versions::FIRST_HASHED_VERSION;
 use sspi_mech::{Mechanism, Refusal};
 use sspi_types::{Bytes, ErrorKind, Reason};
@@ -46,25 +48,30 @@ pub fn sealed_blob(field: &Option<Bytes>, absent: Reason) -> Result<&[u8], Refus
     long_enough(present(field, absent)?)
 }
 
-// Whether the blob opens to exactly this proof.
+// Whether the blob opens to exactly the proof that this end owes. Opening alone takes memory.
 pub fn opens_to<N: Mechanism, K: Mechanism>(
     context: &mut SspiContext<N, K>,
     acts: &mut Acts,
     blob: &[u8],
-    proof: &[u8],
+    end: EndpointType,
+    version: u32,
+    nonce: &[u8],
+    public_key: &[u8],
 ) -> Result<bool, Refusal>
     // What `Ok` holds.
     ensures opened { IfOk result (HasOpened (either N.REQUESTS N.meaning K.meaning)
-        context.old context.new acts.old acts.new blob.now proof.now) }
+        context.old context.new acts.old acts.new blob.now (prescribed end version nonce.now public_key.now)) }
     // What a refusal says, and what it leaves.
     ensures err { OnErr result (context.new ≡ context.old) }
     ensures err_acts { OnErr result (acts.new ≡ acts.old) }
     ensures cause { IfErr result (λ error. error.error_type ≢ ErrorKind.InsufficientMemory →
         (either N.REQUESTS N.meaning K.meaning).refuses context.new (ToUnseal blob.now) error.error_type) }
+    ensures exact { let c = either N.REQUESTS N.meaning K.meaning in IfErr result (λ error.
+        IsRefusedAs (c.permits context.new (ToUnseal blob.now)) (c.refuses context.new (ToUnseal blob.now)) error.error_type) }
 {
-    let text = context.unseal(blob)?;
+    let mut text = context.unseal(blob)?;
     acts.checked = true;
-    Ok(same_bytes(&text, proof))
+    Ok(is_prescribed(&mut text, end, version, nonce, public_key))
 }
 
 // Seals a text as the context's next message, and notes that it did.
@@ -90,13 +97,6 @@ pub fn seal_text<N: Mechanism, K: Mechanism>(
     let blob = context.seal(text)?;
     *noted = true;
     Ok(Bytes::from_vec(blob))
-}
-
-fn same_bytes(a: &[u8], b: &[u8]) -> bool
-    ensures same { IsTrue result → a.now ≡ b.now }
-    ensures other { result ≡ false → a.now ≢ b.now }
-{
-    a == b
 }
 
 pub fn altered(version: u32) -> Refusal

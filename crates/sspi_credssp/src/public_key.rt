@@ -1,4 +1,5 @@
-ghost use Rattle.std.specs.Prelude.{◌≡◌, ◌<◌, ℕ, List, All, IfOk};
+ghost use Rattle.std.specs.Prelude.{◌≡◌, ◌≢◌, ◌<◌, ◌++◌, ℕ, List, All, IfOk, IsTrue, false};
+ghost use Rattle.sha2.specs.Sha256.{sha256};
 ghost use Rattle.sspi_credssp.specs.Exchange.{magic, echo, incremented, decremented, prescribed};
 
 use crate::versions::FIRST_HASHED_VERSION;
@@ -40,9 +41,11 @@ pub fn integer_increment_le(buffer: &mut [u8])
     }
 }
 
-/// Takes one from a little-endian number, modulo 256 to the count of its bytes. An empty list stays empty.
+/// Takes one from a little-endian number, modulo 256 to the count of its bytes; adding one undoes it. An empty list stays
+/// empty.
 pub fn integer_decrement_le(buffer: &mut [u8])
-    ensures { buffer.new ≡ decremented buffer.old }
+    ensures taken { buffer.new ≡ decremented buffer.old }
+    ensures undone { incremented buffer.new ≡ buffer.old }
 {
     for byte in buffer.iter_mut() {
         if *byte != 0 {
@@ -83,12 +86,62 @@ pub(crate) fn prescribed_proof(
     if peer_version < FIRST_HASHED_VERSION {
         return echo_of(alloc, endpoint, public_key);
     }
+    Bytes::from_slice(alloc, &hash_of(endpoint, nonce, public_key))
+}
+
+/// Whether this text is the one that `endpoint` seals as its proof. Takes no memory, so what is no proof is told whatever
+/// memory there is. The text is not kept.
+#[tactic(auto, unfolding(crate::specs::Exchange::prescribed))]
+pub(crate) fn is_prescribed(
+    text: &mut [u8],
+    endpoint: EndpointType,
+    peer_version: u32,
+    nonce: &[u8],
+    public_key: &[u8],
+) -> bool
+    ensures same { IsTrue result → text.old ≡ prescribed endpoint peer_version nonce.now public_key.now }
+    ensures other { result ≡ false → text.old ≢ prescribed endpoint peer_version nonce.now public_key.now }
+{
+    if peer_version < FIRST_HASHED_VERSION {
+        return is_echo(text, endpoint, public_key);
+    }
+    same_bytes(text, &hash_of(endpoint, nonce, public_key))
+}
+
+fn hash_of(endpoint: EndpointType, nonce: &[u8], public_key: &[u8]) -> [u8; 32]
+    ensures { result ≡ sha256 (magic endpoint ++ nonce.now ++ public_key.now) }
+{
     let mut hasher = Sha256::new();
     hasher.update(&hash_magic(endpoint));
     hasher.update(nonce);
     hasher.update(public_key);
-    let hash = hasher.finalize();
-    Bytes::from_slice(alloc, &hash)
+    hasher.finalize()
+}
+
+fn is_echo(text: &mut [u8], endpoint: EndpointType, public_key: &[u8]) -> bool
+    ensures same { IsTrue result → text.old ≡ echo endpoint public_key.now }
+    ensures other { result ≡ false → text.old ≢ echo endpoint public_key.now }
+{
+    match endpoint {
+        EndpointType::Client => same_bytes(text, public_key),
+        EndpointType::Server => is_next(text, public_key),
+    }
+}
+
+// Whether the first number is the next one: what was added is taken away again.
+fn is_next(next: &mut [u8], number: &[u8]) -> bool
+    ensures same { IsTrue result → next.old ≡ incremented number.now }
+    ensures other { result ≡ false → next.old ≢ incremented number.now }
+{
+    integer_decrement_le(next);
+    same_bytes(next, number)
+}
+
+fn same_bytes(a: &[u8], b: &[u8]) -> bool
+    ensures same { IsTrue result → a.now ≡ b.now }
+    ensures other { result ≡ false → a.now ≢ b.now }
+{
+    a == b
 }
 
 fn echo_of(alloc: Global, endpoint: EndpointType, public_key: &[u8]) -> Result<Bytes, AllocError>

@@ -182,7 +182,8 @@ impl<N: Mechanism, K: Mechanism, C: CredentialsProxy> CredSspServer<N, K, C> {
     /// the own one. With the credentials `InvalidToken` where they are absent or have under 16 bytes, then the kinds of opening
     /// and of reading them. `UnsupportedFunction` once they were read. Out of memory may come in place of any of these but the
     /// two of the version, of a server that has its context, and, past the authentication, an absent or short proof, an absent
-    /// nonce, a proof that is not the right one, absent, short or altered credentials, and that last one.
+    /// nonce, a proof that the context does not open or that is not the right one, absent, short or altered credentials, and
+    /// that last one.
     ///
     /// A refusal hands the request back with its code. The state, the mode and what was acquired before stay, and a context
     /// that this call made stays with its credentials.

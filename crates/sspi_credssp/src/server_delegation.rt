@@ -3,7 +3,7 @@ ghost use Rattle.std.specs.Prelude.{◌≡◌, ◌≢◌, ◌-◌, [], None, Som
 ghost use Rattle.sspi_mech.specs.Calls.{ToSeal};
 ghost use Rattle.sspi_credssp.specs.Acts.{no_acts};
 ghost use Rattle.sspi_credssp.specs.Context.{either};
-ghost use Rattle.sspi_credssp.specs.Exchange.{AlteredExactly, BlobStops, OpensIdentity, ProofCause};
+ghost use Rattle.sspi_credssp.specs.Exchange.{AlteredExactly, BlobStops, OpensIdentity, ProofCause, prescribed};
 ghost use Rattle.sspi_credssp.specs.Opened.{Exchanges, Opens};
 ghost use Rattle.sspi_credssp.specs.Requests.{nonce_of};
 ghost use Rattle.sspi_credssp.specs.ServerCause.{OpenedCause, OpenedExact, lacks_nonce};
@@ -47,33 +47,46 @@ fn nonce_for(version: u32, nonce: &Option<[u8; 32]>) -> Result<&[u8], Refusal>
 
 // Opens the client's proof, and seals the server's if it is the one that the client owes.
 fn answer_proof<N: Mechanism, K: Mechanism>(
+    alloc: Global,
     context: &mut SspiContext<N, K>,
     acts: &mut Acts,
     blob: &[u8],
-    expected: &[u8],
-    proof: &[u8],
     version: u32,
+    nonce: &[u8],
+    public_key: &[u8],
 ) -> Result<Bytes, Refusal>
     // What must hold before.
     requires checked { acts.old.checked ≡ false }
     requires proved { acts.old.proved ≡ false }
     // What holds of every answer.
-    ensures exchanges { Exchanges (either N.REQUESTS N.meaning K.meaning) context.old blob.now expected.now context.new
-        acts.new.checked acts.new.proved result }
+    ensures exchanges { Exchanges (either N.REQUESTS N.meaning K.meaning) context.old blob.now
+        (prescribed EndpointType.Client version nonce.now public_key.now) context.new acts.new.checked acts.new.proved result }
     ensures acts { acts.new ≡ record acts.old { checked = acts.new.checked; proved = acts.new.proved } }
     // What `Ok` holds.
     ensures blob { let c = either N.REQUESTS N.meaning K.meaning in IfOk result (λ answer.
-        c.seals context.new ((c.counts context.new).sealings - 1) proof.now answer) }
+        c.seals context.new ((c.counts context.new).sealings - 1)
+        (prescribed EndpointType.Server version nonce.now public_key.now) answer) }
     // What a refusal says.
-    ensures cause { IfErr result (λ error. error.error_type ≢ ErrorKind.InsufficientMemory →
-        ProofCause (either N.REQUESTS N.meaning K.meaning) acts.new.checked context.new blob.now expected.now
-        ((either N.REQUESTS N.meaning K.meaning).refuses context.new (ToSeal proof.now) error.error_type) error.error_type) }
-    ensures exact { IfErr result (λ error.
-        AlteredExactly (either N.REQUESTS N.meaning K.meaning) acts.new.checked context.new blob.now expected.now error.error_type) }
+    ensures cause { let c = either N.REQUESTS N.meaning K.meaning in
+        IfErr result (λ error. error.error_type ≢ ErrorKind.InsufficientMemory →
+        ProofCause c acts.new.checked context.new blob.now (prescribed EndpointType.Client version nonce.now public_key.now)
+        (c.refuses context.new (ToSeal (prescribed EndpointType.Server version nonce.now public_key.now)) error.error_type)
+        error.error_type) }
+    ensures exact { IfErr result (λ error. AlteredExactly (either N.REQUESTS N.meaning K.meaning) acts.new.checked context.new
+        blob.now (prescribed EndpointType.Client version nonce.now public_key.now) error.error_type) }
     ensures ended { OnErr result (acts.new.proved ≡ false) }
 {
-    if opens_to(context, acts, blob, expected)? {
-        seal_text(context, &mut acts.proved, proof)
+    if opens_to(
+        context,
+        acts,
+        blob,
+        EndpointType::Client,
+        version,
+        nonce,
+        public_key,
+    )? {
+        let proof = prescribed_proof(alloc, EndpointType::Server, version, nonce, public_key)?;
+        seal_text(context, &mut acts.proved, proof.as_slice())
     } else {
         Err(altered(version))
     }
@@ -219,15 +232,14 @@ impl<N: Mechanism, K: Mechanism, C: CredentialsProxy> CredSspServer<N, K, C> {
         let nonce = nonce_for(version, &request.client_nonce)?;
         let blob = long_enough(blob)?;
         let key = self.public_key.as_slice();
-        let expected = prescribed_proof(self.alloc, EndpointType::Client, version, nonce, key)?;
-        let proof = prescribed_proof(self.alloc, EndpointType::Server, version, nonce, key)?;
         answer_proof(
+            self.alloc,
             context,
             &mut self.acts,
             blob,
-            expected.as_slice(),
-            proof.as_slice(),
             version,
+            nonce,
+            key,
         )
     }
 }

@@ -10,6 +10,6 @@ returns-clause-opened g c = record {
   count = c.in_ok-text.ensures.count;
   holds = opened_as (either g.N.Mechanism.REQUESTS g.N.Mechanism.meaning g.K.Mechanism.meaning) _ _ c.in_ok-text.text.items _ _
       c.in_ok-text.ensures.last
-      (λ same. sym c.deref.ensures.value ∙ c.same_bytes.ensures.same same)
-      (λ differs same. c.same_bytes.ensures.other differs (c.deref.ensures.value ∙ same));
+      (λ same. sym c.deref_mut.ensures.value ∙ c.is_prescribed.ensures.same same)
+      (λ differs same. c.is_prescribed.ensures.other differs (c.deref_mut.ensures.value ∙ same));
 }
