@@ -1,11 +1,12 @@
 -- The newest entry of a log whose entries are kept in a `Vec`, the first one first.
 use Rattle.std.proofs.Common.{◌≡◌, ℕ, ◌+◌, ◌<◌, ◌≤◌, suc, List, [], ◌∷◌, ◌++◌, length, get_or, set, take, reverse, sym, ◌∙◌, ap, arith}
-use Rattle.std.proofs.Common.{Result, Ok, Err, IfOk, OnErr, true}
+use Rattle.std.proofs.Common.{Result, Ok, Err, IfOk, OnErr, true, inl, inr}
 use Rattle.std.proofs.lemmas.List.{length-reverse, reverse-append, set_split, take_more, take_all, drop_all}
 use Rattle.sspi_delegate.specs.declared.carried.Carried.{Carried}
 use Rattle.sspi_delegate.specs.declared.link.LinkError.{LinkError}
+use Rattle.sspi_delegate.specs.declared.link.LinkError.TheVariants.{Failed, InsufficientMemory}
 use Rattle.sspi_delegate.specs.LogKeeping.{NewestDelivers}
-use Rattle.sspi_delegate.specs.Link.{IsReceived, IsReceivedOf, PieceGives}
+use Rattle.sspi_delegate.specs.Link.{DidOrKept, IsReceived, IsReceivedOf, PieceGives}
 use Rattle.sspi_delegate.specs.Log.{grown}
 
 pub reverse-last : {A : Type 0} (xs : List A) (n : ℕ) (x : A) → length xs ≡ n + 1 → x ≡ get_or xs n x → reverse xs ≡ x ∷ reverse (take n xs)
@@ -45,6 +46,14 @@ pub received_newest : {R : Type 0} (receives : R → ℕ → List ℕ → R → 
     reverse xs ≡ old → length xs ≡ n + 1 → e ≡ get_or xs n e → IfOk r (λ count. IsReceivedOf receives e.ended before count into now) →
     IfOk r (λ count. IsReceived receives old before count into now)
 received_newest receives before now old xs n e into r is size there received = rw (← is, reverse-last xs n e size there) received
+
+-- what a carrier did, and that it was not asked
+pub did : (error : LinkError) (Did Kept : Type 0) → Did → DidOrKept error Did Kept
+did Failed Did Kept h = h
+did InsufficientMemory Did Kept h = inl h
+
+pub kept : (error : LinkError) (Did Kept : Type 0) → error ≡ InsufficientMemory → Kept → DidOrKept error Did Kept
+kept error Did Kept is h = rw is (inr h)
 
 pub newest_delivers : (text : List ℕ) (xs : List Carried) (n : ℕ) (e : Carried) → length xs ≡ n + 1 →
     NewestDelivers text (e ∷ reverse (take n xs)) → NewestDelivers text (reverse (set xs n e))

@@ -12,8 +12,9 @@ use std::marker::Model;
 ///
 /// A call that answers `Failed` counts one fault, up to the last value of the count, and no other answer counts any.
 pub trait Carrier: Drop {
-    ghost use Rattle.std.specs.Prelude.{ℕ, List, ◌≤◌, length, IfOk, OnOk};
+    ghost use Rattle.std.specs.Prelude.{ℕ, List, ◌≤◌, length, IfOk, IfErr, OnOk};
     ghost use Rattle.sspi_credssp.specs.declared.turn.End.{End};
+    ghost use Rattle.sspi_delegate.specs.declared.link.LinkError.{LinkError};
     ghost use Rattle.sspi_delegate.specs.Link.{LinkCause};
 
     ghost faults: { Self → ℕ };
@@ -24,19 +25,25 @@ pub trait Carrier: Drop {
     /// What receiving so many bytes, the front of these, makes of it.
     ghost receives: { Self → ℕ → List ℕ → Self → Type 0 };
 
+    /// What it leaves of the carrier that sending, or receiving, is refused with this error.
+    ghost refuses: { Self → LinkError → Self → Type 0 };
+
     /// Sends a whole message from this end. What was left of the last one is not to be received any more.
     fn send(&mut self, from: End, sent: &[u8]) -> Result<(), LinkError>
         ensures sends { OnOk result (sends self.old from sent.now self.new) }
+        ensures refuses { IfErr result (λ error. refuses self.old error self.new) }
         ensures cause { LinkCause (faults self.old) (faults self.new) result };
 
     /// Writes the next bytes of the message to the front of `into`, and answers how many they are; none is its end.
     fn receive(&mut self, into: &mut [u8]) -> Result<usize, LinkError>
         ensures bound { IfOk result (λ count. count ≤ length into.new) }
         ensures receives { IfOk result (λ count. receives self.old count into.new self.new) }
+        ensures refuses { IfErr result (λ error. refuses self.old error self.new) }
         ensures cause { LinkCause (faults self.old) (faults self.new) result };
 }
 
-/// A link over a carrier, which keeps the log. A call that is refused leaves the log.
+/// A link over a carrier, which keeps the log. A call that is refused leaves the log, and where memory is wanting for the log the
+/// carrier is not asked.
 #[derive(Drop)]
 pub struct KeptLink<R: Carrier> {
     alloc: Global,
@@ -73,8 +80,8 @@ impl<R: Carrier> KeptLink<R> {
 }
 
 impl<R: Carrier> Link for KeptLink<R> {
-    ghost use Rattle.std.specs.Prelude.{◌≡◌, [], ◌∷◌, None, Ok, IfOk, OnOk, OnErr};
-    ghost use Rattle.sspi_delegate.specs.Link.{IsReceived, LinkCause, PieceGives};
+    ghost use Rattle.std.specs.Prelude.{◌≡◌, [], ◌∷◌, None, Ok, IfOk, IfErr, OnOk, OnErr};
+    ghost use Rattle.sspi_delegate.specs.Link.{DidOrKept, IsReceived, LinkCause, PieceGives};
     ghost use Rattle.sspi_delegate.specs.Log.{begun};
 
     ghost log = { λ link. link.log };
@@ -85,11 +92,14 @@ impl<R: Carrier> Link for KeptLink<R> {
 
     ghost most = { λ _. None };
 
+    #[tactic(auto, using(crate::proofs::Newest::did, crate::proofs::Newest::kept))]
     fn carry(&mut self, from: End, sent: &[u8]) -> Result<(), LinkError>
         ensures ok { OnOk result (self.new.log ≡ begun from sent.now ∷ self.old.log) }
         ensures err { OnErr result (self.new.log ≡ self.old.log) }
         ensures cause { LinkCause (R.faults self.old.carrier) (R.faults self.new.carrier) result }
         ensures sends { OnOk result (R.sends self.old.carrier from sent.now self.new.carrier) }
+        ensures refuses { IfErr result (λ error.
+            DidOrKept error (R.refuses self.old.carrier error self.new.carrier) (self.new.carrier ≡ self.old.carrier)) }
     {
         let sent_copy = Bytes::from_slice(self.alloc, sent)?;
         self.log.reserve()?;
@@ -108,6 +118,8 @@ impl<R: Carrier> Link for KeptLink<R> {
         ensures cause { LinkCause (R.faults self.old.carrier) (R.faults self.new.carrier) result }
         ensures none { self.old.log ≡ [] → (result ≡ Ok 0) × (self.new ≡ self.old) }
         ensures receives { IfOk result (λ count. IsReceived R.receives self.old.log self.old.carrier count into.new self.new.carrier) }
+        ensures refuses { IfErr result (λ error.
+            DidOrKept error (R.refuses self.old.carrier error self.new.carrier) (self.new.carrier ≡ self.old.carrier)) }
     {
         self.log.receive(&mut self.carrier, into)
     }

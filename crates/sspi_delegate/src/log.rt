@@ -1,5 +1,5 @@
 ghost use Rattle.std.specs.Prelude.{◌≡◌, ◌<◌, ◌≤◌, [], ◌∷◌, length, reverse, true, IfOk, IfErr, OnOk, OnErr};
-ghost use Rattle.sspi_delegate.specs.Link.{IsReceived, IsReceivedOf, LinkCause, PieceGives, Delivers};
+ghost use Rattle.sspi_delegate.specs.Link.{DidOrKept, IsReceived, IsReceivedOf, LinkCause, PieceGives, Delivers};
 ghost use Rattle.sspi_delegate.specs.LogKeeping.{NewestDelivers};
 ghost use Rattle.sspi_delegate.specs.Log.{grown};
 
@@ -80,6 +80,7 @@ impl Log {
     ) -> Result<usize, LinkError>
         ensures gives { PieceGives self.old.entries self.new.entries result into.new }
         ensures receives { IfOk result (λ count. IsReceived R.receives self.old.entries carrier.old count into.new carrier.new) }
+        ensures refuses { IfErr result (λ error. DidOrKept error (R.refuses carrier.old error carrier.new) (carrier.new ≡ carrier.old)) }
         ensures cause { LinkCause (R.faults carrier.old) (R.faults carrier.new) result }
         ensures none { self.old.entries ≡ [] → (result ≡ Ok 0) × (self.new ≡ self.old) × (carrier.new ≡ carrier.old) }
     {
@@ -129,6 +130,7 @@ fn hand_out(
 }
 
 /// Memory for what may come is taken before it is asked for.
+#[tactic(auto, using(crate::proofs::Newest::did, crate::proofs::Newest::kept))]
 fn receive<R: Carrier>(
     entry: &mut Carried,
     carrier: &mut R,
@@ -137,6 +139,7 @@ fn receive<R: Carrier>(
     ensures ok { IfOk result (λ n. (n ≤ length into.new) × (entry.old.ended ≡ true → n ≡ 0) × (entry.new ≡ grown entry.old n into.new)) }
     ensures err { OnErr result (entry.new ≡ entry.old) }
     ensures receives { IfOk result (λ count. IsReceivedOf R.receives entry.old.ended carrier.old count into.new carrier.new) }
+    ensures refuses { IfErr result (λ error. DidOrKept error (R.refuses carrier.old error carrier.new) (carrier.new ≡ carrier.old)) }
     ensures cause { LinkCause (R.faults carrier.old) (R.faults carrier.new) result }
 {
     if entry.ended {

@@ -210,6 +210,8 @@ impl Carrier for Echo {
 
     ghost receives = { λ before count _ carrier. carrier.text ≡ before.text };
 
+    ghost refuses = { λ _ _ _. Unit {0} };
+
     fn send(&mut self, _from: End, sent: &[u8]) -> Result<(), LinkError> {
         if fails(&mut self.sends_left) {
             self.faults = self.faults.saturating_add(1);

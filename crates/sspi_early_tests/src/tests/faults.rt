@@ -24,6 +24,8 @@ impl Carrier for Failing {
 
     ghost receives = { λ before _ _ now. (now.from ≡ before.from) × (now.faults ≡ before.faults) };
 
+    ghost refuses = { λ before _ now. now.from ≡ before.from };
+
     fn send(&mut self, _from: End, _sent: &[u8]) -> Result<(), LinkError> {
         Ok(())
     }
