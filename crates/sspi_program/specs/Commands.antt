@@ -1,11 +1,12 @@
 -- The words of the program, and what they ask for.
-use Rattle.std.specs.Prelude.{ℕ, ◌&&◌, nat_le, List, [], ◌∷◌, codes, map, Option, None, Some, String, string_bytes, if◌then◌else◌}
+use Rattle.std.specs.Prelude.{ℕ, ◌+◌, ◌&&◌, nat_le, List, [], ◌∷◌, codes, map, Option, None, Some, String, string_bytes, if◌then◌else◌}
 use Rattle.std.specs.Option.{option_map}
 use Rattle.std.specs.Str.{bytes_eq}
 use Rattle.sspi_program.specs.declared.command.Command.{Command}
-use Rattle.sspi_program.specs.declared.command.Command.TheVariants.{Told, Gen}
+use Rattle.sspi_program.specs.declared.command.Command.TheVariants.{Told, Gen, Explain}
 use Rattle.sspi_program.specs.declared.command.Task.{Task}
 use Rattle.sspi_program.specs.declared.command.Task.TheVariants.{Delegate, Play, Gate, Audit, Early, Desk}
+use Rattle.sspi_scenario.specs.Reading.{text_limit}
 use Rattle.sspi_scenario.specs.Numbers.{number_of}
 use Rattle.sspi_scenario.specs.declared.purpose.Purpose.{Purpose}
 use Rattle.sspi_scenario.specs.declared.purpose.Purpose.TheVariants as purposes
@@ -45,10 +46,13 @@ numbered_command word digits =
     else if bytes_eq word (codes "desk") then option_map desk_of (counted most_sessions digits)
     else None
 
--- one word names a task
+-- a word alone, which names a task or is `explain`
+unfoldable pub command_named : List ℕ → Option Command
+command_named word = if bytes_eq word (codes "explain") then Some Explain else option_map Told (task_named word)
+
 abbrev pub command_in : List (List ℕ) → Option Command
 command_in [] = None
-command_in (word ∷ []) = option_map Told (task_named word)
+command_in (word ∷ []) = command_named word
 command_in (word ∷ digits ∷ []) = numbered_command word digits
 command_in (word ∷ second ∷ third ∷ more) = None
 
@@ -60,6 +64,26 @@ abbrev pub task_in : Option Command → Option Task
 task_in None = None
 task_in (Some (Told task)) = Some task
 task_in (Some (Gen count)) = None
+task_in (Some Explain) = None
+
+-- the text whose messages are explained has at most so many bytes, 2 MiB
+abbrev pub explain_limit : ℕ
+explain_limit = 2097152
+
+-- how many bytes the text of the source may have, where a command reads it
+abbrev pub limit_of : Command → Option ℕ
+limit_of (Told task) = Some text_limit
+limit_of (Gen count) = None
+limit_of Explain = Some explain_limit
+
+abbrev pub limit_in : Option Command → Option ℕ
+limit_in None = None
+limit_in (Some command) = limit_of command
+
+-- how many bytes of the source are taken at most: one more than its text may have
+abbrev pub most_taken : Option ℕ → ℕ
+most_taken None = 0
+most_taken (Some limit) = limit + 1
 
 abbrev pub purpose_of : Task → Purpose
 purpose_of Delegate = purposes.Exchange

@@ -11,6 +11,7 @@ pub mod Gate
 pub mod Audit
 pub mod Early
 pub mod Generate
+pub mod Explain
 pub mod Promises
 pub mod Run
 pub mod Telling

@@ -1,8 +1,9 @@
 -- What each command promises where it has its way.
-use Rattle.std.specs.Prelude.{ℕ, List, Option, IfSome, IsSome, IsSomeAnd}
+use Rattle.std.specs.Prelude.{◌≡◌, ℕ, List, Option, IfSome, IsSome, IsSomeAnd}
 use Rattle.sspi_scenario.specs.declared.scenario.Scenario.{Scenario}
 use Rattle.sspi_program.specs.declared.command.Command.{Command}
-use Rattle.sspi_program.specs.declared.command.Command.TheVariants.{Told, Gen}
+use Rattle.sspi_program.specs.declared.command.Command.TheVariants.{Told, Gen, Explain}
+use Rattle.sspi_program.specs.declared.command.Task.{Task}
 use Rattle.sspi_program.specs.declared.command.Task.TheVariants.{Delegate, Play, Gate, Audit, Early, Desk}
 use Rattle.sspi_program.specs.declared.record.Conducted.{Conducted}
 use Rattle.sspi_program.specs.declared.record.Record.{Record}
@@ -10,9 +11,10 @@ use Rattle.sspi_program.specs.Audit.{IsAudited}
 use Rattle.sspi_program.specs.Desk.{HasSeats, SeatsDue}
 use Rattle.sspi_program.specs.Delegate.{HasExchange, DelegateEnds}
 use Rattle.sspi_program.specs.Early.{HasEarly, IsEarlyTold, EarlyEnds}
+use Rattle.sspi_program.specs.Explain.{ExplainDue, ExplainEnds}
 use Rattle.sspi_program.specs.Gate.{IsGated, GateEnds}
 use Rattle.sspi_program.specs.Generate.{AreNumbered, TallyDue}
-use Rattle.sspi_program.specs.Kept.{HasRecordAlone, HasTallyAlone, HasSeatsAlone}
+use Rattle.sspi_program.specs.Kept.{nothing, HasRecordAlone, HasTallyAlone, HasSeatsAlone}
 use Rattle.sspi_program.specs.Play.{HasPlay, PlayEnds}
 use Rattle.sspi_program.specs.Said.{status_of, RecordDue, IsDue}
 use Rattle.sspi_program.specs.Status.{IsUnlessWrite}
@@ -40,24 +42,30 @@ Keeps (Told Audit) IsOf conducted = KeepsRecord HasExchange IsOf conducted
 Keeps (Told Early) IsOf conducted = KeepsRecord HasEarly IsOf conducted
 Keeps (Told (Desk count)) IsOf conducted = KeepsSeats count IsOf conducted
 Keeps (Gen count) IsOf conducted = KeepsTally (AreNumbered count) conducted
+Keeps Explain IsOf conducted = conducted ≡ nothing conducted.status
 
 -- a record is kept for which these are due
 abbrev pub KeptDue : (Record → ℕ → List ℕ → Type 0) → Option Record → ℕ → List ℕ → Type 0
 KeptDue D kept status text = IsSomeAnd kept (λ k. D k status text)
 
--- the status, 0 or 1, and the text that are due for what a command keeps
-abbrev pub Due : Command → Conducted → ℕ → List ℕ → Type 0
-Due (Told Delegate) conducted status text = KeptDue RecordDue conducted.kept status text
-Due (Told Play) conducted status text = KeptDue RecordDue conducted.kept status text
-Due (Told Gate) conducted status text = KeptDue IsGated conducted.kept status text
-Due (Told Audit) conducted status text = KeptDue IsAudited conducted.kept status text
-Due (Told Early) conducted status text = KeptDue IsEarlyTold conducted.kept status text
-Due (Told (Desk count)) conducted status text = IsSomeAnd conducted.seats (λ seats. SeatsDue seats status text)
-Due (Gen count) conducted status text = IsSomeAnd conducted.tally (λ tally. TallyDue tally status text)
+-- the status, 0 or 1, and the text that are due for what a task keeps
+abbrev pub TaskDue : Task → Conducted → ℕ → List ℕ → Type 0
+TaskDue Delegate conducted status text = KeptDue RecordDue conducted.kept status text
+TaskDue Play conducted status text = KeptDue RecordDue conducted.kept status text
+TaskDue Gate conducted status text = KeptDue IsGated conducted.kept status text
+TaskDue Audit conducted status text = KeptDue IsAudited conducted.kept status text
+TaskDue Early conducted status text = KeptDue IsEarlyTold conducted.kept status text
+TaskDue (Desk count) conducted status text = IsSomeAnd conducted.seats (λ seats. SeatsDue seats status text)
+
+-- the same of a command, where the source has this left
+abbrev pub Due : Command → Option (List ℕ) → Conducted → ℕ → List ℕ → Type 0
+Due (Told task) left conducted status text = TaskDue task conducted status text
+Due (Gen count) left conducted status text = IsSomeAnd conducted.tally (λ tally. TallyDue tally status text)
+Due Explain left conducted status text = ExplainDue left status text
 
 -- what a command made of a scenario that is such
-abbrev pub Does : Command → (Scenario → Type 0) → Conducted → List ℕ → Type 0
-Does command IsOf conducted text = Keeps command IsOf conducted × IsDue (Due command conducted) conducted.status text
+abbrev pub Does : Command → Option (List ℕ) → (Scenario → Type 0) → Conducted → List ℕ → Type 0
+Does command left IsOf conducted text = Keeps command IsOf conducted × IsDue (Due command left conducted) conducted.status text
 
 -- what the status is where the source tells its text
 abbrev pub EndsSo : Command → Option (List ℕ) → ℕ → Type 0
@@ -68,3 +76,4 @@ EndsSo (Told Audit) left status = IfSome left (λ text. DelegateEnds text status
 EndsSo (Told Early) left status = IfSome left (λ text. EarlyEnds text status)
 EndsSo (Told (Desk count)) left status = Unit {0}
 EndsSo (Gen count) left status = IsUnlessWrite 0 status
+EndsSo Explain left status = IfSome left (λ text. ExplainEnds text status)

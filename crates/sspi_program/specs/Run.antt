@@ -1,18 +1,20 @@
 -- What a run comes to, by its command and by what its source and its sink show.
-use Rattle.std.specs.Prelude.{◌≡◌, ◌⊎◌, ℕ, ◌≤◌, List, Option, None, Some, IfSome, IsSome, IsSomeAnd, Ok, Err}
+use Rattle.std.specs.Prelude.{◌≡◌, ◌⊎◌, ℕ, ◌≤◌, false, List, Option, None, Some, IfSome, IsSome, IsSomeAnd, Ok, Err}
 use Rattle.sspi_ber.specs.Outside.{Rose, Wrote, WroteFront}
 use Rattle.sspi_scenario.specs.declared.purpose.Purpose.{Purpose}
 use Rattle.sspi_scenario.specs.declared.scenario.Scenario.{Scenario}
 use Rattle.sspi_scenario.specs.Reading.{IsReadWhole}
 use Rattle.sspi_scenario.specs.Scenario.{scenario_of}
 use Rattle.sspi_program.specs.declared.command.Command.{Command}
+use Rattle.sspi_program.specs.declared.command.Command.TheVariants.{Told, Gen, Explain}
 use Rattle.sspi_program.specs.declared.record.Conducted.{Conducted}
 use Rattle.sspi_program.specs.declared.said.Said.{Said}
-use Rattle.sspi_program.specs.declared.said.Said.TheVariants.{Done, NoScenario, ReadFault, OtherWords, NoMemory}
-use Rattle.sspi_program.specs.Commands.{task_in, purpose_of}
+use Rattle.sspi_program.specs.declared.said.Said.TheVariants.{Done, NoScenario, NoText, ReadFault, OtherWords, NoMemory}
+use Rattle.sspi_program.specs.Commands.{task_in, purpose_of, limit_in}
+use Rattle.sspi_program.specs.Explain.{is_explainable}
 use Rattle.sspi_program.specs.Kept.{nothing}
 use Rattle.sspi_program.specs.Promises.{Keeps, Does, Due, EndsSo}
-use Rattle.sspi_program.specs.Said.{said_text, said_status, conducted_as, words_text, read_text, line_text}
+use Rattle.sspi_program.specs.Said.{said_text, said_status, conducted_as, words_text, read_text, line_text, no_text}
 use Rattle.sspi_program.specs.Status.{IsUnlessWrite, IsUnlessFault}
 
 -- what the source and the sink of a run show at one moment: the bytes that are left and those that were written, where these are
@@ -40,22 +42,28 @@ IsToldFor command left scenario = IfSome (task_in command) (λ task. IsTold (pur
 abbrev pub NoneTold : Purpose → Option (List ℕ) → ℕ → Type 0
 NoneTold purpose left line = IfSome left (λ text. scenario_of purpose text ≡ Err line)
 
+-- the text of the source cannot be explained
+abbrev pub HasNoText : Option (List ℕ) → Type 0
+HasNoText left = IfSome left (λ text. is_explainable text ≡ false)
+
 -- what the words and the text of the source come to
 abbrev pub Comes : Option Command → Option (List ℕ) → ℕ → ℕ → Said → Type 0
 Comes command left faults faults2 (Done conducted text) =
-    IsSomeAnd command (λ c. Does c (IsToldFor command left) conducted text.items)
+    IsSomeAnd command (λ c. Does c left (IsToldFor command left) conducted text.items)
 Comes command left faults faults2 (NoScenario line) = IsSomeAnd (task_in command) (λ task. NoneTold (purpose_of task) left line)
-Comes command left faults faults2 ReadFault = IsSome (task_in command) × Rose faults faults2
+Comes command left faults faults2 NoText = (command ≡ Some Explain) × HasNoText left
+Comes command left faults faults2 ReadFault = IsSome (limit_in command) × Rose faults faults2
 Comes command left faults faults2 OtherWords = command ≡ None
 Comes command left faults faults2 NoMemory = IsSome command
 
--- a text is due with what is said: of a command, for what is kept of it
-abbrev pub HasText : Option Command → Said → Type 0
-HasText command (Done conducted text) = IsSomeAnd command (λ c. Due c conducted conducted.status text.items)
-HasText command (NoScenario line) = Unit {0}
-HasText command ReadFault = Unit {0}
-HasText command OtherWords = Unit {0}
-HasText command NoMemory = ⊥
+-- a text is due with what is said: of a command, for what is kept of it and what the source has left
+abbrev pub HasText : Option Command → Option (List ℕ) → Said → Type 0
+HasText command left (Done conducted text) = IsSomeAnd command (λ c. Due c left conducted conducted.status text.items)
+HasText command left (NoScenario line) = Unit {0}
+HasText command left NoText = Unit {0}
+HasText command left ReadFault = Unit {0}
+HasText command left OtherWords = Unit {0}
+HasText command left NoMemory = ⊥
 
 -- ---- what a run promises
 
@@ -74,19 +82,30 @@ pub record WroteLine (purpose : Purpose) (before after : Outside) : Type 0 where
   pub refused : NoneTold purpose before.left line
   pub wrote : Wrote before.written after.written (line_text line)
 
+-- the text of the source is none for a command: a line of it was named, or that it cannot be explained
+abbrev pub WroteRefusal : Command → Outside → Outside → Type 0
+WroteRefusal (Told task) before after = WroteLine (purpose_of task) before after
+WroteRefusal (Gen count) before after = ⊥
+WroteRefusal Explain before after = HasNoText before.left × Wrote before.written after.written no_text
+
+-- a command refuses a text that is none for it
+abbrev pub RefusesText : Command → ℕ → List ℕ → Type 0
+RefusesText (Told task) status text = (line : ℕ) → scenario_of (purpose_of task) text ≡ Err line → IsUnlessFault 2 status
+RefusesText (Gen count) status text = Unit {0}
+RefusesText Explain status text = is_explainable text ≡ false → IsUnlessFault 2 status
+
 -- when each status comes, of any command
 pub record HasStatus (command : Option Command) (before after : Outside) (status : ℕ) : Type 0 where
   pub most : status ≤ 6
   -- up to 2: the whole text was read, where one is
-  pub whole : status ≤ 2 → IsSome (task_in command) → IsReadWhole before.left after.left
-  -- 2: the text is no scenario
-  pub two : status ≡ 2 → IsSomeAnd (task_in command) (λ task. WroteLine (purpose_of task) before after)
-  pub no_scenario : IfSome (task_in command) (λ task.
-      IfSome before.left (λ text. (line : ℕ) → scenario_of (purpose_of task) text ≡ Err line → IsUnlessFault 2 status))
+  pub whole : status ≤ 2 → IfSome (limit_in command) (λ limit. IsReadWhole limit before.left after.left)
+  -- 2: the text is no scenario, or cannot be explained
+  pub two : status ≡ 2 → IsSomeAnd command (λ c. WroteRefusal c before after)
+  pub refused : IfSome command (λ c. IfSome before.left (RefusesText c status))
   -- up to 2: no read failed
   pub read : status ≤ 2 → after.read_faults ≡ before.read_faults
   -- 3: the source failed
-  pub three : status ≡ 3 → IsSome (task_in command) × Rose before.read_faults after.read_faults ×
+  pub three : status ≡ 3 → IsSome (limit_in command) × Rose before.read_faults after.read_faults ×
       Wrote before.written after.written read_text
   -- 4: the sink failed, and at any other status it did not
   pub four : status ≡ 4 → Rose before.write_faults after.write_faults
@@ -108,7 +127,7 @@ pub record WroteOwed (command : Option Command) (before after : Outside) (conduc
   pub owed : Comes command before.left before.read_faults after.read_faults said
   pub keeps : conducted ≡ conducted_as conducted.status said
   -- where the sink failed there was a text, and what it is due for is kept
-  pub told : conducted.status ≡ 4 → HasText command said
+  pub told : conducted.status ≡ 4 → HasText command before.left said
   pub wrote : Written (said_status said) (said_text said) before.written after.written before.write_faults after.write_faults
       conducted.status
 
@@ -117,7 +136,7 @@ pub record IsRun (command : Option Command) (before after : Outside) (conducted 
   pub statuses : HasStatus command before after conducted.status
   -- what is kept at any status, and at 0 and 1 the status and the text that are due for it
   pub kept : KeepsOnly command before.left conducted
-  pub reported : conducted.status ≤ 1 → IsSomeAnd command (λ c. IsReported (Due c conducted) conducted.status before after)
+  pub reported : conducted.status ≤ 1 → IsSomeAnd command (λ c. IsReported (Due c before.left conducted) conducted.status before after)
   -- the status where the source tells its text
   pub ends : IfSome command (λ c. EndsSo c before.left conducted.status)
   pub owed : WroteOwed command before after conducted

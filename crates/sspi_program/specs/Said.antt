@@ -17,7 +17,7 @@ use Rattle.sspi_program.specs.declared.record.RunOutcome.{RunOutcome}
 use Rattle.sspi_program.specs.declared.record.RunOutcome.TheVariants as outcomes
 use Rattle.sspi_program.specs.declared.record.RunOutcome.TheVariants.{Delegated, Played}
 use Rattle.sspi_program.specs.declared.said.Said.{Said}
-use Rattle.sspi_program.specs.declared.said.Said.TheVariants.{Done, NoScenario, ReadFault, OtherWords, NoMemory}
+use Rattle.sspi_program.specs.declared.said.Said.TheVariants.{Done, NoScenario, NoText, ReadFault, OtherWords, NoMemory}
 use Rattle.sspi_program.specs.Kept.{nothing, with_status}
 
 abbrev pub with_newline : List ℕ → List ℕ
@@ -28,6 +28,9 @@ words_text = with_newline (codes "error: words")
 
 abbrev pub read_text : List ℕ
 read_text = with_newline (codes "error: read")
+
+abbrev pub no_text : List ℕ
+no_text = with_newline (codes "error: text")
 
 abbrev pub line_text : ℕ → List ℕ
 line_text line = with_newline (codes "error: scenario line " ++ decimal line)
@@ -84,6 +87,7 @@ IsDue D status text = D status text ⊎ ((status ≡ 5) × (text ≡ []))
 abbrev pub said_text : Said → List ℕ
 said_text (Done conducted text) = text.items
 said_text (NoScenario line) = line_text line
+said_text NoText = no_text
 said_text ReadFault = read_text
 said_text OtherWords = words_text
 said_text NoMemory = []
@@ -92,6 +96,7 @@ said_text NoMemory = []
 abbrev pub said_status : Said → ℕ
 said_status (Done conducted text) = conducted.status
 said_status (NoScenario line) = 2
+said_status NoText = 2
 said_status ReadFault = 3
 said_status OtherWords = 6
 said_status NoMemory = 5
@@ -100,6 +105,7 @@ said_status NoMemory = 5
 abbrev pub conducted_as : ℕ → Said → Conducted
 conducted_as status (Done conducted text) = with_status status conducted
 conducted_as status (NoScenario line) = nothing status
+conducted_as status NoText = nothing status
 conducted_as status ReadFault = nothing status
 conducted_as status OtherWords = nothing status
 conducted_as status NoMemory = nothing status

@@ -1,6 +1,8 @@
+//! What the words of the program ask for.
 ghost use Rattle.std.specs.Prelude.{◌≡◌};
 ghost use Rattle.sspi_program.specs.Commands;
-ghost use Rattle.sspi_program.specs.Commands.{command_of, counted, numbered_command, task_named};
+ghost use Rattle.sspi_program.specs.Commands.{command_named, command_of, counted};
+ghost use Rattle.sspi_program.specs.Commands.{numbered_command, task_named};
 ghost use Rattle.sspi_program.specs.declared.command.TheConstants.{MOST_SCENARIOS, MOST_SESSIONS};
 
 use sspi_scenario::Purpose;
@@ -19,6 +21,8 @@ pub enum Command {
     Told(Task),
     /// The exchanges of so many scenarios, which are made of their numbers. The source is not read.
     Gen(u32),
+    /// What the messages in the text of the source say.
+    Explain,
 }
 
 /// What is done with a scenario.
@@ -57,13 +61,21 @@ pub fn command_of(words: &[String]) -> Option<Command>
     ensures { result ≡ command_of words.now }
 {
     match words {
-        [word] => match task_named(word.as_str()) {
-            Some(task) => Some(Command::Told(task)),
-            None => None,
-        },
+        [word] => command_named(word.as_str()),
         [word, digits] => numbered_command(word.as_str(), digits.as_str()),
         _ => None,
     }
+}
+
+#[tactic(auto, unfolding(crate::specs::Commands::command_named))]
+fn command_named(word: &str) -> Option<Command>
+    ensures { result ≡ command_named word.now }
+{
+    if word == "explain" {
+        return Some(Command::Explain);
+    }
+    let task = task_named(word)?;
+    Some(Command::Told(task))
 }
 
 fn numbered_command(word: &str, digits: &str) -> Option<Command>

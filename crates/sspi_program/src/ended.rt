@@ -1,11 +1,10 @@
 //! How the process ends: what `main` hands in is what the words and the standard streams of the
 //! process are.
-ghost use Rattle.std.specs.Prelude.{◌≡◌, ◌≢◌, ◌+◌, ◌≤◌, None, IfOk, IfErr};
+ghost use Rattle.std.specs.Prelude.{◌≡◌, ◌≢◌, ◌≤◌, None, IfOk, IfErr};
 ghost use Rattle.std.specs.Process.{exit_status};
 ghost use Rattle.std.specs.IoError.{error_kind};
-ghost use Rattle.sspi_program.specs.Commands.{command_of, task_in};
+ghost use Rattle.sspi_program.specs.Commands.{command_of, limit_in, most_taken};
 ghost use Rattle.sspi_program.specs.Run.{outside, EndsRun};
-ghost use Rattle.sspi_scenario.specs.declared.reading.TheConstants.{TEXT_LIMIT};
 ghost use Rattle.sspi_scenario.specs.Reading.{TakesAtMost};
 
 use crate::run::exit_status;
@@ -46,9 +45,10 @@ pub fn ended<S: Source, W: Sink>(
     ensures no_memory { IfErr words (λ error. error_kind error ≡ ErrorKind.OutOfMemory →
         (exit_status result ≡ 5) × (source.new ≡ source.old) × (sink.new ≡ sink.old)) }
     // What was read.
-    ensures unread { IfOk words (λ words. task_in (command_of words.items) ≡ None → source.new ≡ source.old) }
+    ensures unread { IfOk words (λ words. limit_in (command_of words.items) ≡ None → source.new ≡ source.old) }
     ensures unasked { IfErr words (λ error. source.new ≡ source.old) }
-    ensures taken { TakesAtMost (TEXT_LIMIT + 1) (S.left source.old) (S.left source.new) }
+    ensures taken { IfOk words (λ words. TakesAtMost (most_taken (limit_in (command_of words.items)))
+        (S.left source.old) (S.left source.new)) }
     ensures faults { (S.faults source.old ≤ S.faults source.new) × (W.faults sink.old ≤ W.faults sink.new) }
 {
     match words {

@@ -1,19 +1,23 @@
-ghost use Rattle.std.specs.Prelude.{◌≡◌, ◌+◌, ◌≤◌, None, Some, IfOk, IsSome, string_bytes};
-ghost use Rattle.sspi_program.specs.Commands.{command_of, task_in};
+//! What the program does: it reads the text of its source, does what its words ask for, and writes
+//! what comes of it.
+ghost use Rattle.std.specs.Prelude.{◌≡◌, ◌+◌, ◌≤◌, None, Some, IfOk, IfSome, string_bytes};
+ghost use Rattle.sspi_program.specs.Commands.{command_of, explain_limit, limit_in, most_taken};
 ghost use Rattle.sspi_program.specs.Kept.{with_status};
 ghost use Rattle.sspi_program.specs.Run.{outside, Comes, IsRun, EndsRun, Written};
 ghost use Rattle.sspi_program.specs.Telling.{CarriesOut, IsJudged, ReadsWell};
 ghost use Rattle.sspi_program.specs.Said.{conducted_as, line_text, said_status, said_text};
-ghost use Rattle.sspi_scenario.specs.declared.reading.TheConstants.{TEXT_LIMIT};
-ghost use Rattle.sspi_scenario.specs.Reading.{TakesAtMost};
+ghost use Rattle.sspi_scenario.specs.Reading.{TakesAtMost, text_limit};
 
 use crate::command::{Command, Task, command_of};
 use crate::record::Conducted;
 use crate::said::Said;
 use crate::{status, words};
 use sspi_ber::{Sink, Source, WireKind, write_all};
-use sspi_scenario::{Scenario, ScenarioError, TextError, read_text};
+use sspi_scenario::{Scenario, ScenarioError, TEXT_LIMIT, TextError, read_text};
 use std::alloc::{AllocError, Global};
+
+/// The text whose messages are explained has at most so many bytes.
+pub const EXPLAIN_LIMIT: usize = 2_097_152;
 
 /// Does what the words ask for with the text of the source, and writes what comes of it.
 ///
@@ -22,19 +26,22 @@ use std::alloc::{AllocError, Global};
 /// does it and has its turns and its log judged; or `early`, which does it and has the server tell whether the user may log on. Or
 /// they are `desk` and a number from 1 to `MOST_SESSIONS`: so many clients of the scenario have a session each at one desk. Or
 /// they are `gen` and a number from 1 to `MOST_SCENARIOS`: the ends of so many scenarios, which are made of their numbers, carry their
-/// messages to each other, and a summary counts what they came to. The exit status is
+/// messages to each other, and a summary counts what they came to. Or the word is `explain`: the text of the source is written with
+/// what its messages say in the place of their lines, as `sspi_explain::explain` tells it. The exit status is
 ///
 /// - 0 where the server has the credentials, or the deliveries were taken, and 1 where the exchange was refused: its report is
 ///   written. Of `gate` it is 0 where the relay came to an end by itself, and 1 where it had to stop; of `early` 0 where the client
-///   heard that its user may log on, and else 1; of `desk` 0 where every session has its credentials, and else 1; of `gen` always 0;
+///   heard that its user may log on, and else 1; of `desk` 0 where every session has its credentials, and else 1; of `gen` and
+///   `explain` always 0;
 /// - 2 where the text is no scenario for this word or has more than `TEXT_LIMIT` bytes: `error: scenario line N`, with the number of
-///   the first faulty line, from 1, or 0 where no line is to blame;
+///   the first faulty line, from 1, or 0 where no line is to blame; and where the text that is to be explained has more than
+///   `EXPLAIN_LIMIT` bytes or is not UTF-8: `error: text`;
 /// - 3 where the source failed: `error: read`;
 /// - 4 where the sink failed, which hides the status that was due: a front of the text, never all of it;
 /// - 5 where memory was wanting: nothing, or where the sink had none a front of the text, never all of it;
 /// - 6 where the words are others: `error: words`, and the source is not read, as it is not for `gen`.
 ///
-/// Each line ends with LF. The source is read to its end, or to the first byte past `TEXT_LIMIT` and no further. No failed call hides
+/// Each line ends with LF. The source is read to its end, or to the first byte past the limit and no further. No failed call hides
 /// behind another answer: the sink's count of faults is as it was at every status but 4, and the source's at 0, 1, 2 and 6. What the
 /// ends did is kept where there were some, at status 4 too; at 5 it may be.
 pub fn run<S: Source, W: Sink>(
@@ -46,8 +53,8 @@ pub fn run<S: Source, W: Sink>(
     ensures runs { IsRun (command_of words.now)
         (outside (S.left source.old) (S.faults source.old) (W.written sink.old) (W.faults sink.old))
         (outside (S.left source.new) (S.faults source.new) (W.written sink.new) (W.faults sink.new)) result }
-    ensures unread { task_in (command_of words.now) ≡ None → source.new ≡ source.old }
-    ensures taken { TakesAtMost (TEXT_LIMIT + 1) (S.left source.old) (S.left source.new) }
+    ensures unread { limit_in (command_of words.now) ≡ None → source.new ≡ source.old }
+    ensures taken { TakesAtMost (most_taken (limit_in (command_of words.now))) (S.left source.old) (S.left source.new) }
     ensures faults { (S.faults source.old ≤ S.faults source.new) × (W.faults sink.old ≤ W.faults sink.new) }
 {
     let said = conduct(alloc, words, source);
@@ -65,8 +72,8 @@ pub fn exit_status<S: Source, W: Sink>(
     ensures runs { EndsRun (command_of words.now)
         (outside (S.left source.old) (S.faults source.old) (W.written sink.old) (W.faults sink.old))
         (outside (S.left source.new) (S.faults source.new) (W.written sink.new) (W.faults sink.new)) result }
-    ensures unread { task_in (command_of words.now) ≡ None → source.new ≡ source.old }
-    ensures taken { TakesAtMost (TEXT_LIMIT + 1) (S.left source.old) (S.left source.new) }
+    ensures unread { limit_in (command_of words.now) ≡ None → source.new ≡ source.old }
+    ensures taken { TakesAtMost (most_taken (limit_in (command_of words.now))) (S.left source.old) (S.left source.new) }
     ensures faults { (S.faults source.old ≤ S.faults source.new) × (W.faults sink.old ≤ W.faults sink.new) }
 {
     let conducted = run(alloc, words, source, sink);
@@ -97,15 +104,17 @@ fn status_without<R: Drop, T: Drop, S: Drop>(status: u8, _kept: R, _tally: T, _s
 fn conduct<S: Source>(alloc: Global, words: &[String], source: &mut S) -> Said
     // What comes of it.
     ensures comes { Comes (command_of words.now) (S.left source.old) (S.faults source.old) (S.faults source.new) result }
-    ensures unread { task_in (command_of words.now) ≡ None → source.new ≡ source.old }
-    ensures judged { IsSome (task_in (command_of words.now)) → IsJudged (S.left source.old) (S.left source.new) result }
+    ensures unread { limit_in (command_of words.now) ≡ None → source.new ≡ source.old }
+    ensures judged { IfSome (limit_in (command_of words.now))
+        (λ limit. IsJudged limit (S.left source.old) (S.left source.new) result) }
     // What was read for it.
-    ensures taken { TakesAtMost (TEXT_LIMIT + 1) (S.left source.old) (S.left source.new) }
+    ensures taken { TakesAtMost (most_taken (limit_in (command_of words.now))) (S.left source.old) (S.left source.new) }
     ensures faults { S.faults source.old ≤ S.faults source.new }
     ensures calm { ReadsWell (S.faults source.old) (S.faults source.new) result }
 {
     match command_of(words) {
         Some(Command::Told(task)) => conduct_told(alloc, task, source),
+        Some(Command::Explain) => conduct_explain(alloc, source),
         Some(Command::Gen(count)) => words::generate::generate(alloc, count),
         None => Said::OtherWords,
     }
@@ -115,14 +124,30 @@ fn conduct<S: Source>(alloc: Global, words: &[String], source: &mut S) -> Said
 #[tactic(auto, using(crate::proofs::TooLong::too_long))]
 fn conduct_told<S: Source>(alloc: Global, task: Task, source: &mut S) -> Said
     ensures comes { Comes (Some (Command.Told task)) (S.left source.old) (S.faults source.old) (S.faults source.new) result }
-    ensures judged { IsJudged (S.left source.old) (S.left source.new) result }
-    ensures taken { TakesAtMost (TEXT_LIMIT + 1) (S.left source.old) (S.left source.new) }
+    ensures judged { IsJudged text_limit (S.left source.old) (S.left source.new) result }
+    ensures taken { TakesAtMost (text_limit + 1) (S.left source.old) (S.left source.new) }
     ensures faults { S.faults source.old ≤ S.faults source.new }
     ensures calm { ReadsWell (S.faults source.old) (S.faults source.new) result }
 {
-    match read_text(alloc, source) {
+    match read_text(alloc, TEXT_LIMIT, source) {
         Ok(text) => carry_out(alloc, task, &text),
         Err(TextError::TooLong) => Said::NoScenario(0),
+        Err(TextError::Failed) => Said::ReadFault,
+        Err(TextError::InsufficientMemory) => Said::NoMemory,
+    }
+}
+
+/// What the messages in the text of the source say.
+fn conduct_explain<S: Source>(alloc: Global, source: &mut S) -> Said
+    ensures comes { Comes (Some Command.Explain) (S.left source.old) (S.faults source.old) (S.faults source.new) result }
+    ensures judged { IsJudged explain_limit (S.left source.old) (S.left source.new) result }
+    ensures taken { TakesAtMost (explain_limit + 1) (S.left source.old) (S.left source.new) }
+    ensures faults { S.faults source.old ≤ S.faults source.new }
+    ensures calm { ReadsWell (S.faults source.old) (S.faults source.new) result }
+{
+    match read_text(alloc, EXPLAIN_LIMIT, source) {
+        Ok(text) => words::explain::explain_text(alloc, &text),
+        Err(TextError::TooLong) => Said::NoText,
         Err(TextError::Failed) => Said::ReadFault,
         Err(TextError::InsufficientMemory) => Said::NoMemory,
     }
@@ -150,6 +175,7 @@ fn tell<W: Sink>(alloc: Global, sink: &mut W, said: Said) -> Conducted
     match said {
         Said::Done(conducted, text) => tell_done(sink, conducted, &text),
         Said::NoScenario(line) => Conducted::nothing(tell_line(alloc, sink, line)),
+        Said::NoText => Conducted::nothing(write_text(sink, b"error: text\n", status::NO_SCENARIO)),
         Said::ReadFault => Conducted::nothing(write_text(
             sink,
             b"error: read\n",

@@ -16,6 +16,8 @@ pub enum Said {
     Done(Conducted, Vec<u8>),
     /// The text is no scenario. The number is that of its faulty line; 0 where no line is to blame.
     NoScenario(usize),
+    /// The text is too long, or is not UTF-8, so that no line of it is explained.
+    NoText,
     ReadFault,
     OtherWords,
     NoMemory,

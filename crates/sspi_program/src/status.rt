@@ -7,7 +7,7 @@ pub const DONE: u8 = 0;
 /// credentials.
 pub const REFUSED: u8 = 1;
 
-/// The text of the source is no scenario, or too long.
+/// The text of the source is no scenario, cannot be explained, or is too long.
 pub const NO_SCENARIO: u8 = 2;
 
 /// The text could not be read.

@@ -1,4 +1,5 @@
-//! What the program makes of a scenario, a module for each word; and what it makes of a number of scenarios.
+//! What the program makes of a scenario, a module for each word; of a number of scenarios; and of a
+//! text with messages.
 
 ghost use Rattle.sspi_program.specs.Telling.{Conducts};
 ghost use Rattle.sspi_scenario.specs.Held.{HoldsValues};
@@ -8,6 +9,7 @@ mod count;
 mod delegate;
 mod desk;
 mod early;
+pub mod explain;
 mod gate;
 pub mod generate;
 mod play;

@@ -5,7 +5,7 @@ use Rattle.std.proofs.lemmas.List.{length-take, take-append-le}
 use Rattle.std.specs.Global.{Vec}
 use Rattle.std.specs.Io.KnownBytes.{Consumes, Keeps, IsAtEnd}
 use Rattle.sspi_scenario.specs.declared.reading.TextError.TheVariants.{TooLong}
-use Rattle.sspi_scenario.specs.Reading.{text_limit, TakesAtMost, ReadsText}
+use Rattle.sspi_scenario.specs.Reading.{TakesAtMost, ReadsText}
 
 consumes_on : (a b c : Option (List ℕ)) (x y : List ℕ) → Consumes a b x → Consumes b c y → Consumes a c (x ++ y)
 consumes_on None b c x y first then = tt
@@ -30,12 +30,12 @@ pub takes_kept : (most : ℕ) (a b c : Option (List ℕ)) (x : List ℕ) →
 takes_kept most a b c x first kept short = record { taken = x; consumed = consumes_kept a b c x first kept; short = short }
 
 -- a source that is at its end gave all that it had
-reads_all : (left after : Option (List ℕ)) (text : Vec ℕ) →
-    Consumes left after text.items → IsAtEnd after → length text.items ≤ text_limit → ReadsText left (Ok text)
-reads_all None after text read end short = tt
-reads_all (Some bytes) None text read end short = elim read [ ]
-reads_all (Some bytes) (Some []) text read end short = (rw (read, append-nil) refl, rw (read, append-nil) short)
-reads_all (Some bytes) (Some (b ∷ more)) text read end short = cc
+reads_all : (limit : ℕ) (left after : Option (List ℕ)) (text : Vec ℕ) →
+    Consumes left after text.items → IsAtEnd after → length text.items ≤ limit → ReadsText limit left (Ok text)
+reads_all limit None after text read end short = tt
+reads_all limit (Some bytes) None text read end short = elim read [ ]
+reads_all limit (Some bytes) (Some []) text read end short = (rw (read, append-nil) refl, rw (read, append-nil) short)
+reads_all limit (Some bytes) (Some (b ∷ more)) text read end short = cc
 
 -- a call that gave nothing took nothing
 pub consumes_nothing : (left before after : Option (List ℕ)) (taken : List ℕ) (n : ℕ) (into : List ℕ) →
@@ -47,11 +47,11 @@ consumes_nothing (Some bytes) (Some xs) (Some ys) taken zero into read last none
 consumes_nothing (Some bytes) (Some xs) (Some ys) taken (suc n) into read last none = cc
 
 -- and its last call gave nothing
-pub reads_to_end : (left before after : Option (List ℕ)) (text : Vec ℕ) (n : ℕ) (into : List ℕ) →
-    Consumes left before text.items → Consumes before after (take n into) → n ≡ 0 → IsAtEnd after → length text.items ≤ text_limit →
-    ReadsText left (Ok text)
-reads_to_end left before after text n into read last none end short =
-    reads_all left after text (consumes_nothing left before after text.items n into read last none) end short
+pub reads_to_end : (limit : ℕ) (left before after : Option (List ℕ)) (text : Vec ℕ) (n : ℕ) (into : List ℕ) →
+    Consumes left before text.items → Consumes before after (take n into) → n ≡ 0 → IsAtEnd after → length text.items ≤ limit →
+    ReadsText limit left (Ok text)
+reads_to_end limit left before after text n into read last none end short =
+    reads_all limit left after text (consumes_nothing left before after text.items n into read last none) end short
 
 -- so much was taken, and so much more that came into the front of a longer room
 pub consumes_front : (a b c : Option (List ℕ)) (x : List ℕ) (n : ℕ) (into rest : List ℕ) →
@@ -64,8 +64,8 @@ front_is_short most x n into rest fits short =
     rw take-append-le (omega (arith, length-append x (take n into), length-take n into))
 
 -- a source that gave more than the limit had more
-pub reads_too_long : (left rest : Option (List ℕ)) (taken : List ℕ) →
-    Consumes left rest taken → text_limit < length taken → ReadsText left (Err TooLong)
-reads_too_long None rest taken read long = tt
-reads_too_long (Some bytes) None taken read long = elim read [ ]
-reads_too_long (Some bytes) (Some more) taken read long = rw (read, length-append) (omega arith)
+pub reads_too_long : (limit : ℕ) (left rest : Option (List ℕ)) (taken : List ℕ) →
+    Consumes left rest taken → limit < length taken → ReadsText limit left (Err TooLong)
+reads_too_long limit None rest taken read long = tt
+reads_too_long limit (Some bytes) None taken read long = elim read [ ]
+reads_too_long limit (Some bytes) (Some more) taken read long = rw (read, length-append) (omega arith)

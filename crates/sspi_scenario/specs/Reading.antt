@@ -10,13 +10,13 @@ use Rattle.sspi_scenario.specs.declared.reading.TextError.TheVariants.{TooLong, 
 abbrev pub text_limit : ℕ
 text_limit = 1048576
 
--- where a source tells what it has left, its text is all of that, or that is too long
-abbrev pub ReadsText : Option (List ℕ) → Result (Vec ℕ) TextError → Type 0
-ReadsText None result = Unit {0}
-ReadsText (Some bytes) (Ok text) = (text.items ≡ bytes) × (length bytes ≤ text_limit)
-ReadsText (Some bytes) (Err TooLong) = text_limit < length bytes
-ReadsText (Some bytes) (Err Failed) = Unit {0}
-ReadsText (Some bytes) (Err InsufficientMemory) = Unit {0}
+-- where a source tells what it has left, its text is all of that, or that is longer than the limit
+abbrev pub ReadsText : ℕ → Option (List ℕ) → Result (Vec ℕ) TextError → Type 0
+ReadsText limit None result = Unit {0}
+ReadsText limit (Some bytes) (Ok text) = (text.items ≡ bytes) × (length bytes ≤ limit)
+ReadsText limit (Some bytes) (Err TooLong) = limit < length bytes
+ReadsText limit (Some bytes) (Err Failed) = Unit {0}
+ReadsText limit (Some bytes) (Err InsufficientMemory) = Unit {0}
 
 -- at most so many bytes were taken of what was left
 pub record TakesAtMost (most : ℕ) (before after : Option (List ℕ)) : Type 0 where
@@ -31,15 +31,15 @@ pub record TakesJust (count : ℕ) (before after : Option (List ℕ)) : Type 0 w
   pub counted : length taken ≡ count
 
 -- the source is at its end; or the first byte past the longest text was taken of it, and none after that
-abbrev pub IsReadWhole : Option (List ℕ) → Option (List ℕ) → Type 0
-IsReadWhole before after = IsAtEnd after ⊎ TakesJust (text_limit + 1) before after
+abbrev pub IsReadWhole : ℕ → Option (List ℕ) → Option (List ℕ) → Type 0
+IsReadWhole limit before after = IsAtEnd after ⊎ TakesJust (limit + 1) before after
 
 -- how far a source is read: to its end for its text, and to the first byte past the limit where it is too long
-abbrev pub ReadsSoFar : Option (List ℕ) → Option (List ℕ) → Result (Vec ℕ) TextError → Type 0
-ReadsSoFar before after (Ok text) = Consumes before after text.items × IsAtEnd after
-ReadsSoFar before after (Err TooLong) = TakesJust (text_limit + 1) before after
-ReadsSoFar before after (Err Failed) = Unit {0}
-ReadsSoFar before after (Err InsufficientMemory) = Unit {0}
+abbrev pub ReadsSoFar : ℕ → Option (List ℕ) → Option (List ℕ) → Result (Vec ℕ) TextError → Type 0
+ReadsSoFar limit before after (Ok text) = Consumes before after text.items × IsAtEnd after
+ReadsSoFar limit before after (Err TooLong) = TakesJust (limit + 1) before after
+ReadsSoFar limit before after (Err Failed) = Unit {0}
+ReadsSoFar limit before after (Err InsufficientMemory) = Unit {0}
 
 -- what reading says of the source's count of faults: a failure has it rise, and at any other answer no call failed
 abbrev pub TextCause : ℕ → ℕ → Result (Vec ℕ) TextError → Type 0

@@ -1,11 +1,11 @@
 use crate::tests::checks::given;
 use sspi_ber::{FaultySource, SliceSource, Source};
-use sspi_scenario::{TextError, read_text};
+use sspi_scenario::{TEXT_LIMIT, TextError, read_text};
 use std::alloc::Global;
 use std::process::Abort;
 
 fn length_read<S: Source>(alloc: Global, source: &mut S) -> Result<usize, TextError> {
-    Ok(read_text(alloc, source)?.len())
+    Ok(read_text(alloc, TEXT_LIMIT, source)?.len())
 }
 
 /// So many letters.

@@ -31,7 +31,7 @@ returns-then-count-eq0-clause-taken g c =
 
 pub returns-then-count-eq0-clause-text : goal.returns-then-count-eq0-clause-text
 returns-then-count-eq0-clause-text g c =
-    reads_to_end _ _ _ _ _ _ c.loop-room.invariant.read c.in-Ok.ensures.bytes.0 c.if-count-eq0.true
+    reads_to_end _ _ _ _ _ _ _ c.loop-room.invariant.read c.in-Ok.ensures.bytes.0 c.if-count-eq0.true
     (c.in-Ok.ensures.bytes.1 c.if-count-eq0.true (omega (arith, length-take {A = ℕ})))
     (omega arith)
 
@@ -49,4 +49,4 @@ pub returns-clause-taken : goal.returns-clause-taken
 returns-clause-taken g c = record { taken = _; consumed = c.loop-room.invariant.read; short = c.loop-room.invariant.short }
 
 pub returns-clause-text : goal.returns-clause-text
-returns-clause-text g c = reads_too_long _ _ _ c.loop-room.invariant.read (omega arith)
+returns-clause-text g c = reads_too_long _ _ _ _ c.loop-room.invariant.read (omega arith)
