@@ -1,20 +1,25 @@
 -- What is kept of a scenario, from the record of it up to the source that told it.
 use Rattle.std.proofs.Common.{◌≡◌, ℕ, ◌⊎◌, inl, inr, List, [], Option, None, Some, Result, Ok, Err, refl, sym, ap, subst, ◌∙◌}
-use Rattle.std.specs.Prelude.{IfOk, IfSome, IsErr, IsSome, IsSomeAnd}
+use Rattle.std.proofs.lemmas.Bool.{le-leb, lt-leb, and_from, and_right}
+use Rattle.std.specs.Prelude.{IfOk, IfSome, IsErr, IsSome, IsSomeAnd, true, false, nat_le, length}
+use Rattle.std.specs.Str.{is_utf8}
 use Rattle.std.specs.Global.{Vec}
 use Rattle.sspi_scenario.specs.declared.purpose.Purpose.{Purpose}
 use Rattle.sspi_scenario.specs.declared.scenario.Scenario.{Scenario}
-use Rattle.sspi_scenario.specs.Reading.{ReadsText}
+use Rattle.sspi_explain.specs.Explained.{explained}
+use Rattle.sspi_scenario.specs.Reading.{text_limit, ReadsText}
+use Rattle.sspi_scenario.specs.declared.reading.TextError.TheVariants.{TooLong}
 use Rattle.sspi_scenario.specs.Scenario.{scenario_of}
-use Rattle.sspi_program.specs.declared.command.Command.TheVariants.{Told, Gen}
+use Rattle.sspi_program.specs.declared.command.Command.TheVariants.{Told, Gen, Explain}
 use Rattle.sspi_program.specs.declared.command.Task.{Task}
 use Rattle.sspi_program.specs.declared.command.Task.TheVariants.{Delegate, Play, Gate, Audit, Early, Desk}
 use Rattle.sspi_program.specs.declared.record.Conducted.{Conducted}
 use Rattle.sspi_program.specs.declared.record.Record.{Record}
 use Rattle.sspi_program.specs.declared.said.Said.{Said}
-use Rattle.sspi_program.specs.declared.said.Said.TheVariants.{Done, NoScenario, ReadFault, OtherWords, NoMemory}
+use Rattle.sspi_program.specs.declared.said.Said.TheVariants.{Done, NoScenario, NoText, ReadFault, OtherWords, NoMemory}
 use Rattle.sspi_program.specs.Audit.{IsJudged, IsAudited}
-use Rattle.sspi_program.specs.Commands.{purpose_of}
+use Rattle.sspi_program.specs.Commands.{purpose_of, explain_limit}
+use Rattle.sspi_program.specs.Explain.{is_explainable, IsExplained}
 use Rattle.sspi_program.specs.Delegate.{HasExchange}
 use Rattle.sspi_program.specs.Desk.{HasSeats, SeatsDue, seats_status}
 use Rattle.sspi_program.specs.Early.{HasEarly, IsEarlyTold}
@@ -25,8 +30,8 @@ use Rattle.sspi_program.specs.Generate.{AreNumbered, TallyDue, summary_of}
 use Rattle.sspi_program.specs.Kept.{nothing, keeping, seating, tallying, HasRecordAlone, HasTallyAlone, HasSeatsAlone}
 use Rattle.sspi_program.specs.Play.{HasPlay}
 use Rattle.sspi_program.specs.Promises.{KeepsRecord, KeepsTally, KeepsSeats, Keeps, KeptDue}
-use Rattle.sspi_program.specs.Run.{IsTold, Comes}
-use Rattle.sspi_program.specs.Telling.{CarriesOut, Conducts, Generates, SumsUp, SaysOfSeats, SaysOf, SaysWith}
+use Rattle.sspi_program.specs.Run.{IsTold, HasNoText, Comes}
+use Rattle.sspi_program.specs.Telling.{Explains, ExplainsText, CarriesOut, Conducts, Generates, SumsUp, SaysOfSeats, SaysOf, SaysWith}
 use Rattle.sspi_program.specs.Seats.{PlainSeat}
 use Rattle.sspi_program.specs.Said.{status_of, RecordDue, IsDue}
 use Rattle.sspi_program.proofs.Auditing.{is_audited}
@@ -60,6 +65,7 @@ pub conducts_exchange : (scenario : Scenario) (r : Record) (said : Said) → r.s
     Conducts Delegate scenario said
 conducts_exchange scenario r (Done c text) is has said = says HasExchange RecordDue scenario r is has c text.items said.0 said.1 said.2
 conducts_exchange scenario r (NoScenario line) is has said = said
+conducts_exchange scenario r NoText is has said = said
 conducts_exchange scenario r ReadFault is has said = said
 conducts_exchange scenario r OtherWords is has said = said
 conducts_exchange scenario r NoMemory is has said = tt
@@ -68,6 +74,7 @@ pub conducts_play : (scenario : Scenario) (r : Record) (said : Said) → r.scena
     Conducts Play scenario said
 conducts_play scenario r (Done c text) is has said = says HasPlay RecordDue scenario r is has c text.items said.0 said.1 said.2
 conducts_play scenario r (NoScenario line) is has said = said
+conducts_play scenario r NoText is has said = said
 conducts_play scenario r ReadFault is has said = said
 conducts_play scenario r OtherWords is has said = said
 conducts_play scenario r NoMemory is has said = tt
@@ -77,6 +84,7 @@ module _ {E : Type 0} (scenario : Scenario) (r : Record) (told : Result (ℕ × 
   pub conducts_gate : (said : Said) → IfOk told (λ t. IsGated r t.0 t.1.items) → SaysWith r told said → Conducts Gate scenario said
   conducts_gate (Done c text) given said = says_with HasExchange IsGated scenario r is has told given c text said
   conducts_gate (NoScenario line) given said = said
+  conducts_gate NoText given said = said
   conducts_gate ReadFault given said = said
   conducts_gate OtherWords given said = said
   conducts_gate NoMemory given said = tt
@@ -89,6 +97,7 @@ module _ {E : Type 0} (scenario : Scenario) (r : Record) (told : Result (ℕ × 
   conducts_audit (Done c text) given said =
       says_with HasExchange IsAudited scenario r is has told (audited told given) c text said
   conducts_audit (NoScenario line) given said = said
+  conducts_audit NoText given said = said
   conducts_audit ReadFault given said = said
   conducts_audit OtherWords given said = said
   conducts_audit NoMemory given said = tt
@@ -97,6 +106,7 @@ pub conducts_early : {E : Type 0} (scenario : Scenario) (r : Record) (told : Res
     HasEarly r → IfOk told (λ t. IsEarlyTold r t.0 t.1.items) → SaysWith r told said → Conducts Early scenario said
 conducts_early scenario r told (Done c text) is has given said = says_with HasEarly IsEarlyTold scenario r is has told given c text said
 conducts_early scenario r told (NoScenario line) is has given said = said
+conducts_early scenario r told NoText is has given said = said
 conducts_early scenario r told ReadFault is has given said = said
 conducts_early scenario r told OtherWords is has given said = said
 conducts_early scenario r told NoMemory is has given said = tt
@@ -120,6 +130,7 @@ sums_done tally c text made told =
 pub generates : (count : ℕ) (tally : List Record) (said : Said) → AreNumbered count tally → SumsUp tally said → Generates count said
 generates count tally (Done c text) has said = sums (AreNumbered count) tally has c text.items said.0 said.1
 generates count tally (NoScenario line) has said = said
+generates count tally NoText has said = said
 generates count tally ReadFault has said = said
 generates count tally OtherWords has said = said
 generates count tally NoMemory has said = tt
@@ -147,6 +158,7 @@ pub conducts_seats : (count : ℕ) (scenario : Scenario) (seats : List PlainSeat
     SaysOfSeats seats said → Conducts (Desk count) scenario said
 conducts_seats count scenario seats (Done c text) has said = sits count scenario seats has c text.items said.0 said.1
 conducts_seats count scenario seats (NoScenario line) has said = said
+conducts_seats count scenario seats NoText has said = said
 conducts_seats count scenario seats ReadFault has said = said
 conducts_seats count scenario seats OtherWords has said = said
 conducts_seats count scenario seats NoMemory has said = tt
@@ -155,6 +167,7 @@ pub comes_generated : (count : ℕ) (left : Option (List ℕ)) (before now : ℕ
     Comes (Some (Gen count)) left before now said
 comes_generated count left before now (Done c text) made = made
 comes_generated count left before now (NoScenario line) made = absurd made
+comes_generated count left before now NoText made = absurd made
 comes_generated count left before now ReadFault made = absurd made
 comes_generated count left before now OtherWords made = absurd made
 comes_generated count left before now NoMemory made = refl
@@ -189,16 +202,17 @@ carries_out task text scenario (Done c written) is out = (
   out.1,
 )
 carries_out task text scenario (NoScenario line) is out = absurd out
+carries_out task text scenario NoText is out = absurd out
 carries_out task text scenario ReadFault is out = absurd out
 carries_out task text scenario OtherWords is out = absurd out
 carries_out task text scenario NoMemory is out = tt
 
-told_by : (purpose : Purpose) (left : Option (List ℕ)) (text : Vec ℕ) (scenario : Scenario) → ReadsText left (Ok text) →
+told_by : (purpose : Purpose) (left : Option (List ℕ)) (text : Vec ℕ) (scenario : Scenario) → ReadsText text_limit left (Ok text) →
     scenario_of purpose text.items ≡ Ok scenario → IsTold purpose left scenario
 told_by purpose None text scenario read is = tt
 told_by purpose (Some bytes) text scenario read is = ap (scenario_of purpose) (sym read.0) ∙ is
 
-pub comes_read : (task : Task) (left : Option (List ℕ)) (before now : ℕ) (text : Vec ℕ) (said : Said) → ReadsText left (Ok text) →
+pub comes_read : (task : Task) (left : Option (List ℕ)) (before now : ℕ) (text : Vec ℕ) (said : Said) → ReadsText text_limit left (Ok text) →
     CarriesOut task text.items said → Comes (Some (Told task)) left before now said
 comes_read task left before now text (Done c written) read out = (
   keeps_more task (λ s. scenario_of (purpose_of task) text.items ≡ Ok s) (IsTold (purpose_of task) left)
@@ -207,6 +221,51 @@ comes_read task left before now text (Done c written) read out = (
 )
 comes_read task None before now text (NoScenario line) read out = tt
 comes_read task (Some bytes) before now text (NoScenario line) read out = ap (scenario_of (purpose_of task)) (sym read.0) ∙ out
+comes_read task left before now text NoText read out = absurd out
 comes_read task left before now text ReadFault read out = absurd out
 comes_read task left before now text OtherWords read out = absurd out
 comes_read task left before now text NoMemory read out = refl
+
+-- ---- a text whose messages are explained
+
+due_explained : (left : Option (List ℕ)) (text : Vec ℕ) (written : List ℕ) → ReadsText explain_limit left (Ok text) →
+    is_utf8 text.items ≡ true → written ≡ explained text.items → IfSome left (λ source. IsExplained source written)
+due_explained None text written read utf8 is = tt
+due_explained (Some bytes) text written read utf8 is = record {
+  explainable =
+      and_from (nat_le (length bytes) explain_limit) (is_utf8 bytes) (le-leb (length bytes) explain_limit read.1)
+      (subst (λ (b : List ℕ). is_utf8 b ≡ true) read.0 utf8);
+  told = is ∙ ap explained read.0;
+}
+
+-- a text that is not UTF-8
+not_utf8 : (left : Option (List ℕ)) (text : Vec ℕ) → ReadsText explain_limit left (Ok text) → is_utf8 text.items ≡ false →
+    HasNoText left
+not_utf8 None text read is = tt
+not_utf8 (Some bytes) text read is =
+    and_right (nat_le (length bytes) explain_limit) (is_utf8 bytes) (subst (λ (b : List ℕ). is_utf8 b ≡ false) read.0 is)
+
+-- one past the limit
+pub too_long_to_explain : (left : Option (List ℕ)) → ReadsText explain_limit left (Err TooLong) → HasNoText left
+too_long_to_explain None read = tt
+too_long_to_explain (Some bytes) read = rw (lt-leb (length bytes) explain_limit read) refl
+
+-- bytes that are a text
+pub explains : (bytes text : List ℕ) (said : Said) → text ≡ bytes → is_utf8 bytes ≡ true → ExplainsText text said → Explains bytes said
+explains bytes text (Done c told) same utf8 out = (utf8, out.0, out.1 ∙ ap explained same)
+explains bytes text (NoScenario line) same utf8 out = absurd out
+explains bytes text NoText same utf8 out = absurd out
+explains bytes text ReadFault same utf8 out = absurd out
+explains bytes text OtherWords same utf8 out = absurd out
+explains bytes text NoMemory same utf8 out = tt
+
+pub comes_explained : (left : Option (List ℕ)) (before now : ℕ) (text : Vec ℕ) (said : Said) →
+    ReadsText explain_limit left (Ok text) → Explains text.items said → Comes (Some Explain) left before now said
+comes_explained left before now text (Done c told) read out =
+    let zero : c.status ≡ 0 = ap (λ (d : Conducted). d.status) out.1 in
+    (out.1 ∙ ap nothing (sym zero), inl (zero, due_explained left text told.items read out.0 out.2))
+comes_explained left before now text (NoScenario line) read out = absurd out
+comes_explained left before now text NoText read out = (refl, not_utf8 left text read out)
+comes_explained left before now text ReadFault read out = absurd out
+comes_explained left before now text OtherWords read out = absurd out
+comes_explained left before now text NoMemory read out = refl

@@ -1,6 +1,6 @@
 -- What the status of a run is where the source tells its text.
 use Rattle.std.proofs.Common.{◌≡◌, ℕ, ◌≤◌, inl, inr, List, [], Option, None, Some, Result, Ok, Err, refl, sym, ap, ◌∙◌, subst, arith}
-use Rattle.std.specs.Prelude.{IfSome, IsSome, IsSomeAnd}
+use Rattle.std.specs.Prelude.{IfSome, IsSome, IsSomeAnd, Bool, true, false}
 use Rattle.sspi_names.specs.declared.identity.AuthIdentity.{AuthIdentity}
 use Rattle.sspi_delegate.specs.declared.answer.Delegation.{Delegation}
 use Rattle.sspi_delegate.specs.declared.answer.DelegateError.{DelegateError}
@@ -12,7 +12,7 @@ use Rattle.sspi_scenario.specs.declared.purpose.Purpose.TheVariants as purposes
 use Rattle.sspi_scenario.specs.declared.scenario.Scenario.{Scenario}
 use Rattle.sspi_scenario.specs.Scenario.{scenario_of}
 use Rattle.sspi_program.specs.declared.command.Command.{Command}
-use Rattle.sspi_program.specs.declared.command.Command.TheVariants.{Told, Gen}
+use Rattle.sspi_program.specs.declared.command.Command.TheVariants.{Told, Gen, Explain}
 use Rattle.sspi_program.specs.declared.command.Task.{Task}
 use Rattle.sspi_program.specs.declared.command.Task.TheVariants.{Delegate, Play, Gate, Audit, Early, Desk}
 use Rattle.sspi_program.specs.declared.record.Conducted.{Conducted}
@@ -20,9 +20,9 @@ use Rattle.sspi_program.specs.declared.record.Record.{Record}
 use Rattle.sspi_program.specs.declared.record.RunOutcome.{RunOutcome}
 use Rattle.sspi_program.specs.declared.record.RunOutcome.TheVariants as outcomes
 use Rattle.sspi_program.specs.declared.said.Said.{Said}
-use Rattle.sspi_program.specs.declared.said.Said.TheVariants.{Done, NoScenario, ReadFault, OtherWords, NoMemory}
+use Rattle.sspi_program.specs.declared.said.Said.TheVariants.{Done, NoScenario, NoText, ReadFault, OtherWords, NoMemory}
 use Rattle.sspi_program.specs.Audit.{IsAudited}
-use Rattle.sspi_program.specs.Commands.{task_in, purpose_of}
+use Rattle.sspi_program.specs.Commands.{purpose_of}
 use Rattle.sspi_program.specs.Delegate.{HasExchange, DelegateEnds}
 use Rattle.sspi_program.specs.Desk.{HasSeats, SeatsDue}
 use Rattle.sspi_program.specs.Early.{HasEarly, IsEarlyTold, EarlyEnds, admitted_status}
@@ -30,13 +30,14 @@ use Rattle.sspi_program.specs.Gate.{IsGated, GateEnds}
 use Rattle.sspi_program.specs.Generate.{TallyDue}
 use Rattle.sspi_program.specs.Outcome.{messages_in, IsMatching}
 use Rattle.sspi_program.specs.Play.{HasPlay, PlayEnds}
-use Rattle.sspi_program.specs.Promises.{Does, Due, KeptDue, EndsSo}
-use Rattle.sspi_program.specs.Run.{Comes, Written}
-use Rattle.sspi_program.specs.Said.{delegated_status, status_of, RecordDue, said_text, said_status, read_text, IsDue}
+use Rattle.sspi_program.specs.Explain.{is_explainable, ExplainDue, ExplainEnds}
+use Rattle.sspi_program.specs.Promises.{Does, TaskDue, KeptDue, EndsSo}
+use Rattle.sspi_program.specs.Run.{Comes, RefusesText, Written}
+use Rattle.sspi_program.specs.Said.{delegated_status, status_of, RecordDue, said_text, said_status, read_text, no_text, IsDue}
 use Rattle.sspi_program.specs.Seats.{PlainSeat}
 use Rattle.sspi_program.specs.Status.{IsUnlessWrite, IsUnlessFault, EndsAs, EndsMatched}
 use Rattle.sspi_program.proofs.EarlyStatus.{matching_early}
-use Rattle.sspi_program.proofs.Running.{unless_write, unless_read, unless_memory, status_due, due_small}
+use Rattle.sspi_program.proofs.Running.{unless_write, unless_read, unless_memory, status_due, task_small}
 
 same_scenario : (purpose : Purpose) (text : List ℕ) (scenario scenario2 : Scenario) → scenario_of purpose text ≡ Ok scenario →
     scenario_of purpose text ≡ Ok scenario2 → scenario ≡ scenario2
@@ -45,6 +46,9 @@ same_scenario purpose text scenario scenario2 is is2 = cc
 both : (purpose : Purpose) (text : List ℕ) (scenario : Scenario) (line : ℕ) → scenario_of purpose text ≡ Ok scenario →
     scenario_of purpose text ≡ Err line → ⊥
 both purpose text scenario line is none = cc
+
+both_ways : (b : Bool) → b ≡ true → b ≡ false → ⊥
+both_ways b is not = cc
 
 -- ---- a text that is no scenario
 
@@ -69,7 +73,7 @@ seats_none count text own written None keeps (inr h) line none = h.0
 seats_none count text own written (Some seats) keeps told line none = absurd (both purposes.Sessions text keeps.0 line keeps.1 none)
 
 task_none : (task : Task) (text : List ℕ) (c : Conducted) (written : List ℕ) →
-    Does (Told task) (λ s. scenario_of (purpose_of task) text ≡ Ok s) c written → (line : ℕ) →
+    Does (Told task) None (λ s. scenario_of (purpose_of task) text ≡ Ok s) c written → (line : ℕ) →
     scenario_of (purpose_of task) text ≡ Err line → c.status ≡ 5
 task_none Delegate text c written does line none =
     record_none HasExchange RecordDue purposes.Exchange text c.status written c.kept does.0.0 does.1 line none
@@ -96,18 +100,34 @@ module _ (before now : ℕ) (w w2 : Option (List ℕ)) (f f2 : ℕ) where
       no_memory 2 c.status items.items status (task_none task text c items.items comes line none) written
   text_none task text (NoScenario n) status comes written line none =
       inr (unless_write w w2 f f2 2 (said_text (NoScenario n)) status written)
+  text_none task text NoText status comes written line none = let some = comes.0 in absurd cc
   text_none task text ReadFault status comes written line none = unless_read w w2 f f2 2 read_text status written
   text_none task text OtherWords status comes written line none = absurd cc
   text_none task text NoMemory status comes written line none = unless_memory w w2 f f2 2 [] status written
 
-  pub status_no_scenario : (command : Option Command) (left : Option (List ℕ)) (said : Said) (status : ℕ) →
+  -- a text that cannot be explained has nothing due
+  unexplained : (own : ℕ) (text written : List ℕ) (status : ℕ) → IsDue (ExplainDue (Some text)) own written →
+      Written own written w w2 f f2 status → is_explainable text ≡ false → IsUnlessFault 2 status
+  unexplained own text written status (inl told) wrote none = absurd (both_ways (is_explainable text) told.1.explainable none)
+  unexplained own text written status (inr h) wrote none = no_memory 2 own written status h.0 wrote
+
+  explain_none : (text : List ℕ) (said : Said) (status : ℕ) → Comes (Some Explain) (Some text) before now said →
+      Written (said_status said) (said_text said) w w2 f f2 status → is_explainable text ≡ false → IsUnlessFault 2 status
+  explain_none text (Done c items) status comes written none = unexplained c.status text items.items status comes.1 written none
+  explain_none text (NoScenario n) status comes written none = absurd comes
+  explain_none text NoText status comes written none = inr (unless_write w w2 f f2 2 no_text status written)
+  explain_none text ReadFault status comes written none = unless_read w w2 f f2 2 read_text status written
+  explain_none text OtherWords status comes written none = absurd cc
+  explain_none text NoMemory status comes written none = unless_memory w w2 f f2 2 [] status written
+
+  pub status_refused : (command : Option Command) (left : Option (List ℕ)) (said : Said) (status : ℕ) →
       Comes command left before now said → Written (said_status said) (said_text said) w w2 f f2 status →
-      IfSome (task_in command) (λ task. IfSome left (λ text. (line : ℕ) → scenario_of (purpose_of task) text ≡ Err line →
-      IsUnlessFault 2 status))
-  status_no_scenario None left said status comes written = tt
-  status_no_scenario (Some (Told task)) None said status comes written = tt
-  status_no_scenario (Some (Told task)) (Some text) said status comes written = text_none task text said status comes written
-  status_no_scenario (Some (Gen count)) left said status comes written = tt
+      IfSome command (λ c. IfSome left (RefusesText c status))
+  status_refused None left said status comes written = tt
+  status_refused (Some command) None said status comes written = tt
+  status_refused (Some (Told task)) (Some text) said status comes written = text_none task text said status comes written
+  status_refused (Some (Gen count)) (Some text) said status comes written = tt
+  status_refused (Some Explain) (Some text) said status comes written = explain_none text said status comes written
 
 -- ---- a text that is a scenario
 
@@ -181,6 +201,7 @@ module _ (w w2 : Option (List ℕ)) (f f2 : ℕ) (status : ℕ) where
       delegate_done RecordDue status_due w w2 f f2 status text c.status items.items c.kept comes.0.0 comes.1 written
   delegate_ends before now text (NoScenario n) comes written = λ scenario is matching.
       absurd (both purposes.Exchange text scenario n is comes)
+  delegate_ends before now text NoText comes written = let some = comes.0 in absurd cc
   delegate_ends before now text ReadFault comes written = λ scenario is matching.
       ((λ enough. unless_read w w2 f f2 0 read_text status written), (λ few. unless_read w w2 f f2 1 read_text status written))
   delegate_ends before now text OtherWords comes written = absurd cc
@@ -212,6 +233,7 @@ module _ (w w2 : Option (List ℕ)) (f f2 : ℕ) (status : ℕ) where
   play_ends before now text (Done c items) comes written =
       λ scenario is. play_done text c.status items.items c.kept comes.0.0 comes.1 written
   play_ends before now text (NoScenario n) comes written = λ scenario is. absurd (both purposes.Play text scenario n is comes)
+  play_ends before now text NoText comes written = let some = comes.0 in absurd cc
   play_ends before now text ReadFault comes written = λ scenario is. unless_read w w2 f f2 0 read_text status written
   play_ends before now text OtherWords comes written = absurd cc
   play_ends before now text NoMemory comes written = λ scenario is. unless_memory w w2 f f2 0 [] status written
@@ -222,15 +244,16 @@ module _ (w w2 : Option (List ℕ)) (f f2 : ℕ) (status : ℕ) where
   gate_lost : (text : List ℕ) → Written 5 text w w2 f f2 status → (n : ℕ) × (n ≤ 1) × IsUnlessFault n status
   gate_lost text wrote = (0, omega arith, unless_memory w w2 f f2 0 text status wrote)
 
-  gate_said : (c : Conducted) (text : List ℕ) → IsDue (Due (Told Gate) c) c.status text → Written c.status text w w2 f f2 status →
+  gate_said : (c : Conducted) (text : List ℕ) → IsDue (TaskDue Gate c) c.status text → Written c.status text w w2 f f2 status →
       (n : ℕ) × (n ≤ 1) × IsUnlessFault n status
-  gate_said c text (inl told) wrote = gate_done c.status text (due_small (Told Gate) c c.status text told) wrote
+  gate_said c text (inl told) wrote = gate_done c.status text (task_small Gate c c.status text told) wrote
   gate_said c text (inr h) wrote = gate_lost text (subst (λ (n : ℕ). Written n text w w2 f f2 status) h.0 wrote)
 
   gate_ends : (before now : ℕ) (text : List ℕ) (said : Said) → Comes (Some (Told Gate)) (Some text) before now said →
       Written (said_status said) (said_text said) w w2 f f2 status → GateEnds text status
   gate_ends before now text (Done c items) comes written = λ scenario is. gate_said c items.items comes.1 written
   gate_ends before now text (NoScenario n) comes written = λ scenario is. absurd (both purposes.Exchange text scenario n is comes)
+  gate_ends before now text NoText comes written = let some = comes.0 in absurd cc
   gate_ends before now text ReadFault comes written = λ scenario is. (0, omega arith, unless_read w w2 f f2 0 read_text status written)
   gate_ends before now text OtherWords comes written = absurd cc
   gate_ends before now text NoMemory comes written = λ scenario is. gate_lost [] written
@@ -240,6 +263,7 @@ module _ (w w2 : Option (List ℕ)) (f f2 : ℕ) (status : ℕ) where
   audit_ends before now text (Done c items) comes written =
       delegate_done IsAudited audited_status w w2 f f2 status text c.status items.items c.kept comes.0.0 comes.1 written
   audit_ends before now text (NoScenario n) comes written = delegate_ends before now text (NoScenario n) comes written
+  audit_ends before now text NoText comes written = let some = comes.0 in absurd cc
   audit_ends before now text ReadFault comes written = delegate_ends before now text ReadFault comes written
   audit_ends before now text OtherWords comes written = absurd cc
   audit_ends before now text NoMemory comes written = delegate_ends before now text NoMemory refl written
@@ -272,6 +296,7 @@ module _ (w w2 : Option (List ℕ)) (f f2 : ℕ) (status : ℕ) where
       Written (said_status said) (said_text said) w w2 f f2 status → EarlyEnds text status
   early_ends before now text (Done c items) comes written = early_done text c.status items.items c.kept comes.0.0 comes.1 written
   early_ends before now text (NoScenario n) comes written = λ scenario is matching. absurd (both purposes.Early text scenario n is comes)
+  early_ends before now text NoText comes written = let some = comes.0 in absurd cc
   early_ends before now text ReadFault comes written = λ scenario is matching. (
     (λ enough. unless_read w w2 f f2 (admitted_status scenario) read_text status written),
     (λ few. unless_read w w2 f f2 1 read_text status written),
@@ -299,9 +324,27 @@ module _ (w w2 : Option (List ℕ)) (f f2 : ℕ) (status : ℕ) where
       Written (said_status said) (said_text said) w w2 f f2 status → IsUnlessWrite 0 status
   generate_ends before now count left (Done c items) comes written = tally_done c.tally c.status items.items comes.1 written
   generate_ends before now count left (NoScenario n) comes written = absurd comes
+  generate_ends before now count left NoText comes written = let some = comes.0 in absurd cc
   generate_ends before now count left ReadFault comes written = let some = comes.0 in absurd cc
   generate_ends before now count left OtherWords comes written = absurd cc
   generate_ends before now count left NoMemory comes written = no_memory_status [] written
+
+  -- a text that can be explained
+  explain_done : (own : ℕ) (text written : List ℕ) → IsDue (ExplainDue (Some text)) own written →
+      Written own written w w2 f f2 status → IsUnlessFault 0 status
+  explain_done own text written (inl told) wrote =
+      inr (unless_write w w2 f f2 0 written status (subst (λ (n : ℕ). Written n written w w2 f f2 status) told.0 wrote))
+  explain_done own text written (inr h) wrote =
+      unless_memory w w2 f f2 0 written status (subst (λ (n : ℕ). Written n written w w2 f f2 status) h.0 wrote)
+
+  explain_ends : (before now : ℕ) (text : List ℕ) (said : Said) → Comes (Some Explain) (Some text) before now said →
+      Written (said_status said) (said_text said) w w2 f f2 status → ExplainEnds text status
+  explain_ends before now text (Done c items) comes written = λ can. explain_done c.status text items.items comes.1 written
+  explain_ends before now text (NoScenario n) comes written = absurd comes
+  explain_ends before now text NoText comes written = λ can. absurd (both_ways (is_explainable text) can comes.1)
+  explain_ends before now text ReadFault comes written = λ can. unless_read w w2 f f2 0 read_text status written
+  explain_ends before now text OtherWords comes written = absurd cc
+  explain_ends before now text NoMemory comes written = λ can. unless_memory w w2 f f2 0 [] status written
 
   command_ends : (before now : ℕ) (command : Command) (left : Option (List ℕ)) (said : Said) →
       Comes (Some command) left before now said → Written (said_status said) (said_text said) w w2 f f2 status →
@@ -318,6 +361,8 @@ module _ (w w2 : Option (List ℕ)) (f f2 : ℕ) (status : ℕ) where
   command_ends before now (Told Early) (Some text) said comes written = early_ends before now text said comes written
   command_ends before now (Told (Desk count)) left said comes written = tt
   command_ends before now (Gen count) left said comes written = generate_ends before now count left said comes written
+  command_ends before now Explain None said comes written = tt
+  command_ends before now Explain (Some text) said comes written = explain_ends before now text said comes written
 
   pub status_ends : (before now : ℕ) (command : Option Command) (left : Option (List ℕ)) (said : Said) →
       Comes command left before now said → Written (said_status said) (said_text said) w w2 f f2 status →

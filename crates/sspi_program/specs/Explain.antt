@@ -9,9 +9,14 @@ use Rattle.sspi_program.specs.Status.{IsUnlessFault}
 abbrev pub is_explainable : List ℕ → Bool
 is_explainable text = nat_le (length text) explain_limit && is_utf8 text
 
+-- a text that can be explained is told so
+pub record IsExplained (source text : List ℕ) : Type 0 where
+  pub explainable : is_explainable source ≡ true
+  pub told : text ≡ explained source
+
 -- the status and the text that are due, where the source tells its text
 abbrev pub ExplainDue : Option (List ℕ) → ℕ → List ℕ → Type 0
-ExplainDue left status text = (status ≡ 0) × IfSome left (λ source. text ≡ explained source)
+ExplainDue left status text = (status ≡ 0) × IfSome left (λ source. IsExplained source text)
 
 -- a text that can be explained is
 abbrev pub ExplainEnds : List ℕ → ℕ → Type 0

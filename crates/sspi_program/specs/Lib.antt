@@ -12,6 +12,7 @@ pub mod Audit
 pub mod Early
 pub mod Generate
 pub mod Explain
+pub mod Reason
 pub mod Promises
 pub mod Run
 pub mod Telling

@@ -1,5 +1,5 @@
 -- How a record is told, step by step.
-use Rattle.std.specs.Prelude.{◌≡◌, ℕ, false, List, Option, None, IsSome, Ok, ◌⊎◌, [], Result, Err, IsErr}
+use Rattle.std.specs.Prelude.{◌≡◌, ℕ, true, false, List, Option, None, IsSome, Ok, ◌⊎◌, [], Result, Err, IsErr}
 use Rattle.std.specs.Global.{Vec}
 use Rattle.std.specs.Str.{is_utf8}
 use Rattle.sspi_explain.specs.Explained.{explained}
@@ -110,10 +110,20 @@ CarriesOut task text OtherWords = ⊥
 CarriesOut task text NoMemory = Unit {0}
 
 -- what is said of a text whose messages are explained
+abbrev pub ExplainsText : List ℕ → Said → Type 0
+ExplainsText text (Done conducted told) = (conducted ≡ nothing 0) × (told.items ≡ explained text)
+ExplainsText text (NoScenario line) = ⊥
+ExplainsText text NoText = ⊥
+ExplainsText text ReadFault = ⊥
+ExplainsText text OtherWords = ⊥
+ExplainsText text NoMemory = Unit {0}
+
+-- the same of bytes, which are a text where they are UTF-8
 abbrev pub Explains : List ℕ → Said → Type 0
-Explains text (Done conducted told) = (conducted ≡ nothing 0) × (told.items ≡ explained text)
-Explains text (NoScenario line) = ⊥
-Explains text NoText = is_utf8 text ≡ false
-Explains text ReadFault = ⊥
-Explains text OtherWords = ⊥
-Explains text NoMemory = Unit {0}
+Explains bytes (Done conducted told) =
+    (is_utf8 bytes ≡ true) × (conducted ≡ nothing 0) × (told.items ≡ explained bytes)
+Explains bytes (NoScenario line) = ⊥
+Explains bytes NoText = is_utf8 bytes ≡ false
+Explains bytes ReadFault = ⊥
+Explains bytes OtherWords = ⊥
+Explains bytes NoMemory = Unit {0}

@@ -1,19 +1,18 @@
 //! How the process ends: what `main` hands in is what the words and the standard streams of the
-//! process are.
+//! process are, and what it answers is the status that the process ends with.
 ghost use Rattle.std.specs.Prelude.{◌≡◌, ◌≢◌, ◌≤◌, None, IfOk, IfErr};
-ghost use Rattle.std.specs.Process.{exit_status};
 ghost use Rattle.std.specs.IoError.{error_kind};
 ghost use Rattle.sspi_program.specs.Commands.{command_of, limit_in, most_taken};
 ghost use Rattle.sspi_program.specs.Run.{outside, EndsRun};
 ghost use Rattle.sspi_scenario.specs.Reading.{TakesAtMost};
 
+use crate::command::{Command, command_of};
 use crate::run::exit_status;
 use crate::status;
 use sspi_ber::{Sink, Source};
 use std::alloc::Global;
 use std::env::{self, Env};
 use std::io::{self, ErrorKind};
-use std::process::ExitCode;
 
 /// The words after the program's name. One that is not UTF-8 is an error, and so is want of memory,
 /// by its kind `OutOfMemory`. Which words a process was given no contract can say.
@@ -25,6 +24,17 @@ pub fn words_of<R: Env + Alloc<A = Global>>(rt: &R) -> io::Result<Vec<String>> {
     Ok(words)
 }
 
+/// What words that were read ask for. Words that are not UTF-8 are no command.
+pub fn command_in(words: &io::Result<Vec<String>>) -> Option<Command>
+    ensures read { IfOk words.now (λ words. result ≡ command_of words.items) }
+    ensures unread { IfErr words.now (λ error. result ≡ None) }
+{
+    match words {
+        Ok(words) => command_of(words),
+        Err(_) => None,
+    }
+}
+
 /// Runs the program on the words that were read, and answers the status that the process ends with:
 /// that of `exit_status` of these words. Where a word is not UTF-8 they are no command, so it is
 /// that of no words. Where memory was wanting for them it is 5 at once, and nothing was read or
@@ -34,16 +44,16 @@ pub fn ended<S: Source, W: Sink>(
     words: io::Result<Vec<String>>,
     source: &mut S,
     sink: &mut W,
-) -> ExitCode
+) -> u8
     // The status.
     ensures runs { IfOk words (λ words. EndsRun (command_of words.items)
         (outside (S.left source.old) (S.faults source.old) (W.written sink.old) (W.faults sink.old))
-        (outside (S.left source.new) (S.faults source.new) (W.written sink.new) (W.faults sink.new)) (exit_status result)) }
+        (outside (S.left source.new) (S.faults source.new) (W.written sink.new) (W.faults sink.new)) result) }
     ensures no_words { IfErr words (λ error. error_kind error ≢ ErrorKind.OutOfMemory → EndsRun None
         (outside (S.left source.old) (S.faults source.old) (W.written sink.old) (W.faults sink.old))
-        (outside (S.left source.new) (S.faults source.new) (W.written sink.new) (W.faults sink.new)) (exit_status result)) }
+        (outside (S.left source.new) (S.faults source.new) (W.written sink.new) (W.faults sink.new)) result) }
     ensures no_memory { IfErr words (λ error. error_kind error ≡ ErrorKind.OutOfMemory →
-        (exit_status result ≡ 5) × (source.new ≡ source.old) × (sink.new ≡ sink.old)) }
+        (result ≡ 5) × (source.new ≡ source.old) × (sink.new ≡ sink.old)) }
     // What was read.
     ensures unread { IfOk words (λ words. limit_in (command_of words.items) ≡ None → source.new ≡ source.old) }
     ensures unasked { IfErr words (λ error. source.new ≡ source.old) }
@@ -52,11 +62,9 @@ pub fn ended<S: Source, W: Sink>(
     ensures faults { (S.faults source.old ≤ S.faults source.new) × (W.faults sink.old ≤ W.faults sink.new) }
 {
     match words {
-        Ok(words) => ExitCode::from(exit_status(alloc, &words, source, sink)),
-        Err(error) if error.kind() == ErrorKind::OutOfMemory => {
-            ExitCode::from(status::NO_MEMORY)
-        }
+        Ok(words) => exit_status(alloc, &words, source, sink),
+        Err(error) if error.kind() == ErrorKind::OutOfMemory => status::NO_MEMORY,
         // A word that is not UTF-8 is no command.
-        Err(_) => ExitCode::from(exit_status(alloc, &[], source, sink)),
+        Err(_) => exit_status(alloc, &[], source, sink),
     }
 }

@@ -146,7 +146,7 @@ fn conduct_explain<S: Source>(alloc: Global, source: &mut S) -> Said
     ensures calm { ReadsWell (S.faults source.old) (S.faults source.new) result }
 {
     match read_text(alloc, EXPLAIN_LIMIT, source) {
-        Ok(text) => words::explain::explain_text(alloc, &text),
+        Ok(text) => words::explain::explain_bytes(alloc, &text),
         Err(TextError::TooLong) => Said::NoText,
         Err(TextError::Failed) => Said::ReadFault,
         Err(TextError::InsufficientMemory) => Said::NoMemory,

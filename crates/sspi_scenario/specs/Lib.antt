@@ -18,3 +18,4 @@ pub mod Scenario
 pub mod Held
 pub mod Numbered
 pub mod Drafts
+pub mod Reasons

@@ -8,7 +8,7 @@
 //! `specs/Table.antt` has the table of keys, a row for each, `specs/Keys.antt` which of them exclude each other,
 //! `specs/Purposes.antt` which of them a scenario may have,
 //! `specs/Faults.antt` which line is the first at fault, and `specs/Scenario.antt` the defaults and the scenario of a text.
-//! `laws` has what follows from these. A key is a variant of `Key` with its name, a row of `Values::put`, and a field of
+//! `reason` says in words why a text is no scenario. `laws` has what follows from these. A key is a variant of `Key` with its name, a row of `Values::put`, and a field of
 //! `Scenario` with its default; and in the definitions a row with its place among all keys, and the same default.
 #![tactic(auto)]
 
@@ -24,6 +24,7 @@ pub mod number;
 pub mod numbered;
 pub mod purpose;
 pub mod reading;
+mod reasons;
 pub mod scenario;
 mod script;
 mod values;
@@ -31,4 +32,5 @@ mod words;
 
 pub use purpose::Purpose;
 pub use reading::{TEXT_LIMIT, TextError, read_text};
+pub use reasons::reason;
 pub use scenario::{Mode, Package, Scenario, ScenarioError};

@@ -28,7 +28,7 @@ impl Purpose {
     }
 
     /// Whether a scenario for this may have a key.
-    fn takes(self, key: Key) -> bool
+    pub fn takes(self, key: Key) -> bool
         ensures { result ≡ Purposes.takes self key }
     {
         match self {

@@ -1,5 +1,5 @@
 use Rattle.std.proofs.Common.{None}
-use Rattle.sspi_program.proofs.Ending.{status_no_scenario, status_ends}
+use Rattle.sspi_program.proofs.Ending.{status_refused, status_ends}
 use Rattle.sspi_program.proofs.Running.{keeps_only, status_most, status_whole, status_line, status_read, status_calm, status_words}
 use Rattle.sspi_program.proofs.Running.{status_none, write_rose, status_reported, owes}
 use Rattle.sspi_program.specs.Run.{outside}
@@ -16,7 +16,7 @@ returns-clause-runs g c =
         most = status_most _ _ _ _ _ _ _ _ said _ comes written;
         whole = status_whole _ _ 0 0 _ _ _ _ _ said _ c.conduct-said.ensures.judged written;
         two = status_line _ _ _ said _ comes written;
-        no_scenario = status_no_scenario _ _ _ _ _ _ _ _ said _ comes written;
+        refused = status_refused _ _ _ _ _ _ _ _ said _ comes written;
         read = status_calm None None _ _ _ _ _ _ said _ c.conduct-said.ensures.calm written;
         three = status_read _ _ _ _ _ _ _ _ said _ comes written;
         four = write_rose _ _ _ _ _ _ _ _ said _ comes written;

@@ -12,3 +12,7 @@ returns-in-ReadFault-clause-written g c =
 pub returns-in-OtherWords-clause-written : goal.returns-in-OtherWords-clause-written
 returns-in-OtherWords-clause-written g c =
     told_as _ _ _ _ _ _ _ _ c.in-OtherWords.is c.nothing-in-OtherWords.ensures c.write_text-in-OtherWords.ensures.written
+
+pub returns-in-NoText-clause-written : goal.returns-in-NoText-clause-written
+returns-in-NoText-clause-written g c =
+    told_as _ _ _ _ _ _ _ _ c.in-NoText.is c.nothing-in-NoText.ensures c.write_text.ensures.written

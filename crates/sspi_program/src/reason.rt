@@ -1,0 +1,101 @@
+//! What standard error is told of a run, in words.
+ghost use Rattle.std.specs.Prelude.{◌≡◌, ◌≤◌, string_bytes, IfOk};
+ghost use Rattle.sspi_program.specs.Reason.{reason_text, refused_text, unexplained_text};
+
+use crate::command::Command;
+use crate::run::EXPLAIN_LIMIT;
+use crate::status;
+use sspi_ber::{Sink, write_all};
+use sspi_scenario::reason;
+use std::alloc::{AllocError, Global};
+use std::str;
+
+/// The words of the program, a line each.
+pub const USAGE: &str = "\
+usage: sspi_run WORD, which reads standard input and writes standard output
+  delegate    of a scenario: both ends exchange their messages over its link
+  play        of a scenario: its ends take the deliveries of its schedule
+  gate        of a scenario: delegate, and a relay passes what was delivered
+  audit       of a scenario: delegate, and an auditor judges turns and log
+  early       of a scenario: delegate, and the server tells the early result
+  desk N      of a scenario: N of its clients at one desk, N from 1 to 64
+  gen N       reads nothing: delegate of scenarios 0 to N - 1, N from 1 to 10000
+  explain     of any text: its messages in hex, or why a reader refuses them
+Exit status: 0 done, 1 refused, 2 no such text, 3 no input, 4 no output,
+5 no memory, 6 other words. docs/FORMATS.md has the scenarios and the reports.
+";
+
+/// Why a run of this command on this text ended with this status, in words and without the last
+/// line's end. Nothing at 0 and 1, where the report says it, and at 6, where `USAGE` does.
+pub fn reason_of(
+    alloc: Global,
+    command: Option<Command>,
+    text: &[u8],
+    status: u8,
+) -> Result<String, AllocError>
+    ensures { IfOk result (λ told. string_bytes told ≡ reason_text command text.now status) }
+{
+    match status {
+        status::NO_SCENARIO => refused_text(alloc, command, text),
+        status::READ_FAULT => String::from_str(alloc, "standard input: a read failed"),
+        status::WRITE_FAULT => String::from_str(alloc, "standard output: a write failed"),
+        status::NO_MEMORY => String::from_str(alloc, "out of memory"),
+        _ => Ok(String::new(alloc)),
+    }
+}
+
+/// Tells standard error why a run ended with this status: the usage where the words are no command,
+/// and else the reason, as a line. Nothing at 0 and 1. Where the text was not kept, at 2 nothing. What
+/// `errors` does not take is lost.
+pub fn tell_reason<E: Sink>(
+    alloc: Global,
+    errors: &mut E,
+    command: Option<Command>,
+    text: Option<&[u8]>,
+    status: u8,
+)
+    ensures quiet { status ≤ 1 → errors.new ≡ errors.old }
+{
+    match (status, text) {
+        (status::DONE | status::REFUSED, _) | (status::NO_SCENARIO, None) => {}
+        (status::OTHER_WORDS, _) => {
+            let _taken = write_all(errors, USAGE.as_bytes()).is_ok();
+        }
+        (_, Some(text)) => write_reason(errors, reason_of(alloc, command, text, status)),
+        (_, None) => write_reason(errors, reason_of(alloc, command, &[], status)),
+    }
+}
+
+/// Writes a reason as a line.
+fn write_reason<E: Sink>(errors: &mut E, reason: Result<String, AllocError>) {
+    let _taken = match reason {
+        Ok(reason) => {
+            write_all(errors, reason.as_bytes()).is_ok() && write_all(errors, b"\n").is_ok()
+        }
+        Err(_) => write_all(errors, b"out of memory\n").is_ok(),
+    };
+}
+
+/// Why a text is none for a command.
+fn refused_text(alloc: Global, command: Option<Command>, text: &[u8]) -> Result<String, AllocError>
+    ensures { IfOk result (λ told. string_bytes told ≡ refused_text command text.now) }
+{
+    match command {
+        Some(Command::Told(task)) => reason(alloc, task.purpose(), text),
+        Some(Command::Explain) => String::from_str(alloc, unexplained_text(text)),
+        Some(Command::Gen(_)) | None => Ok(String::new(alloc)),
+    }
+}
+
+/// Why a text cannot be explained.
+fn unexplained_text(text: &[u8]) -> &'static str
+    ensures { result.now ≡ unexplained_text text.now }
+{
+    if text.len() > EXPLAIN_LIMIT {
+        return "text: more than 2097152 bytes";
+    }
+    match str::from_utf8(text) {
+        Ok(_) => "",
+        Err(_) => "text: not UTF-8",
+    }
+}

@@ -1,0 +1,277 @@
+//! Why a text is no scenario, in words for whoever writes it.
+ghost use Rattle.std.specs.Prelude.{◌≡◌, ◌-◌, ◌++◌, None, string_bytes, IfOk, OnOk, option_copied};
+ghost use Rattle.std.specs.List.{slice_get};
+ghost use Rattle.sspi_scenario.specs.Lines.{lines_of};
+ghost use Rattle.sspi_scenario.specs.Reasons.{fault_line, fault_text, is_plain, is_plain_byte, is_shown};
+ghost use Rattle.sspi_scenario.specs.Reasons.{key_text, missing_part, missing_text, names_key, numbered_text, reason_text};
+ghost use Rattle.sspi_scenario.specs.Reasons.{value_is_good, value_text, wanted, was_put, whole_text};
+ghost use Rattle.sspi_scenario.specs.Scenario.{scenario_of};
+
+use crate::error::LineError;
+use crate::key::Key;
+use crate::lines::{first_line, sides};
+use crate::purpose::Purpose;
+use crate::reading::TEXT_LIMIT;
+use crate::scenario::{Scenario, ScenarioError};
+use crate::values::Values;
+use std::alloc::{AllocError, Global};
+use std::str;
+
+/// So many bytes of a value are shown at most.
+const SHOWN: usize = 40;
+
+/// Why this text is no scenario for this purpose, in words and without a line's end: what
+/// `Scenario::parse` refuses it for. Nothing where it is one.
+///
+/// It names the line, as `line 5: turns: no number from 0 to 4294967295 without leading zeros: "05"`;
+/// or the keys that are missing; or that the text is too long or is not UTF-8. A value is shown where
+/// its key takes a number or one of a few words, and only where it is short and of printable ASCII.
+/// No password, keytab or ticket is shown, nor a key that is unknown, which may be part of a password.
+pub fn reason(alloc: Global, purpose: Purpose, text: &[u8]) -> Result<String, AllocError>
+    ensures { IfOk result (λ told. string_bytes told ≡ reason_text purpose text.now) }
+{
+    match faulty_line(alloc, purpose, text)? {
+        None => Ok(String::new(alloc)),
+        Some(0) => whole_text(alloc, text),
+        Some(number) => numbered_text(alloc, purpose, number, text),
+    }
+}
+
+/// The number of the first faulty line, 0 where none is to blame; none of a scenario.
+fn faulty_line(alloc: Global, purpose: Purpose, text: &[u8]) -> Result<Option<usize>, AllocError>
+    ensures { IfOk result (λ line. line ≡ fault_line (scenario_of purpose text.now)) }
+{
+    match Scenario::parse(alloc, purpose, text) {
+        Ok(scenario) => Ok(none_beside(scenario)),
+        Err(ScenarioError::Line(number)) => Ok(Some(number)),
+        Err(ScenarioError::InsufficientMemory) => Err(AllocError),
+    }
+}
+
+/// Generic, since to drop a value of a type parameter is one step.
+fn none_beside<T: Drop>(_value: T) -> Option<usize>
+    ensures { result ≡ None }
+{
+    None
+}
+
+/// Why no line of a text is looked at, or which keys it lacks.
+fn whole_text(alloc: Global, text: &[u8]) -> Result<String, AllocError>
+    ensures { IfOk result (λ told. string_bytes told ≡ whole_text text.now) }
+{
+    if text.len() > TEXT_LIMIT {
+        return String::from_str(alloc, "text: more than 1048576 bytes");
+    }
+    match str::from_utf8(text) {
+        Ok(text) => missing_text(alloc, text),
+        Err(_) => String::from_str(alloc, "text: not UTF-8"),
+    }
+}
+
+/// The required keys that no line of a text names.
+fn missing_text(alloc: Global, text: &str) -> Result<String, AllocError>
+    ensures { IfOk result (λ told. string_bytes told ≡ missing_text text.now) }
+{
+    let mut told = String::from_str(alloc, "text: missing keys:")?;
+    push_missing(&mut told, text, "mode")?;
+    push_missing(&mut told, text, "user")?;
+    push_missing(&mut told, text, "password")?;
+    push_missing(&mut told, text, "key")?;
+    Ok(told)
+}
+
+fn push_missing(told: &mut String, text: &str, name: &str) -> Result<(), AllocError>
+    ensures { OnOk result (string_bytes told.new ≡ string_bytes told.old ++ missing_part text.now name.now) }
+{
+    if names_key(text, name) {
+        return Ok(());
+    }
+    told.push(' ')?;
+    told.push_str(name)
+}
+
+/// Whether a line of a text begins with this key.
+fn names_key(text: &str, name: &str) -> bool
+    ensures { result ≡ names_key (lines_of text.now) name.now }
+{
+    let mut rest = Some(text);
+    while let Some(text) = rest {
+        let (line, more) = first_line(text);
+        let (key, _value) = sides(line);
+        if key == name {
+            return true;
+        }
+        rest = more;
+    }
+    false
+}
+
+/// What is wrong with the line of this number, from 1.
+fn numbered_text(
+    alloc: Global,
+    purpose: Purpose,
+    number: usize,
+    text: &[u8],
+) -> Result<String, AllocError>
+    ensures { IfOk result (λ told. string_bytes told ≡ numbered_text purpose number text.now) }
+{
+    let Ok(text) = str::from_utf8(text) else {
+        return Ok(String::new(alloc));
+    };
+    match line_at(text, number) {
+        Some(line) => {
+            let fault = fault_text(alloc, purpose, line)?;
+            format!(in alloc; "line {number}: {fault}")
+        }
+        None => Ok(String::new(alloc)),
+    }
+}
+
+/// The line of this number, from 1.
+fn line_at(text: &str, number: usize) -> Option<&str>
+    ensures { option_copied result ≡ slice_get (lines_of text.now) (number - 1) }
+{
+    let mut left = number.saturating_sub(1);
+    let mut rest = Some(text);
+    while let Some(text) = rest {
+        let (line, more) = first_line(text);
+        if left == 0 {
+            return Some(line);
+        }
+        left -= 1;
+        rest = more;
+    }
+    None
+}
+
+/// What is wrong with a faulty line: its key, its value, or that an earlier line excludes it.
+fn fault_text(alloc: Global, purpose: Purpose, line: &str) -> Result<String, AllocError>
+    ensures { IfOk result (λ told. string_bytes told ≡ fault_text purpose line.now) }
+{
+    let (name, value) = sides(line);
+    match Key::from_name(name) {
+        Some(key) => key_text(alloc, purpose, key, name, value),
+        None => String::from_str(alloc, "no key of a scenario"),
+    }
+}
+
+fn key_text(
+    alloc: Global,
+    purpose: Purpose,
+    key: Key,
+    name: &str,
+    value: &str,
+) -> Result<String, AllocError>
+    ensures { IfOk result (λ told. string_bytes told ≡ key_text purpose key name.now value.now) }
+{
+    if !purpose.takes(key) {
+        return format!(in alloc; "{name}: no key of this word");
+    }
+    if value_is_good(alloc, key, value)? {
+        return format!(in alloc; "{name}: an earlier line has or excludes this key");
+    }
+    let fault = value_text(alloc, key, value)?;
+    format!(in alloc; "{name}: {fault}")
+}
+
+/// Whether a value is as the grammar of its key wants it.
+fn value_is_good(alloc: Global, key: Key, value: &str) -> Result<bool, AllocError>
+    ensures { IfOk result (λ is. is ≡ value_is_good key value.now) }
+{
+    let Ok(mut values) = Values::new(alloc) else {
+        return Err(AllocError);
+    };
+    let put = values.put(alloc, key, value);
+    judged_beside(values, put)
+}
+
+/// Generic, as `none_beside` is.
+fn judged_beside<T: Drop>(_values: T, put: Result<(), LineError>) -> Result<bool, AllocError>
+    ensures { IfOk result (λ is. is ≡ was_put put) }
+{
+    match put {
+        Ok(()) => Ok(true),
+        Err(LineError::Fault) => Ok(false),
+        Err(LineError::InsufficientMemory) => Err(AllocError),
+    }
+}
+
+/// What the grammar of a key wants, and the value where it may be shown.
+fn value_text(alloc: Global, key: Key, value: &str) -> Result<String, AllocError>
+    ensures { IfOk result (λ told. string_bytes told ≡ value_text key value.now) }
+{
+    let wanted = wanted(key);
+    if is_shown(key) && is_plain(value) {
+        return format!(in alloc; "{wanted}: \"{value}\"");
+    }
+    String::from_str(alloc, wanted)
+}
+
+/// Whether a value of this key may be shown: a number, or one of a few words.
+fn is_shown(key: Key) -> bool
+    ensures { result ≡ is_shown key }
+{
+    match key {
+        Key::Mode
+        | Key::ClientVersion
+        | Key::ServerVersion
+        | Key::Delegation
+        | Key::ClientProtocol
+        | Key::ServerProtocol
+        | Key::KdcAnswer
+        | Key::Accounts
+        | Key::ProxyFail
+        | Key::Turns
+        | Key::ClientLeast
+        | Key::ServerLeast => true,
+        _ => false,
+    }
+}
+
+/// Whether a value is short and of printable ASCII alone.
+fn is_plain(value: &str) -> bool
+    ensures { result ≡ is_plain value.now }
+{
+    value.len() <= SHOWN && value.as_bytes().iter().all(|byte| is_plain_byte(*byte))
+}
+
+fn is_plain_byte(byte: u8) -> bool
+    ensures { result ≡ is_plain_byte byte }
+{
+    32 <= byte && byte <= 126
+}
+
+/// What a value of this key is not.
+fn wanted(key: Key) -> &'static str
+    ensures { result.now ≡ wanted key }
+{
+    match key {
+        Key::Mode => "neither ntlm nor negotiate",
+        Key::ClientVersion
+        | Key::ServerVersion
+        | Key::ProxyFail
+        | Key::Turns
+        | Key::ClientLeast
+        | Key::ServerLeast => "no number from 0 to 4294967295 without leading zeros",
+        Key::User | Key::Admit => "a name with two \\, or with a \\ and an @",
+        Key::Account => "no name, space and password, or a name with two \\, or with a \\ and an @",
+        Key::Key | Key::ServerKey | Key::Keytab => "no even number of hex digits",
+        Key::Nonce | Key::Ticket => "not 64 hex digits",
+        Key::Challenge => "not 16 hex digits",
+        Key::Delegation => "neither with nor less",
+        Key::ClientProtocol | Key::ServerProtocol => "neither ntlm nor kerberos",
+        Key::Accounts => "neither own nor none",
+        Key::Kdc => "no realm, space and URL",
+        Key::KdcAnswer => "none of usual, fail, and code with a number up to 255",
+        Key::Edit =>
+            "no number, space, and drop, cut, set, add, give, again or fail with its argument",
+        Key::Deliver => "no client or server, space and hex",
+        Key::Password
+        | Key::Computer
+        | Key::Target
+        | Key::ClientPackages
+        | Key::ServerPackages
+        | Key::ClientUrl
+        | Key::KdcUser => "no text",
+    }
+}
