@@ -1,4 +1,4 @@
-.PHONY: run play program test check fmt size apart guide wrong-bodies hostile fuzz lib c rust install check-one
+.PHONY: run explain play program test check fmt size apart guide wrong-bodies hostile fuzz lib c rust install check-one
 
 PREFIX ?= /usr/local
 
@@ -6,6 +6,10 @@ PREFIX ?= /usr/local
 # left the program, else in half a minute, which proves nothing.
 run:
 	@tools/run delegate examples/delegate.scenario
+
+# The same exchange with its messages in words.
+explain:
+	@tools/run delegate examples/delegate.scenario | tools/run explain
 
 # Hands out the deliveries of a schedule, and shows what each end sent and how it stands.
 play:

@@ -3,12 +3,14 @@
 //! Cases stand in tables, a line each, and one helper runs them: a value that is alive over a `?` is what a test costs most.
 
 mod edges;
+mod explained;
 mod faults;
 mod hostile;
 mod kerberos;
 mod many;
 mod negotiation;
 mod plays;
+mod reasons;
 mod report;
 mod rows;
 mod sessions;

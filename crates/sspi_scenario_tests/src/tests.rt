@@ -1,5 +1,6 @@
 mod checks;
 mod faults;
 mod numbered;
+mod reasons;
 mod sources;
 mod told;

@@ -18,7 +18,8 @@ fn answers(rt: &impl Abort, alloc: Global, words: &str, text: &[u8], status: u8,
 /// Words that are no command, one a line.
 const OTHER_WORDS: &str =
     "\ndelegate delegate\nplay play\ndelegates\nPlay\ndelegate 1\ngate-crash\n\
-    gen\ngen 0\ngen 10001\ngen 01\ngen +1\ngen -1\ngen 4294967297\ngen x\ngen 8 8\nGen 8\n8 gen";
+    gen\ngen 0\ngen 10001\ngen 01\ngen +1\ngen -1\ngen 4294967297\ngen x\ngen 8 8\nGen 8\n8 gen\n\
+    explain x\nExplain\nexplain 1\nhelp\n--help";
 
 #[test]
 fn other_words(rt: HostRuntime) {
@@ -70,6 +71,14 @@ fn no_scenarios(rt: HostRuntime) {
         bytes,
         2,
         "error: scenario line 0\n",
+    );
+    answers(
+        &rt,
+        rt.alloc(),
+        "explain",
+        b"3000\n\xff",
+        2,
+        "error: text\n",
     );
 }
 
