@@ -2,6 +2,7 @@ mod SourceTexts
 mod More
 mod Seen
 pub mod Walk
+pub mod NamedLines
 pub mod Wording
 pub mod EditWords
 pub mod Scripting

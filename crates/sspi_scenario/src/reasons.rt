@@ -131,14 +131,14 @@ fn numbered_text(
 fn line_at(text: &str, number: usize) -> Option<&str>
     ensures { option_copied result ≡ slice_get (lines_of text.now) (number - 1) }
 {
-    let mut left = number.saturating_sub(1);
+    let mut ahead = number.saturating_sub(1);
     let mut rest = Some(text);
     while let Some(text) = rest {
         let (line, more) = first_line(text);
-        if left == 0 {
+        if ahead == 0 {
             return Some(line);
         }
-        left -= 1;
+        ahead -= 1;
         rest = more;
     }
     None

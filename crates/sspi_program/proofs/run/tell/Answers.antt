@@ -7,7 +7,7 @@ returns-in-NoScenario-clause-written g c =
 
 pub returns-in-ReadFault-clause-written : goal.returns-in-ReadFault-clause-written
 returns-in-ReadFault-clause-written g c =
-    told_as _ _ _ _ _ _ _ _ c.in-ReadFault.is c.nothing-in-ReadFault.ensures c.write_text.ensures.written
+    told_as _ _ _ _ _ _ _ _ c.in-ReadFault.is c.nothing-in-ReadFault.ensures c.write_text-in-ReadFault.ensures.written
 
 pub returns-in-OtherWords-clause-written : goal.returns-in-OtherWords-clause-written
 returns-in-OtherWords-clause-written g c =
