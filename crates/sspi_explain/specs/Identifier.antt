@@ -1,14 +1,16 @@
 -- Object identifiers as numbers between dots (X.690 8.19), and the mechanisms that they name.
-use Rattle.std.specs.Prelude.{ℕ, ◌+◌, ◌-◌, ◌*◌, ◌%◌, ◌==◌, ◌&&◌, ◌||◌, nat_le, nat_lt, List, [], ◌∷◌, ◌++◌, codes, decimal, Option, None, Some, if◌then◌else◌}
+use Rattle.std.specs.Prelude.{ℕ, ◌+◌, ◌-◌, ◌*◌, ◌%◌, ◌==◌, ◌&&◌, ◌||◌, nat_le, nat_lt, List, []}
+use Rattle.std.specs.Prelude.{◌∷◌, ◌++◌, codes, decimal, Option, None, Some, if◌then◌else◌}
 use Rattle.std.specs.List.{flat_map}
 use Rattle.std.specs.Option.{option_map}
 use Rattle.std.specs.Str.{bytes_eq}
 use Rattle.sspi_tokens.specs.Oids.{spnego, ms_krb5, krb5, ntlm_ssp}
 use Rattle.sspi_explain.specs.Texts.{content_text}
 
--- Subidentifiers of seven bits an octet, the first octets first; all but the last octet of each have their highest bit set. So far
--- the next one has this value. None where one begins with 80, so that it is not the shortest, where one has more than nine octets,
--- which is where its first nine give 2 ^ 56 or more before the last of them, or where the last one does not end.
+-- Subidentifiers of seven bits an octet, the first octets first; all but the last octet of each
+-- have their highest bit set. So far the next one has this value. None where one begins with 80, so
+-- that it is not the shortest, where one has more than nine octets, which is where its first nine
+-- give 2 ^ 56 or more before the last of them, or where the last one does not end.
 abbrev pub subidentifiers_from : ℕ → List ℕ → Option (List ℕ)
 subidentifiers_from value [] = if value == 0 then Some [] else None
 subidentifiers_from value (octet ∷ rest) =

@@ -47,7 +47,8 @@ abbrev pub fault_name : Fault → List ℕ
 fault_name Ended = codes "UnexpectedEof"
 fault_name Invalid = codes "InvalidData"
 
--- the kind with which a reader of requests refuses a fault: each one of the header counts as the end
+-- the kind with which a reader of requests refuses a fault: each one of the header counts as the
+-- end
 abbrev pub request_kind : Field → Fault → List ℕ
 request_kind field.Header fault = codes "UnexpectedEof"
 request_kind other fault = fault_name fault
@@ -66,7 +67,8 @@ abbrev pub with_line : Depth → ℕ → List ℕ → Sheet → Sheet
 with_line depth at said page = record page { text = page.text ++ line_text depth at said }
 
 abbrev pub with_field : ℕ → Field → List ℕ → Sheet → Sheet
-with_field at field value page = with_line page.depth at (field_name field ++ codes " " ++ value) page
+with_field at field value page = with_line page.depth
+    at (field_name field ++ codes " " ++ value) page
 
 abbrev pub with_content : ℕ → Field → List ℕ → Sheet → Sheet
 with_content at field content page = with_field at field (content_text content) page
@@ -74,7 +76,8 @@ with_content at field content page = with_field at field (content_text content) 
 -- what a reader ignores, where there is something
 abbrev pub with_ignored : Depth → ℕ → List ℕ → Sheet → Sheet
 with_ignored depth at [] page = page
-with_ignored depth at (byte ∷ bytes) page = with_line depth at (codes "ignored " ++ content_text (byte ∷ bytes)) page
+with_ignored depth at (byte ∷ bytes) page = with_line depth
+    at (codes "ignored " ++ content_text (byte ∷ bytes)) page
 
 -- lines that are told elsewhere
 abbrev pub with_text : List ℕ → Sheet → Sheet
@@ -83,4 +86,6 @@ with_text text page = record page { text = page.text ++ text }
 -- where a reader refuses the message, with which kind, in which field, and why
 abbrev pub refused : ℕ → Field → Fault → List ℕ → Sheet → Sheet
 refused at field fault why page =
-    with_line page.depth at (codes "refused " ++ kind_name page.form field fault ++ codes " " ++ field_name field ++ codes ": " ++ why) page
+    with_line page.depth
+    at (codes "refused " ++ kind_name page.form field fault ++ codes " " ++ field_name field ++
+    codes ": " ++ why) page

@@ -1,16 +1,20 @@
 -- A TSRequest, field by field (MS-CSSP 2.2.1), with what its reader ignores.
-use Rattle.std.specs.Prelude.{ℕ, Bool, true, false, nat_le, List, [], ◌++◌, length, Option, None, Some, codes, decimal}
+use Rattle.std.specs.Prelude.{ℕ, Bool, true, false, nat_le, List, [], ◌++◌, length, Option, None}
+use Rattle.std.specs.Prelude.{Some, codes, decimal}
 use Rattle.sspi_ber.specs.Pieces.{Ended}
 use Rattle.sspi_types.specs.declared.nstatus.NStatusCode.{NStatusCode}
 use Rattle.sspi_tsreq.specs.declared.request.TsRequest.{TsRequest}
 use Rattle.sspi_explain.specs.declared.depth.Depth.TheVariants.{Two}
 use Rattle.sspi_explain.specs.declared.field.Field.{Field}
-use Rattle.sspi_explain.specs.declared.field.Field.TheVariants.{Header, Version, NegoTokens, AuthInfo, PubKeyAuth, ErrorCode, ClientNonce}
+use Rattle.sspi_explain.specs.declared.field.Field.TheVariants.{Header, Version, NegoTokens}
+use Rattle.sspi_explain.specs.declared.field.Field.TheVariants.{AuthInfo, PubKeyAuth, ErrorCode}
+use Rattle.sspi_explain.specs.declared.field.Field.TheVariants.{ClientNonce}
 use Rattle.sspi_explain.specs.declared.field.Form.TheVariants as form
 use Rattle.sspi_explain.specs.declared.token.Kind.{Kind}
 use Rattle.sspi_explain.specs.Codes.{code_text}
 use Rattle.sspi_explain.specs.Page.{Sheet, with_field, with_content, with_text}
-use Rattle.sspi_explain.specs.Pieces.{header_told, bytes_told, element_told, there_told, low_told, nonce_told, if_there}
+use Rattle.sspi_explain.specs.Pieces.{header_told, bytes_told, element_told, there_told, low_told}
+use Rattle.sspi_explain.specs.Pieces.{nonce_told, if_there}
 use Rattle.sspi_explain.specs.Texts.{count_text}
 use Rattle.sspi_explain.specs.Token.{kind_of, kind_name, token_told, with_rest}
 use Rattle.sspi_explain.specs.Told.{Spot, spot, offset, At, Told, Goes, Ends, ◌>>=◌}
@@ -19,7 +23,12 @@ unfoldable pub version_told : Sheet → Spot → Told ℕ
 version_told page place = do
   n ← header_told 0xA0 Version page place
   low ← low_told Version n.page n.place
-  Goes (record { page = with_field (offset place) Version (decimal low.value) low.page; value = low.value; place = low.place })
+  Goes (record {
+    page = with_field (offset place) Version (decimal low.value) low.page;
+    value =
+        low.value;
+    place = low.place;
+  })
 
 -- ---- a token inside a request
 
@@ -48,7 +57,8 @@ with_nested (Some fields) kind at content page = with_fields kind fields at cont
 
 abbrev pub with_token_as : Option Kind → ℕ → List ℕ → ℕ → Sheet → Sheet
 with_token_as None at content end page = with_content at NegoTokens content page
-with_token_as (Some kind) at content end page = with_nested (nested_fields kind content end) kind at content page
+with_token_as (Some kind) at content end page = with_nested (nested_fields kind content end) kind
+    at content page
 
 -- a content, or the fields of the token of SPNEGO that it begins with
 unfoldable pub with_token : ℕ → List ℕ → ℕ → Sheet → Sheet
@@ -77,7 +87,11 @@ nego_tokens_told page place = do
 abbrev pub octets_inside : ℕ → Field → Sheet → Spot → Told (List ℕ)
 octets_inside at field page place = do
   content ← element_told 0x04 field page place
-  Goes (record { page = with_content at field content.value content.page; value = content.value; place = content.place })
+  Goes (record {
+    page = with_content at field content.value content.page;
+    value = content.value;
+    place = content.place;
+  })
 
 unfoldable pub octets_told : ℕ → Field → Sheet → Spot → Told (Option (List ℕ))
 octets_told tag field page place = do
@@ -87,7 +101,12 @@ octets_told tag field page place = do
 abbrev pub code_inside : ℕ → Sheet → Spot → Told NStatusCode
 code_inside at page place = do
   code ← low_told ErrorCode page place
-  Goes (record { page = with_field at ErrorCode (code_text code.value) code.page; value = record { 0 = code.value }; place = code.place })
+  Goes (record {
+    page = with_field at ErrorCode (code_text code.value) code.page;
+    value =
+        record { 0 = code.value };
+    place = code.place;
+  })
 
 abbrev pub code_field : Sheet → Spot → Told (Option NStatusCode)
 code_field page place = do
@@ -97,7 +116,11 @@ code_field page place = do
 abbrev pub nonce_inside : ℕ → Sheet → Spot → Told (List ℕ)
 nonce_inside at page place = do
   nonce ← nonce_told ClientNonce page place
-  Goes (record { page = with_content at ClientNonce nonce.value nonce.page; value = nonce.value; place = nonce.place })
+  Goes (record {
+    page = with_content at ClientNonce nonce.value nonce.page;
+    value = nonce.value;
+    place = nonce.place;
+  })
 
 abbrev pub nonce_field : Sheet → Spot → Told (Option (List ℕ))
 nonce_field page place = do
@@ -105,7 +128,8 @@ nonce_field page place = do
   if_there there (nonce_inside (offset place))
 
 -- a field that only some versions look for
-abbrev pub looked_told : {A : Type 0} → Bool → (Sheet → Spot → Told (Option A)) → Sheet → Spot → Told (Option A)
+abbrev pub looked_told : {A : Type 0} → Bool → (Sheet → Spot → Told (Option A)) → Sheet → Spot →
+    Told (Option A)
 looked_told true field page place = field page place
 looked_told false field page place = Goes (record { page = page; value = None; place = place })
 

@@ -1,5 +1,6 @@
 -- The texts of counts and contents.
-use Rattle.std.specs.Prelude.{ℕ, ◌==◌, nat_le, List, [], ◌∷◌, ◌++◌, length, take, codes, decimal, if◌then◌else◌}
+use Rattle.std.specs.Prelude.{ℕ, ◌==◌, nat_le, List, [], ◌∷◌, ◌++◌, length, take, codes, decimal}
+use Rattle.std.specs.Prelude.{if◌then◌else◌}
 use Rattle.hex.specs.Hex.{encode_lower}
 
 unfoldable pub bytes_word : ℕ → List ℕ
@@ -10,7 +11,8 @@ count_text count = decimal count ++ codes " " ++ bytes_word count
 
 -- the first 64 bytes
 unfoldable pub shown : List ℕ → List ℕ
-shown content = if nat_le (length content) 64 then encode_lower content else encode_lower (take 64 content) ++ codes ".."
+shown content = if nat_le (length content) 64 then encode_lower content
+    else encode_lower (take 64 content) ++ codes ".."
 
 -- how many bytes, and the first of them
 unfoldable pub counted : List ℕ → List ℕ

@@ -1,5 +1,6 @@
 -- A token of SPNEGO, field by field (RFC 4178 4.2), with what its reader ignores.
-use Rattle.std.specs.Prelude.{ℕ, ◌==◌, List, [], ◌∷◌, ◌++◌, length, Option, None, Some, codes, if◌then◌else◌}
+use Rattle.std.specs.Prelude.{ℕ, ◌==◌, List, [], ◌∷◌, ◌++◌, length, Option, None, Some, codes}
+use Rattle.std.specs.Prelude.{if◌then◌else◌}
 use Rattle.std.specs.Str.{bytes_eq}
 use Prim.Native.Nat.{zero, suc}
 use Rattle.sspi_ber.specs.Pieces.{Ended, Invalid}
@@ -10,11 +11,14 @@ use Rattle.sspi_tokens.specs.declared.neg_result.NegResult.{NegResult}
 use Rattle.sspi_tokens.specs.declared.neg_token_init.NegTokenInit.{NegTokenInit}
 use Rattle.sspi_tokens.specs.declared.neg_token_targ.NegTokenTarg.{NegTokenTarg}
 use Rattle.sspi_explain.specs.declared.field.Field.{Field}
-use Rattle.sspi_explain.specs.declared.field.Field.TheVariants.{Header, MechTypes, ReqFlags, MechToken, MechListMic, NegState, SupportedMech, ResponseToken}
+use Rattle.sspi_explain.specs.declared.field.Field.TheVariants.{Header, MechTypes, ReqFlags}
+use Rattle.sspi_explain.specs.declared.field.Field.TheVariants.{MechToken, MechListMic, NegState}
+use Rattle.sspi_explain.specs.declared.field.Field.TheVariants.{SupportedMech, ResponseToken}
 use Rattle.sspi_explain.specs.declared.token.Kind.{Kind}
 use Rattle.sspi_explain.specs.declared.token.Kind.TheVariants.{Init, Resp}
 use Rattle.sspi_explain.specs.Identifier.{identifier_text}
-use Rattle.sspi_explain.specs.Page.{Sheet, deeper, field_name, with_line, with_field, with_content, with_ignored, refused}
+use Rattle.sspi_explain.specs.Page.{Sheet, deeper, field_name, with_line, with_field, with_content}
+use Rattle.sspi_explain.specs.Page.{with_ignored, refused}
 use Rattle.sspi_explain.specs.Pieces.{element_told, inside_told}
 use Rattle.sspi_explain.specs.Texts.{content_text}
 use Rattle.sspi_explain.specs.Told.{Spot, offset, At, Told, Goes, Ends, ◌>>=◌}
@@ -39,7 +43,8 @@ with_rest_inside place page = with_ignored (deeper page.depth) (offset place) pl
 abbrev pub if_next : {A : Type 0} → ℕ → (Sheet → Spot → Told A) → Sheet → Spot → Told (Option A)
 if_next tag field page place =
     if is_next tag place.rest
-    then (field page place >>= λ x. Goes (record { page = x.page; value = Some x.value; place = x.place }))
+    then (field page place >>= λ x. Goes
+    (record { page = x.page; value = Some x.value; place = x.place }))
     else Goes (record { page = page; value = None; place = place })
 
 -- ---- the fields
@@ -73,14 +78,24 @@ unfoldable pub mech_types_field : Sheet → Spot → Told (List (List ℕ))
 mech_types_field page place = do
   field ← inside_told 0xA0 MechTypes page place
   list ← inside_told 0x30 MechTypes field.page field.value
-  mechs ← mechs_told (with_line list.page.depth (offset place) (field_name MechTypes) list.page) list.value
-  Goes (record { page = with_rest_inside list.place (with_rest_inside mechs.place mechs.page); value = mechs.value; place = field.place })
+  mechs ← mechs_told (with_line list.page.depth (offset place)
+      (field_name MechTypes) list.page) list.value
+  Goes (record {
+    page = with_rest_inside list.place (with_rest_inside mechs.place mechs.page);
+    value = mechs.value;
+    place = field.place;
+  })
 
 -- a field that the reader passes over
 unfoldable pub whole_field : ℕ → Field → Sheet → Spot → Told (List ℕ)
 whole_field tag field page place = do
   content ← element_told tag field page place
-  Goes (record { page = with_content (offset place) field content.value content.page; value = content.value; place = content.place })
+  Goes (record {
+    page = with_content (offset place) field content.value content.page;
+    value =
+        content.value;
+    place = content.place;
+  })
 
 -- an element with this tag inside a field, as its value is told
 unfoldable pub inner_field : ℕ → ℕ → Field → (List ℕ → List ℕ) → Sheet → Spot → Told (List ℕ)
@@ -88,7 +103,8 @@ inner_field tag inner field value_text page place = do
   inside ← inside_told tag field page place
   content ← element_told inner field inside.page inside.value
   Goes (record {
-    page = with_rest_inside content.place (with_field (offset place) field (value_text content.value) content.page);
+    page = with_rest_inside content.place
+        (with_field (offset place) field (value_text content.value) content.page);
     value = content.value;
     place = inside.place;
   })
@@ -185,7 +201,8 @@ resp_told page place = do
 
 -- the page that tells a token, with what follows it; or the fault
 abbrev pub page_of : {A : Type 0} → Told A → Told (Unit {0})
-page_of (Goes at) = Goes (record { page = with_rest at.place at.page; value = tt; place = at.place })
+page_of (Goes at) = Goes
+    (record { page = with_rest at.place at.page; value = tt; place = at.place })
 page_of (Ends page fault) = Ends page fault
 
 unfoldable pub token_told : Kind → Sheet → Spot → Told (Unit {0})

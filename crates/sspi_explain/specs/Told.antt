@@ -1,4 +1,5 @@
--- A walk through a message: it goes on with a value, or ends with the first fault, and what it read stands on the page.
+-- A walk through a message: it goes on with a value, or ends with the first fault, and what it read
+-- stands on the page.
 use Rattle.std.specs.Prelude.{◌≡◌, ℕ, ◌-◌, List, length, Result, Ok, Err}
 use Rattle.sspi_ber.specs.declared.wire_kind.WireKind.{WireKind}
 use Rattle.sspi_ber.specs.declared.wire_kind.WireKind.TheVariants as kinds
@@ -42,7 +43,8 @@ abbrev pub ◌>>=◌ : {A B : Type 0} → Told A → (At A → Told B) → Told 
 
 -- what a reader's own piece gives, and the page that tells its fault
 abbrev pub told : {A : Type 0} → Sheet → Spot → (Fault → Sheet) → Read A → Told A
-told page place refuse (Ok x) = Goes (record { page = page; value = x.0; place = record place { rest = x.1 } })
+told page place refuse (Ok x) =
+    Goes (record { page = page; value = x.0; place = record place { rest = x.1 } })
 told page place refuse (Err fault) = Ends (refuse fault) fault
 
 -- the same without the page: what was read
@@ -52,13 +54,15 @@ read_of (Ends page fault) = Err fault
 
 -- a walk over a message in memory does as it is told here, up to want of memory
 abbrev pub Tells : {X A : Type 0} → (X → A) → Sheet → Spot → Result X Stop → Told A → Type 0
-Tells view page place (Ok x) walk = walk ≡ Goes (record { page = page; value = view x; place = place })
+Tells view page place (Ok x) walk =
+    walk ≡ Goes (record { page = page; value = view x; place = place })
 Tells view page place (Err (Refused fault)) walk = walk ≡ Ends page (fault_of fault)
 Tells view page place (Err OutOfMemory) walk = Unit {0}
 
 -- the same of a walk that hands out nothing of what it read
 abbrev pub TellsSome : {X A : Type 0} → Sheet → Spot → Result X Stop → Told A → Type 0
-TellsSome {A = A} page place (Ok x) walk = (value : A) × (walk ≡ Goes (record { page = page; value = value; place = place }))
+TellsSome {A = A} page place (Ok x) walk = (value : A) ×
+    (walk ≡ Goes (record { page = page; value = value; place = place }))
 TellsSome page place (Err (Refused fault)) walk = walk ≡ Ends page (fault_of fault)
 TellsSome page place (Err OutOfMemory) walk = Unit {0}
 

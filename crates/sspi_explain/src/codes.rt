@@ -1,7 +1,8 @@
 //! The names of the codes by which a server tells why it refused.
 ghost use Rattle.std.specs.Prelude.{◌≡◌, string_bytes, option_map, IfOk};
 ghost use Rattle.sspi_explain.specs.Codes;
-ghost use Rattle.sspi_explain.specs.Codes.{code_digits, code_name, code_text, kind_code, name_among};
+ghost use Rattle.sspi_explain.specs.Codes.{code_digits, code_name, code_text, kind_code};
+ghost use Rattle.sspi_explain.specs.Codes.{name_among};
 
 use sspi_types::{ErrorKind, NStatusCode};
 use std::alloc::{AllocError, Global};
@@ -108,7 +109,8 @@ fn code_digits(alloc: Global, code: u32) -> Result<String, AllocError>
     hex::encode(alloc, &code.to_be_bytes())
 }
 
-/// The name of an NTSTATUS code, or else of the kind of which a server that refuses makes this code.
+/// The name of an NTSTATUS code, or else of the kind of which a server that refuses makes this
+/// code.
 #[tactic(auto, unfolding(crate::specs::Codes::code_name))]
 fn code_name(code: u32) -> Option<&'static str>
     ensures { option_map (λ name. name.now) result ≡ code_name code }

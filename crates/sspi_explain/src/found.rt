@@ -1,7 +1,8 @@
 //! What a reader finds in the place of a piece that it refuses.
 ghost use Rattle.std.specs.Prelude.{◌≡◌, ◌≤◌, length, string_bytes, IfOk};
 ghost use Rattle.sspi_ber.specs.Forms.{big_endian, is_integer_size};
-ghost use Rattle.sspi_explain.specs.Found.{found_text, found_in_header, found_in_integer, found_in_length};
+ghost use Rattle.sspi_explain.specs.Found.{found_text, found_in_header, found_in_integer};
+ghost use Rattle.sspi_explain.specs.Found.{found_in_length};
 ghost use Rattle.sspi_explain.specs.Found.{found_in_octets, octet_text};
 
 use crate::texts::count_text;

@@ -1,6 +1,7 @@
 //! Object identifiers as numbers between dots (X.690 8.19), and the mechanisms that they name.
 ghost use Rattle.std.specs.Prelude.{◌≡◌, string_bytes, option_map, Some, IfOk};
-ghost use Rattle.sspi_explain.specs.Identifier.{first_text, identifier_text, mech_name, named, numbers_text};
+ghost use Rattle.sspi_explain.specs.Identifier.{first_text, identifier_text, mech_name, named};
+ghost use Rattle.sspi_explain.specs.Identifier.{numbers_text};
 ghost use Rattle.sspi_explain.specs.Identifier.{numbers_text_of, subidentifiers_from};
 
 use crate::texts::content_text;
@@ -56,7 +57,8 @@ fn name_of(content: &[u8]) -> Option<&'static str>
 /// The numbers of an identifier between dots.
 #[tactic(auto, unfolding(crate::specs::Identifier::numbers_text))]
 fn numbers_text(alloc: Global, content: &[u8]) -> Result<Option<String>, AllocError>
-    ensures { IfOk result (λ text. option_map (λ t. string_bytes t) text ≡ numbers_text content.now) }
+    ensures { IfOk result
+        (λ text. option_map (λ t. string_bytes t) text ≡ numbers_text content.now) }
 {
     match subidentifiers(alloc, content)? {
         None => Ok(None),
@@ -65,7 +67,8 @@ fn numbers_text(alloc: Global, content: &[u8]) -> Result<Option<String>, AllocEr
 }
 
 fn dotted(alloc: Global, numbers: &[u64]) -> Result<Option<String>, AllocError>
-    ensures { IfOk result (λ text. option_map (λ t. string_bytes t) text ≡ numbers_text_of (Some numbers.now)) }
+    ensures { IfOk result
+        (λ text. option_map (λ t. string_bytes t) text ≡ numbers_text_of (Some numbers.now)) }
 {
     let Some((first, others)) = numbers.split_first() else {
         return Ok(None);
@@ -93,11 +96,12 @@ fn first_text(alloc: Global, first: u64) -> Result<String, AllocError>
     format!(in alloc; "2.{second}")
 }
 
-/// The subidentifiers of a content, seven bits an octet; none where one is not the shortest, has more than nine octets, or
-/// does not end.
+/// The subidentifiers of a content, seven bits an octet; none where one is not the shortest, has
+/// more than nine octets, or does not end.
 #[tactic(auto, using(crate::proofs::Subidentifiers::one_more))]
 fn subidentifiers(alloc: Global, content: &[u8]) -> Result<Option<Vec<u64>>, AllocError>
-    ensures { IfOk result (λ numbers. option_map (λ v. v.items) numbers ≡ subidentifiers_from 0 content.now) }
+    ensures { IfOk result
+        (λ numbers. option_map (λ v. v.items) numbers ≡ subidentifiers_from 0 content.now) }
 {
     let mut numbers = Vec::new(alloc);
     let mut value = 0u64;

@@ -1,5 +1,5 @@
-//! What follows from the definitions alone: a message is told as its reader reads it. Each law is the contract of a call
-//! that does nothing.
+//! What follows from the definitions alone: a message is told as its reader reads it. Each law is
+//! the contract of a call that does nothing.
 ghost use Rattle.std.specs.Prelude.{◌≡◌, ℕ, List, [], ◌∷◌, ◌++◌, Ok, Err, Some};
 ghost use Rattle.hex.specs.Hex.{decode_of};
 ghost use Rattle.hex.specs.declared.error.FromHexError.{FromHexError};
@@ -14,10 +14,11 @@ ghost use Rattle.sspi_explain.specs.Request.{request_told};
 ghost use Rattle.sspi_explain.specs.Token.{init_told, resp_told};
 ghost use Rattle.sspi_explain.specs.Told.{Spot, read_of};
 
-/// A request is told exactly as it is read: by its fields exactly where `TsRequest::from_buffer` accepts it, with the values
-/// that it answers, and as refused with its kind where it refuses.
+/// A request is told exactly as it is read: by its fields exactly where `TsRequest::from_buffer`
+/// accepts it, with the values that it answers, and as refused with its kind where it refuses.
 pub fn requests_are_told_as_read()
-    ensures { (page : Sheet) (place : Spot) → read_of (request_told page place) ≡ request_at place.rest }
+    ensures { (page : Sheet) (place : Spot) →
+        read_of (request_told page place) ≡ request_at place.rest }
 {}
 
 /// The same of a NegTokenInit and `NegTokenInit::decode`.
@@ -34,12 +35,14 @@ pub fn resp_tokens_are_told_as_read()
 pub fn other_lines_stand()
     ensures no_hex { (line : List ℕ) (error : FromHexError) → decode_of (digits_of line) ≡ Err error
         → explained_line line ≡ as_it_is line }
-    ensures empty { (line : List ℕ) → decode_of (digits_of line) ≡ Ok [] → explained_line line ≡ as_it_is line }
+    ensures empty { (line : List ℕ) → decode_of (digits_of line) ≡ Ok [] →
+        explained_line line ≡ as_it_is line }
 {}
 
 /// A marked line keeps its mark.
 pub fn marks_are_kept()
-    ensures { (line : List ℕ) (byte : ℕ) (message : List ℕ) → decode_of (digits_of line) ≡ Ok (byte ∷ message)
+    ensures { (line : List ℕ) (byte : ℕ) (message : List ℕ) →
+        decode_of (digits_of line) ≡ Ok (byte ∷ message)
         → (text : List ℕ) × (explained_line line ≡ mark_of line ++ text) }
 {}
 

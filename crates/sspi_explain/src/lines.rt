@@ -1,6 +1,7 @@
 //! A text whose lines of hex are told in words.
 ghost use Rattle.std.specs.Prelude.{◌≡◌, ◌≢◌, ◌<◌, ◌==◌, [], ◌∷◌, ◌++◌, length, IfOk, OnOk};
-ghost use Rattle.sspi_explain.specs.Explained.{as_it_is, digits_of, explained, explained_line, lines_of, mark_of};
+ghost use Rattle.sspi_explain.specs.Explained.{as_it_is, digits_of, explained, explained_line};
+ghost use Rattle.sspi_explain.specs.Explained.{lines_of, mark_of};
 
 use crate::message::push_message;
 use hex::FromHexError;
@@ -8,11 +9,12 @@ use std::alloc::{AllocError, Global};
 
 /// The text with what its messages say in the place of their lines.
 ///
-/// A message is a line of an even number of hex digits of either case, alone or behind one of `> `, `< ` and `! `, as
-/// reports of this program have it. What it says is a line that names it with its length, and a line for each field:
-/// its offset in the message, its name and its value. What a reader ignores is told as `ignored`; where it refuses the
-/// message, the last line tells the offset, the kind of its error, the field, and what was found. Every other line stands as
-/// it was. Each line that is written ends with LF. Fails only when it is out of memory.
+/// A message is a line of an even number of hex digits of either case, alone or behind one of `> `,
+/// `< ` and `! `, as reports of this program have it. What it says is a line that names it with its
+/// length, and a line for each field: its offset in the message, its name and its value. What a
+/// reader ignores is told as `ignored`; where it refuses the message, the last line tells the
+/// offset, the kind of its error, the field, and what was found. Every other line stands as it was.
+/// Each line that is written ends with LF. Fails only when it is out of memory.
 #[tactic(auto, unfolding(crate::specs::Explained::explained, crate::specs::Explained::lines_of))]
 pub fn explain(alloc: Global, text: &str) -> Result<Vec<u8>, AllocError>
     ensures { IfOk result (λ told. told.items ≡ explained text.now) }

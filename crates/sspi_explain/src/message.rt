@@ -1,6 +1,7 @@
 //! A message of any kind.
 ghost use Rattle.std.specs.Prelude.{◌≡◌, ◌++◌, OnOk};
-ghost use Rattle.sspi_explain.specs.Message.{first_line, lines_of, message_text, other_text, request_page};
+ghost use Rattle.sspi_explain.specs.Message.{first_line, lines_of, message_text, other_text};
+ghost use Rattle.sspi_explain.specs.Message.{request_page};
 ghost use Rattle.sspi_explain.specs.Request.{request_told};
 ghost use Rattle.std.specs.Prelude.{codes, length, None, Some};
 ghost use Rattle.sspi_explain.specs.Told.{spot};
@@ -43,7 +44,8 @@ fn push_first(
     name: &str,
     message: &[u8],
 ) -> Result<(), AllocError>
-    ensures { OnOk result (text.new.items ≡ text.old.items ++ first_line mark.now name.now message.now) }
+    ensures { OnOk result (text.new.items ≡ text.old.items ++
+        first_line mark.now name.now message.now) }
 {
     let count = count_text(alloc, message.len())?;
     let line = format!(in alloc; "{mark}{name} {count}\n")?;
@@ -56,7 +58,8 @@ fn push_unknown(
     mark: &str,
     message: &[u8],
 ) -> Result<(), AllocError>
-    ensures { OnOk result (text.new.items ≡ text.old.items ++ other_text mark.now None message.now) }
+    ensures { OnOk result (text.new.items ≡ text.old.items ++
+        other_text mark.now None message.now) }
 {
     let content = content_text(alloc, message)?;
     let line = format!(in alloc; "{mark}unknown {content}\n")?;
@@ -69,7 +72,8 @@ fn push_request(
     mark: &str,
     message: &[u8],
 ) -> Result<(), AllocError>
-    ensures { OnOk result (text.new.items ≡ text.old.items ++ first_line mark.now (codes "TSRequest") message.now ++
+    ensures { OnOk result (text.new.items ≡ text.old.items ++
+        first_line mark.now (codes "TSRequest") message.now ++
         lines_of (request_told request_page (spot message.now (length message.now)))) }
 {
     push_first(alloc, text, mark, "TSRequest", message)?;
@@ -89,7 +93,8 @@ fn push_token(
     kind: Kind,
     message: &[u8],
 ) -> Result<(), AllocError>
-    ensures { OnOk result (text.new.items ≡ text.old.items ++ other_text mark.now (Some kind) message.now) }
+    ensures { OnOk result (text.new.items ≡ text.old.items ++
+        other_text mark.now (Some kind) message.now) }
 {
     push_first(alloc, text, mark, kind.name(), message)?;
     let mut page = Page::new(alloc, Form::Token, Depth::One);

@@ -1,6 +1,7 @@
 //! The page that an explanation is written on.
 ghost use Rattle.std.specs.Prelude.{◌≡◌, OnOk, []};
-ghost use Rattle.sspi_explain.specs.Page.{refused, with_content, with_field, with_ignored, with_line, with_text};
+ghost use Rattle.sspi_explain.specs.Page.{refused, with_content, with_field, with_ignored};
+ghost use Rattle.sspi_explain.specs.Page.{with_line, with_text};
 ghost use Rattle.sspi_explain.specs.Told.{fault_of, IsRefused};
 
 use crate::depth::Depth;
@@ -86,7 +87,8 @@ impl Page {
 
     /// Tells that the message is refused, where and why.
     pub fn refuse(&mut self, at: usize, field: Field, fault: Fault, why: &str) -> Stop
-        ensures { IsRefused fault result (self.new ≡ refused at field (fault_of fault) why.now self.old) }
+        ensures { IsRefused fault result (self.new ≡ refused
+            at field (fault_of fault) why.now self.old) }
     {
         match self.refused(at, field, fault, why) {
             Ok(()) => Stop::Refused(fault),

@@ -1,7 +1,9 @@
-//! The pieces that every message is read by, each by the reader's own call; one that is refused is looked at again.
+//! The pieces that every message is read by, each by the reader's own call; one that is refused is
+//! looked at again.
 ghost use Rattle.std.specs.Prelude.{◌≡◌, [], ◌∷◌};
 ghost use Rattle.sspi_ber.specs.Pieces.{Ended, Invalid};
-ghost use Rattle.sspi_explain.specs.Pieces.{bytes_told, element_told, header_told, inside_told, low_told, nonce_told};
+ghost use Rattle.sspi_explain.specs.Pieces.{bytes_told, element_told, header_told, inside_told};
+ghost use Rattle.sspi_explain.specs.Pieces.{low_told, nonce_told};
 ghost use Rattle.sspi_explain.specs.Pieces.{refused_as, there_told};
 ghost use Rattle.sspi_explain.specs.Told.{fault_of, IsFaultOf, IsRefused, Tells};
 
@@ -60,7 +62,8 @@ pub(crate) fn bytes<'a>(
     len: u32,
     field: Field,
 ) -> Result<&'a [u8], Stop>
-    ensures { Tells (λ bytes. bytes.now) page.new place.new result (bytes_told len field page.old place.old) }
+    ensures { Tells (λ bytes. bytes.now) page.new place.new result
+        (bytes_told len field page.old place.old) }
 {
     let left = place.rest().len();
     match place.source.take(len as usize) {
@@ -80,7 +83,8 @@ pub(crate) fn element<'a>(
     tag: u8,
     field: Field,
 ) -> Result<&'a [u8], Stop>
-    ensures { Tells (λ bytes. bytes.now) page.new place.new result (element_told tag field page.old place.old) }
+    ensures { Tells (λ bytes. bytes.now) page.new place.new result
+        (element_told tag field page.old place.old) }
 {
     let len = header(page, place, tag, field)?;
     bytes(page, place, len, field)
@@ -94,7 +98,8 @@ pub(crate) fn enter<'a>(
     tag: u8,
     field: Field,
 ) -> Result<Place<'a>, Stop>
-    ensures { Tells (λ inside. inside) page.new place.new result (inside_told tag field page.old place.old) }
+    ensures { Tells (λ inside. inside) page.new place.new result
+        (inside_told tag field page.old place.old) }
 {
     let content = element(page, place, tag, field)?;
     Ok(Place::new(content, place.offset()))
@@ -142,7 +147,8 @@ pub(crate) fn nonce<'a>(
     place: &mut Place<'a>,
     field: Field,
 ) -> Result<&'a [u8], Stop>
-    ensures { Tells (λ bytes. bytes.now) page.new place.new result (nonce_told field page.old place.old) }
+    ensures { Tells (λ bytes. bytes.now) page.new place.new result
+        (nonce_told field page.old place.old) }
 {
     let left = place.rest().len().saturating_sub(1);
     let len = header(page, place, 0x04, field)?;

@@ -1,9 +1,11 @@
 //! A TSRequest, field by field (MS-CSSP 2.2.1).
 ghost use Rattle.std.specs.Prelude.{◌≡◌, string_bytes, OnOk, IfOk, option_map};
-ghost use Rattle.sspi_explain.specs.Request.{body_told, client_nonce_told, error_code_told, nego_tokens_told, nested_fields, nested_text};
+ghost use Rattle.sspi_explain.specs.Request.{body_told, client_nonce_told, error_code_told};
+ghost use Rattle.sspi_explain.specs.Request.{nego_tokens_told, nested_fields, nested_text};
 ghost use Rattle.sspi_explain.specs.Request.{octets_told};
 ghost use Rattle.sspi_explain.specs.Pieces.{header_told};
-ghost use Rattle.sspi_explain.specs.Request.{as_ended, request_told, token_inside, version_told, with_fields, with_token};
+ghost use Rattle.sspi_explain.specs.Request.{as_ended, request_told, token_inside, version_told};
+ghost use Rattle.sspi_explain.specs.Request.{with_fields, with_token};
 ghost use Rattle.sspi_explain.specs.Told.{Tells, TellsSome};
 
 use crate::codes::code_text;
@@ -33,7 +35,8 @@ pub(crate) fn tell_request(page: &mut Page, place: &mut Place<'_>) -> Result<(),
 
 /// The header of the request. Each of its faults counts as the end.
 fn outer_header(page: &mut Page, place: &mut Place<'_>) -> Result<u32, Stop>
-    ensures { Tells (λ len. len) page.new place.new result (as_ended (header_told 0x30 Field.Header page.old place.old)) }
+    ensures { Tells (λ len. len) page.new place.new result
+        (as_ended (header_told 0x30 Field.Header page.old place.old)) }
 {
     match header(page, place, 0x30, Field::Header) {
         Ok(len) => Ok(len),
@@ -57,7 +60,8 @@ fn tell_body(page: &mut Page, place: &mut Place<'_>) -> Result<(), Stop>
 
 #[tactic(auto, unfolding(crate::specs::Request::version_told))]
 fn tell_version(page: &mut Page, place: &mut Place<'_>) -> Result<u32, Stop>
-    ensures { Tells (λ version. version) page.new place.new result (version_told page.old place.old) }
+    ensures { Tells (λ version. version) page.new place.new result
+        (version_told page.old place.old) }
 {
     let at = place.offset();
     header(page, place, 0xA0, Field::Version)?;
@@ -138,7 +142,8 @@ fn nested(
     content: &[u8],
     end: usize,
 ) -> Result<Option<Vec<u8>>, AllocError>
-    ensures { IfOk result (λ fields. option_map (λ v. v.items) fields ≡ nested_fields kind content.now end) }
+    ensures { IfOk result
+        (λ fields. option_map (λ v. v.items) fields ≡ nested_fields kind content.now end) }
 {
     let mut page = Page::new(alloc, Form::Token, Depth::Two);
     let mut place = Place::new(content, end);

@@ -1,9 +1,11 @@
 //! A token of SPNEGO, field by field (RFC 4178 4.2).
 ghost use Rattle.std.specs.Prelude.{◌≡◌, OnOk, IfOk, string_bytes};
 ghost use Rattle.sspi_explain.specs.Token;
-ghost use Rattle.sspi_explain.specs.Token.{frame_told, if_next, init_fields_told, init_told, inner_field, mech_told, mech_types_field};
+ghost use Rattle.sspi_explain.specs.Token.{frame_told, if_next, init_fields_told, init_told};
+ghost use Rattle.sspi_explain.specs.Token.{inner_field, mech_told, mech_types_field};
 ghost use Rattle.sspi_explain.specs.Token.{mechs_told};
-ghost use Rattle.sspi_explain.specs.Token.{neg_state_field, octets_field, resp_fields_told, resp_told, state_text, token_told, unwanted_text};
+ghost use Rattle.sspi_explain.specs.Token.{neg_state_field, octets_field, resp_fields_told};
+ghost use Rattle.sspi_explain.specs.Token.{resp_told, state_text, token_told, unwanted_text};
 ghost use Rattle.sspi_explain.specs.Token.{whole_field, with_mech, with_rest, with_rest_inside};
 ghost use Rattle.sspi_explain.specs.Identifier.{identifier_text};
 ghost use Rattle.sspi_explain.specs.Told.{Tells, TellsSome};
@@ -154,7 +156,8 @@ fn tell_resp_fields(page: &mut Page, place: &mut Place<'_>) -> Result<(), Stop>
 }
 
 fn tell_mech_types(page: &mut Page, place: &mut Place<'_>) -> Result<(), Stop>
-    ensures { TellsSome page.new place.new result (if_next 0xA0 mech_types_field page.old place.old) }
+    ensures { TellsSome page.new place.new result
+        (if_next 0xA0 mech_types_field page.old place.old) }
 {
     if !place.is_next(0xA0) {
         return Ok(());
@@ -201,7 +204,8 @@ fn tell_mech<'a>(page: &mut Page, list: &mut Place<'a>) -> Result<&'a [u8], Stop
 /// A field that the reader passes over.
 #[tactic(auto, unfolding(crate::specs::Token::whole_field))]
 fn tell_whole(page: &mut Page, place: &mut Place<'_>, tag: u8, field: Field) -> Result<(), Stop>
-    ensures { TellsSome page.new place.new result (if_next tag (whole_field tag field) page.old place.old) }
+    ensures { TellsSome page.new place.new result
+        (if_next tag (whole_field tag field) page.old place.old) }
 {
     if !place.is_next(tag) {
         return Ok(());
@@ -214,7 +218,8 @@ fn tell_whole(page: &mut Page, place: &mut Place<'_>, tag: u8, field: Field) -> 
 
 #[tactic(auto, unfolding(crate::specs::Token::inner_field))]
 fn tell_octets(page: &mut Page, place: &mut Place<'_>, tag: u8, field: Field) -> Result<(), Stop>
-    ensures { TellsSome page.new place.new result (if_next tag (octets_field tag field) page.old place.old) }
+    ensures { TellsSome page.new place.new result
+        (if_next tag (octets_field tag field) page.old place.old) }
 {
     if !place.is_next(tag) {
         return Ok(());
@@ -229,7 +234,8 @@ fn tell_octets(page: &mut Page, place: &mut Place<'_>, tag: u8, field: Field) ->
 
 #[tactic(auto, unfolding(crate::specs::Token::inner_field, crate::specs::Token::neg_state_field))]
 fn tell_neg_state(page: &mut Page, place: &mut Place<'_>) -> Result<(), Stop>
-    ensures { TellsSome page.new place.new result (if_next 0xA0 neg_state_field page.old place.old) }
+    ensures { TellsSome page.new place.new result
+        (if_next 0xA0 neg_state_field page.old place.old) }
 {
     if !place.is_next(0xA0) {
         return Ok(());

@@ -4,4 +4,5 @@ use Rattle.sspi_explain.specs.Identifier.{dotted}
 use Rattle.sspi_explain.proofs.identifier.dotted.Given as goal
 
 abbrev pub invariant-loop-number : goal.invariant-loop-number
-invariant-loop-number l = string_bytes l.text ≡ string_bytes l.initial.text ++ flat_map dotted (take l.number-index l.others)
+invariant-loop-number l = string_bytes l.text ≡ string_bytes l.initial.text ++
+    flat_map dotted (take l.number-index l.others)

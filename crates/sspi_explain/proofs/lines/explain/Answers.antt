@@ -6,7 +6,8 @@ use Rattle.sspi_explain.proofs.lines.explain.Goals as goal
 
 pub first_line-requires : goal.first_line-requires
 first_line-requires c = λ e.
-    false≢true (sym c.lines-test.true ∙ c.is_end.ensures ∙ ap (λ (l : List ℕ). nat_eq (length l) 0) e)
+    false≢true (sym c.lines-test.true ∙ c.is_end.ensures ∙
+    ap (λ (l : List ℕ). nat_eq (length l) 0) e)
 
 pub lines-preserved : goal.lines-preserved
 lines-preserved c = record {

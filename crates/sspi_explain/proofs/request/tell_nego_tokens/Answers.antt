@@ -4,4 +4,5 @@ use Rattle.sspi_explain.proofs.request.tell_nego_tokens.Goals as goal
 
 pub returns-in_ok-tell_token_inside-in-Some : goal.returns-in_ok-tell_token_inside-in-Some
 unfolding nego_tokens_told
-returns-in_ok-tell_token_inside-in-Some c = (Some c.in_ok-tell_token_inside-in-Some.ensures.0, search rules)
+returns-in_ok-tell_token_inside-in-Some c =
+    (Some c.in_ok-tell_token_inside-in-Some.ensures.0, search rules)

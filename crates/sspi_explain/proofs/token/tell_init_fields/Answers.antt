@@ -4,4 +4,11 @@ use Rattle.sspi_explain.proofs.token.tell_init_fields.Goals as goal
 
 pub returns : goal.returns
 unfolding init_fields_told
-returns c = (record { mech_types = c.in_ok-tell_mech_types.ensures.0; mech_token = c.in_ok-tell_octets.ensures.0 }, search rules)
+returns c = (
+  record {
+    mech_types = c.in_ok-tell_mech_types.ensures.0;
+    mech_token =
+        c.in_ok-tell_octets.ensures.0;
+  },
+  search rules,
+)

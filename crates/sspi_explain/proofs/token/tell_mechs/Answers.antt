@@ -1,7 +1,8 @@
 use Rattle.std.proofs.Common.{◌∙◌, sym}
 use Rattle.std.proofs.lemmas.Result.{err_from_is_err_and}
 use Rattle.sspi_explain.specs.Token.{mech_told, mechs_told}
-use Rattle.sspi_explain.proofs.Mechs.{telling_start, telling_step, telling_end, telling_fault, refusal_given, shorter}
+use Rattle.sspi_explain.proofs.Mechs.{telling_start, telling_step, telling_end, telling_fault}
+use Rattle.sspi_explain.proofs.Mechs.{refusal_given, shorter}
 use Rattle.sspi_explain.proofs.token.tell_mechs.Goals as goal
 
 pub mechs-init : goal.mechs-init
@@ -11,7 +12,8 @@ pub mechs-smaller : goal.mechs-smaller
 mechs-smaller c = shorter c.mechs.page c.mechs.list _ c.in_ok-tell_mech.ensures
 
 pub mechs-preserved : goal.mechs-preserved
-mechs-preserved c = telling_step _ c.mechs.invariant (sym c.is_next.ensures ∙ c.mechs-test.true) c.in_ok-tell_mech.ensures
+mechs-preserved c = telling_step _ c.mechs.invariant (sym c.is_next.ensures ∙
+    c.mechs-test.true) c.in_ok-tell_mech.ensures
 
 pub returns-in_err-tell_mech : goal.returns-in_err-tell_mech
 returns-in_err-tell_mech c =
