@@ -1,5 +1,5 @@
 -- What the parsers of the parts of a text promise.
-use Rattle.std.specs.Prelude.{◌≡◌, ℕ, List, [], ◌∷◌, ◌++◌, Option, Some, None, Result, Ok, Err, if◌then◌else◌}
+use Rattle.std.specs.Prelude.{◌≡◌, ℕ, Bool, true, false, List, [], ◌∷◌, ◌++◌, Option, Some, None, Result, Ok, Err, if◌then◌else◌}
 use Rattle.std.specs.Borrow.{Bor}
 use Rattle.std.specs.Str.{bytes_eq}
 use Rattle.sspi_scenario.specs.declared.key.Key.{Key}
@@ -43,3 +43,8 @@ lines_after (Some rest) = lines_of rest
 abbrev pub hex_refusal : FromHexError → LineError
 hex_refusal OutOfMemory = InsufficientMemory
 hex_refusal other = Fault
+
+-- a value was put in its place
+abbrev pub was_put : Result (Unit {0}) LineError → Bool
+was_put (Ok done) = true
+was_put (Err error) = false

@@ -4,7 +4,6 @@ use Rattle.std.specs.Prelude.{Option, Some, None, Result, Ok, Err, if◌then◌e
 use Rattle.std.specs.List.{slice_get, list_any, list_all}
 use Rattle.std.specs.Str.{bytes_eq, is_utf8}
 use Prim.Native.Nat.{zero, suc}
-use Rattle.sspi_scenario.specs.declared.error.LineError.{LineError}
 use Rattle.sspi_scenario.specs.declared.key.Key.{Key}
 use Rattle.sspi_scenario.specs.declared.key.Key.TheVariants as key
 use Rattle.sspi_scenario.specs.declared.purpose.Purpose.{Purpose}
@@ -84,10 +83,6 @@ is_there (Some x) = true
 -- a value is as the grammar of its key wants it
 abbrev pub value_is_good : Key → List ℕ → Bool
 value_is_good k value = is_there ((row k).value value)
-
-abbrev pub was_put : Result (Unit {0}) LineError → Bool
-was_put (Ok done) = true
-was_put (Err error) = false
 
 abbrev pub key_text : Purpose → Key → List ℕ → List ℕ → List ℕ
 key_text purpose k name value =

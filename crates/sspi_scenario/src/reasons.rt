@@ -2,9 +2,10 @@
 ghost use Rattle.std.specs.Prelude.{◌≡◌, ◌-◌, ◌++◌, None, string_bytes, IfOk, OnOk, option_copied};
 ghost use Rattle.std.specs.List.{slice_get};
 ghost use Rattle.sspi_scenario.specs.Lines.{lines_of};
+ghost use Rattle.sspi_scenario.specs.Reads.{was_put};
 ghost use Rattle.sspi_scenario.specs.Reasons.{fault_line, fault_text, is_plain, is_plain_byte, is_shown};
 ghost use Rattle.sspi_scenario.specs.Reasons.{key_text, missing_part, missing_text, names_key, numbered_text, reason_text};
-ghost use Rattle.sspi_scenario.specs.Reasons.{value_is_good, value_text, wanted, was_put, whole_text};
+ghost use Rattle.sspi_scenario.specs.Reasons.{value_is_good, value_text, wanted, whole_text};
 ghost use Rattle.sspi_scenario.specs.Scenario.{scenario_of};
 
 use crate::error::LineError;
