@@ -1,14 +1,12 @@
 -- Why a text is no scenario, in words.
-use Rattle.std.specs.Prelude.{ℕ, ◌-◌, ◌&&◌, nat_le, not, Bool, true, false, List, [], ◌∷◌, ◌++◌, length, codes, decimal}
+use Rattle.std.specs.Prelude.{ℕ, ◌-◌, ◌==◌, ◌&&◌, nat_le, not, Bool, true, false, List, [], ◌∷◌, ◌++◌, length, codes, decimal}
 use Rattle.std.specs.Prelude.{Option, Some, None, Result, Ok, Err, if◌then◌else◌}
 use Rattle.std.specs.List.{slice_get, list_any, list_all}
 use Rattle.std.specs.Str.{bytes_eq, is_utf8}
-use Prim.Native.Nat.{zero, suc}
 use Rattle.sspi_scenario.specs.declared.key.Key.{Key}
 use Rattle.sspi_scenario.specs.declared.key.Key.TheVariants as key
 use Rattle.sspi_scenario.specs.declared.purpose.Purpose.{Purpose}
 use Rattle.sspi_scenario.specs.declared.scenario.Scenario.{Scenario}
-use Rattle.sspi_scenario.specs.declared.values.Values.{Values}
 use Rattle.sspi_scenario.specs.Keys.{key_named}
 use Rattle.sspi_scenario.specs.Lines.{lines_of, before_space, after_space}
 use Rattle.sspi_scenario.specs.Purposes.{takes}
@@ -131,10 +129,13 @@ abbrev pub fault_line : Result Scenario ℕ → Option ℕ
 fault_line (Ok scenario) = None
 fault_line (Err number) = Some number
 
+abbrev pub refusal_text : Purpose → List ℕ → ℕ → List ℕ
+refusal_text purpose text number =
+    if number == 0 then whole_text text else numbered_text purpose number text
+
 abbrev pub reason_by : Purpose → List ℕ → Option ℕ → List ℕ
 reason_by purpose text None = []
-reason_by purpose text (Some zero) = whole_text text
-reason_by purpose text (Some (suc n)) = numbered_text purpose (suc n) text
+reason_by purpose text (Some number) = refusal_text purpose text number
 
 -- why a text is no scenario for this, or nothing where it is one
 unfoldable pub reason_text : Purpose → List ℕ → List ℕ

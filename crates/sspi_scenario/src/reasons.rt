@@ -5,7 +5,7 @@ ghost use Rattle.sspi_scenario.specs.Lines.{lines_of};
 ghost use Rattle.sspi_scenario.specs.Reads.{was_put};
 ghost use Rattle.sspi_scenario.specs.Reasons.{fault_line, fault_text, is_plain, is_plain_byte, is_shown};
 ghost use Rattle.sspi_scenario.specs.Reasons.{key_text, missing_part, missing_text, names_key, numbered_text, reason_text};
-ghost use Rattle.sspi_scenario.specs.Reasons.{value_is_good, value_text, wanted, whole_text};
+ghost use Rattle.sspi_scenario.specs.Reasons.{refusal_text, value_is_good, value_text, wanted, whole_text};
 ghost use Rattle.sspi_scenario.specs.Scenario.{scenario_of};
 
 use crate::error::LineError;
@@ -28,13 +28,29 @@ const SHOWN: usize = 40;
 /// or the keys that are missing; or that the text is too long or is not UTF-8. A value is shown where
 /// its key takes a number or one of a few words, and only where it is short and of printable ASCII.
 /// No password, keytab or ticket is shown, nor a key that is unknown, which may be part of a password.
+#[tactic(auto, unfolding(crate::specs::Reasons::reason_text))]
 pub fn reason(alloc: Global, purpose: Purpose, text: &[u8]) -> Result<String, AllocError>
     ensures { IfOk result (λ told. string_bytes told ≡ reason_text purpose text.now) }
 {
     match faulty_line(alloc, purpose, text)? {
         None => Ok(String::new(alloc)),
-        Some(0) => whole_text(alloc, text),
-        Some(number) => numbered_text(alloc, purpose, number, text),
+        Some(number) => refusal_text(alloc, purpose, number, text),
+    }
+}
+
+/// Why a text is refused at the line of this number, 0 where no line is to blame.
+fn refusal_text(
+    alloc: Global,
+    purpose: Purpose,
+    number: usize,
+    text: &[u8],
+) -> Result<String, AllocError>
+    ensures { IfOk result (λ told. string_bytes told ≡ refusal_text purpose text.now number) }
+{
+    if number == 0 {
+        whole_text(alloc, text)
+    } else {
+        numbered_text(alloc, purpose, number, text)
     }
 }
 
@@ -57,6 +73,7 @@ fn none_beside<T: Drop>(_value: T) -> Option<usize>
 }
 
 /// Why no line of a text is looked at, or which keys it lacks.
+#[tactic(auto, unfolding(crate::specs::Reasons::whole_text))]
 fn whole_text(alloc: Global, text: &[u8]) -> Result<String, AllocError>
     ensures { IfOk result (λ told. string_bytes told ≡ whole_text text.now) }
 {
@@ -70,6 +87,7 @@ fn whole_text(alloc: Global, text: &[u8]) -> Result<String, AllocError>
 }
 
 /// The required keys that no line of a text names.
+#[tactic(auto, unfolding(crate::specs::Reasons::missing_text))]
 fn missing_text(alloc: Global, text: &str) -> Result<String, AllocError>
     ensures { IfOk result (λ told. string_bytes told ≡ missing_text text.now) }
 {
@@ -108,6 +126,7 @@ fn names_key(text: &str, name: &str) -> bool
 }
 
 /// What is wrong with the line of this number, from 1.
+#[tactic(auto, unfolding(crate::specs::Reasons::numbered_text))]
 fn numbered_text(
     alloc: Global,
     purpose: Purpose,
