@@ -6,9 +6,8 @@ use crate::command::Command;
 use crate::run::EXPLAIN_LIMIT;
 use crate::status;
 use sspi_ber::{Sink, write_all};
-use sspi_scenario::reason;
+use sspi_scenario::{reason, text_of};
 use std::alloc::{AllocError, Global};
-use std::str;
 
 /// The words of the program, a line each.
 pub const USAGE: &str = "\
@@ -94,8 +93,8 @@ fn unexplained_text(text: &[u8]) -> &'static str
     if text.len() > EXPLAIN_LIMIT {
         return "text: more than 2097152 bytes";
     }
-    match str::from_utf8(text) {
-        Ok(_) => "",
-        Err(_) => "text: not UTF-8",
+    match text_of(text) {
+        Some(_) => "",
+        None => "text: not UTF-8",
     }
 }

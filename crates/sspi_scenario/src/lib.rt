@@ -31,6 +31,6 @@ mod values;
 mod words;
 
 pub use purpose::Purpose;
-pub use reading::{TEXT_LIMIT, TextError, read_text};
+pub use reading::{TEXT_LIMIT, TextError, read_text, text_of};
 pub use reasons::reason;
 pub use scenario::{Mode, Package, Scenario, ScenarioError};

@@ -1,9 +1,11 @@
 //! The whole text of a source, up to a limit.
-ghost use Rattle.std.specs.Prelude.{◌+◌, ◌<◌, ◌≤◌, length, IfOk};
+ghost use Rattle.std.specs.Prelude.{◌≡◌, ◌+◌, ◌<◌, ◌≤◌, true, false, length, IfOk, MatchOption};
+ghost use Rattle.std.specs.Str.{is_utf8};
 ghost use Rattle.sspi_scenario.specs.Reading.{ReadsText, ReadsSoFar, TextCause, TakesAtMost};
 
 use sspi_ber::Source;
 use std::alloc::Global;
+use std::str;
 
 /// The text of a scenario has at most so many bytes.
 pub const TEXT_LIMIT: usize = 1_048_576;
@@ -63,4 +65,15 @@ fn most_at(limit: usize, read: usize) -> usize
     ensures short { read + result ≤ limit + 1 }
 {
     PIECE_LENGTH.min((limit - read).saturating_add(1))
+}
+
+/// The text that these bytes are, if they are UTF-8.
+pub fn text_of(bytes: &[u8]) -> Option<&str>
+    ensures { MatchOption result (is_utf8 bytes.now ≡ false)
+        (λ text. (text.now ≡ bytes.now) × (is_utf8 bytes.now ≡ true)) }
+{
+    match str::from_utf8(bytes) {
+        Ok(text) => Some(text),
+        Err(_) => None,
+    }
 }

@@ -4,7 +4,7 @@ ghost use Rattle.std.specs.List.{slice_get};
 ghost use Rattle.sspi_scenario.specs.Lines.{lines_of};
 ghost use Rattle.sspi_scenario.specs.Reads.{was_put};
 ghost use Rattle.sspi_scenario.specs.Reasons.{fault_line, fault_text, is_plain, is_plain_byte, is_shown};
-ghost use Rattle.sspi_scenario.specs.Reasons.{key_text, missing_part, missing_text, names_key, numbered_text, reason_text};
+ghost use Rattle.sspi_scenario.specs.Reasons.{key_text, line_text, missing_part, missing_text, names_key, numbered_text, reason_text};
 ghost use Rattle.sspi_scenario.specs.Reasons.{refusal_text, value_is_good, value_text, wanted, whole_text};
 ghost use Rattle.sspi_scenario.specs.Scenario.{scenario_of};
 
@@ -12,11 +12,10 @@ use crate::error::LineError;
 use crate::key::Key;
 use crate::lines::{first_line, sides};
 use crate::purpose::Purpose;
-use crate::reading::TEXT_LIMIT;
+use crate::reading::{TEXT_LIMIT, text_of};
 use crate::scenario::{Scenario, ScenarioError};
 use crate::values::Values;
 use std::alloc::{AllocError, Global};
-use std::str;
 
 /// So many bytes of a value are shown at most.
 const SHOWN: usize = 40;
@@ -80,9 +79,9 @@ fn whole_text(alloc: Global, text: &[u8]) -> Result<String, AllocError>
     if text.len() > TEXT_LIMIT {
         return String::from_str(alloc, "text: more than 1048576 bytes");
     }
-    match str::from_utf8(text) {
-        Ok(text) => missing_text(alloc, text),
-        Err(_) => String::from_str(alloc, "text: not UTF-8"),
+    match text_of(text) {
+        Some(text) => missing_text(alloc, text),
+        None => String::from_str(alloc, "text: not UTF-8"),
     }
 }
 
@@ -135,10 +134,21 @@ fn numbered_text(
 ) -> Result<String, AllocError>
     ensures { IfOk result (λ told. string_bytes told ≡ numbered_text purpose number text.now) }
 {
-    let Ok(text) = str::from_utf8(text) else {
-        return Ok(String::new(alloc));
-    };
-    match line_at(text, number) {
+    match text_of(text) {
+        Some(text) => line_text(alloc, purpose, number, line_at(text, number)),
+        None => Ok(String::new(alloc)),
+    }
+}
+
+fn line_text(
+    alloc: Global,
+    purpose: Purpose,
+    number: usize,
+    line: Option<&str>,
+) -> Result<String, AllocError>
+    ensures { IfOk result (λ told. string_bytes told ≡ line_text purpose number (option_copied line)) }
+{
+    match line {
         Some(line) => {
             let fault = fault_text(alloc, purpose, line)?;
             format!(in alloc; "line {number}: {fault}")
