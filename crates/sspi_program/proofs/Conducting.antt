@@ -19,7 +19,7 @@ use Rattle.sspi_program.specs.declared.said.Said.{Said}
 use Rattle.sspi_program.specs.declared.said.Said.TheVariants.{Done, NoScenario, NoText, ReadFault, OtherWords, NoMemory}
 use Rattle.sspi_program.specs.Audit.{IsJudged, IsAudited}
 use Rattle.sspi_program.specs.Commands.{purpose_of, explain_limit}
-use Rattle.sspi_program.specs.Explain.{is_explainable, IsExplained}
+use Rattle.sspi_program.specs.Explain.{IsExplained}
 use Rattle.sspi_program.specs.Delegate.{HasExchange}
 use Rattle.sspi_program.specs.Desk.{HasSeats, SeatsDue, seats_status}
 use Rattle.sspi_program.specs.Early.{HasEarly, IsEarlyTold}

@@ -26,7 +26,6 @@ use Rattle.sspi_program.specs.declared.said.Said.{Said}
 use Rattle.sspi_program.specs.declared.said.Said.TheVariants.{Done, NoScenario, NoText, ReadFault, OtherWords, NoMemory}
 use Rattle.sspi_program.specs.Audit.{IsAudited}
 use Rattle.sspi_program.specs.Commands.{task_in, purpose_of, limit_in}
-use Rattle.sspi_program.specs.Explain.{ExplainDue}
 use Rattle.sspi_program.specs.Desk.{SeatsDue, is_ok}
 use Rattle.sspi_program.specs.Early.{IsEarlyTold}
 use Rattle.sspi_program.specs.Gate.{IsGated, relayed_status}
@@ -34,7 +33,7 @@ use Rattle.sspi_program.specs.Generate.{TallyDue}
 use Rattle.sspi_program.specs.Kept.{nothing, with_status}
 use Rattle.sspi_program.specs.Promises.{Keeps, KeptDue, TaskDue, Due, Does}
 use Rattle.sspi_program.specs.Run.{Outside, IsToldFor, NoneTold, Comes, HasNoText, HasText, KeepsOnly, IsReported}
-use Rattle.sspi_program.specs.Run.{WroteLine, WroteRefusal, Written, WroteOwed}
+use Rattle.sspi_program.specs.Run.{WroteRefusal, Written, WroteOwed}
 use Rattle.sspi_program.specs.Telling.{IsJudged, ReadsWell}
 use Rattle.sspi_program.specs.Said.{heard_status, status_of, report_of, record_due, RecordDue, IsDue}
 use Rattle.sspi_program.specs.Said.{said_text, said_status, conducted_as, words_text, read_text, no_text}
