@@ -1,6 +1,6 @@
 //! Why a text is no scenario, in words for whoever writes it.
 ghost use Rattle.std.specs.Prelude.{◌≡◌, ◌-◌, ◌++◌, None, string_bytes, IfOk, OnOk, option_copied};
-ghost use Rattle.std.specs.List.{slice_get};
+ghost use Rattle.std.specs.List.{list_all, slice_get};
 ghost use Rattle.sspi_scenario.specs.Lines.{lines_of};
 ghost use Rattle.sspi_scenario.specs.Reads.{was_put};
 ghost use Rattle.sspi_scenario.specs.Reasons.{fault_line, fault_text, is_plain, is_plain_byte, is_shown};
@@ -262,7 +262,18 @@ fn is_shown(key: Key) -> bool
 fn is_plain(value: &str) -> bool
     ensures { result ≡ is_plain value.now }
 {
-    value.len() <= SHOWN && value.as_bytes().iter().all(|byte| is_plain_byte(*byte))
+    value.len() <= SHOWN && are_plain(value.as_bytes())
+}
+
+fn are_plain(bytes: &[u8]) -> bool
+    ensures { result ≡ list_all is_plain_byte bytes.now }
+{
+    for byte in bytes {
+        if !is_plain_byte(*byte) {
+            return false;
+        }
+    }
+    true
 }
 
 fn is_plain_byte(byte: u8) -> bool
