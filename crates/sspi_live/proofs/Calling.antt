@@ -1,5 +1,6 @@
 -- The calls by which an end made its turns over a channel.
-use Rattle.std.proofs.Common.{◌≡◌, ℕ, List, Option, None, Some, Err, sym, subst}
+use Rattle.std.proofs.Common.{◌≡◌, ℕ, inl, inr, List, Option, None, Some, Result, Err, sym, subst}
+use Rattle.sspi_types.specs.declared.error.Error.{Error}
 use Rattle.sspi_mech.specs.Meaning.{Meaning}
 use Rattle.sspi_names.specs.declared.identity.AuthIdentity.{AuthIdentity}
 use Rattle.sspi_tsreq.specs.declared.request.TsRequest.{TsRequest}
@@ -14,17 +15,18 @@ use Rattle.sspi_delegate.specs.declared.answer.DelegateError.TheVariants as erro
 use Rattle.sspi_delegate.specs.declared.ends.Round.{Round}
 use Rattle.sspi_delegate.specs.declared.ends.Round.TheVariants as round
 use Rattle.sspi_delegate.specs.Chain.{KdcCalls}
-use Rattle.sspi_delegate.specs.Halves.{ClientHalfStops, IsNoRefusal}
-use Rattle.sspi_delegate.specs.History.{ClientHistory, ServerHistory}
+use Rattle.sspi_delegate.specs.Halves.{ClientHalfStops, IsNoRefusal, ServerHalfStops}
+use Rattle.sspi_delegate.specs.History.{ClientHistory, ServerHistory, ServerStopped}
 use Rattle.sspi_delegate.specs.Rounds.{ClientRoundPast, ServerRoundPast}
 use Rattle.sspi_delegate.specs.Turns.{AllGoOn, client_turns, server_turns}
-use Rattle.sspi_delegate.proofs.Histories.{left_due, left_lost}
+use Rattle.sspi_delegate.proofs.Halves.{server_half_refused}
+use Rattle.sspi_delegate.proofs.Histories.{left_due, left_lost, server_stopped_history}
 use Rattle.sspi_live.specs.Reading.{Reads}
 use Rattle.sspi_live.specs.Answers.{IsDue, IsOwn, SoFar}
 use Rattle.sspi_live.specs.Channel.{Carries, Channel}
 use Rattle.sspi_live.specs.Sides.{AreOf, read_for}
 use Rattle.sspi_live.proofs.Stopping.{is_due}
-use Rattle.sspi_live.specs.Steps.{ReadsDue, WritesNewest}
+use Rattle.sspi_live.specs.Steps.{AnswersTold, ReadsDue, WritesNewest}
 use Rattle.sspi_live.proofs.Stepping.{own_clients, own_servers}
 use Rattle.std.proofs.Common.{[], ◌∷◌}
 
@@ -66,6 +68,15 @@ module _ {C P : Type 0} (c : Meaning ContextSetting C) (p : ProxyMeaning P) wher
   server_calls first was now old new result old_whose new_whose history calls =
       subst (λ (l : List Turn). ServerRoundPast c p first result l now) (own_servers new new_whose)
       (calls (subst (λ (l : List Turn). ServerHistory c p first l was) (sym (own_servers old old_whose)) history))
+
+  -- where memory was wanting for what tells of a refusal, its turn was made all the same
+  pub told_past : (first now : ServerView C P) (turns : List Turn) (error : Error) (told : Result (Unit {0}) DelegateError)
+      (answer : DelegateError) → AnswersTold error told answer → ServerStopped c p first error turns now →
+      ServerHalfStops c p first answer turns now
+  told_past first now turns error told answer (inl memory) s =
+      rw memory.1 (server_stopped_history c p first now error turns s)
+  told_past first now turns error told answer (inr (had, answers)) s =
+      server_half_refused c p first now turns error answer answers s
 
 module _ {C D : Type 0} (c : Meaning ContextSetting C) (k : KdcCalls D) where
   pub client_calls : (request : TsRequest) (first was now : ClientView C) (kdc kdc1 kdc2 : D) (old new : List Turn)

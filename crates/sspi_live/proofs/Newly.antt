@@ -26,8 +26,8 @@ use Rattle.sspi_delegate.proofs.Headline.{client_sealed_once, exchanged, seals_a
 use Rattle.sspi_delegate.proofs.Heeding.{client_past_heeds, server_past_heeds}
 use Rattle.sspi_delegate.proofs.HistoryRuns.{client_past_ran, server_past_gives, server_past_ran}
 use Rattle.sspi_delegate.proofs.Refused.{client_refused, server_refused}
-use Rattle.sspi_live.specs.Answers.{Connects, IsLast, Lacks, Refuses, Serves, Stops}
-use Rattle.sspi_live.specs.Answers.{for_a_message, for_a_request, for_a_turn, of_the_end}
+use Rattle.sspi_live.specs.Answers.{Connects, IsLast, Lacks, Refuses, RefusesUntold, Serves, Stops}
+use Rattle.sspi_live.specs.Answers.{for_a_message, for_a_refusal, for_a_request, for_a_turn, of_the_end}
 use Rattle.sspi_live.specs.Channel.{Channel}
 use Rattle.sspi_live.specs.Fresh.{ConnectedFresh, HasSealed, ServedFresh}
 use Rattle.sspi_live.specs.Pasts.{ConnectChained, ConnectPast}
@@ -41,7 +41,12 @@ use Rattle.sspi_types.specs.declared.error_kind.ErrorKind.{ErrorKind}
 refuses_others : (end : End) (kind : ErrorKind) (turns : List Turn) (before after : Channel) → Refuses end kind turns before after →
     OthersGoOn turns
 refuses_others Client kind turns before after r = r.1.going
-refuses_others Server kind turns before after r = r.2.turned.going
+refuses_others Server kind turns before after r = r.3.turned.going
+
+untold_others : (end : End) (kind : ErrorKind) (turns : List Turn) (before after : Channel) → RefusesUntold end kind turns before after →
+    OthersGoOn turns
+untold_others Client kind turns before after r = absurd r
+untold_others Server kind turns before after r = r.1.turned.going
 
 lacks_others : (end : End) (limit : ℕ) (turns : List Turn) (before after : Channel) → Lacks end limit turns before after →
     OthersGoOn turns
@@ -49,6 +54,7 @@ lacks_others end limit turns before after (for_a_request f) = others_go turns f.
 lacks_others end limit turns before after (for_a_turn d within due) = others_go turns due.going
 lacks_others end limit turns before after (for_a_message f) = others_go turns f.0
 lacks_others end limit turns before after (of_the_end r) = refuses_others end _ turns before after r
+lacks_others end limit turns before after (for_a_refusal kind r) = untold_others end kind turns before after r
 
 stops_others : (end : End) (limit : ℕ) (error : DelegateError) (turns : List Turn) (before after : Channel) →
     Stops end limit error turns before after → OthersGoOn turns

@@ -14,13 +14,13 @@ use Rattle.sspi_delegate.specs.declared.answer.DelegateError.{DelegateError}
 use Rattle.sspi_delegate.specs.declared.answer.DelegateError.TheVariants as errors
 use Rattle.sspi_delegate.specs.Halves.{IsAnswerTo}
 use Rattle.sspi_delegate.specs.Link.{newest_message}
-use Rattle.sspi_delegate.specs.Log.{IsServerRefusal}
+use Rattle.sspi_delegate.specs.Log.{IsServerRefusal, NewestIs}
 use Rattle.sspi_delegate.specs.Recorded.{PushedSuch}
 use Rattle.sspi_live.specs.Answers.{FailsToRead, FailsToWrite, IsDue, IsOwn, IsTurned, Refuses, SoFar, Stops, WritesMessage}
-use Rattle.sspi_live.specs.Answers.{for_a_message, for_a_request, for_a_turn, of_the_end}
+use Rattle.sspi_live.specs.Answers.{for_a_message, for_a_refusal, for_a_request, for_a_turn, of_the_end}
 use Rattle.sspi_live.specs.Channel.{Carries, Channel}
 use Rattle.sspi_live.specs.Sides.{messages_in, read_for, received_by}
-use Rattle.sspi_live.specs.Steps.{WritesNewest, refusal_by}
+use Rattle.sspi_live.specs.Steps.{AnswersTold, WritesNewest, refusal_by}
 use Rattle.sspi_live.proofs.Carrying.{read_on}
 use Rattle.sspi_live.proofs.Stepping.{pushed_newest}
 
@@ -74,11 +74,11 @@ refusal_told d kind old (t ∷ past) pushed = told_message kind t.outcome pushed
 pub server_refuses : (d : TsRequest) (kind : ErrorKind) (old new : List Turn) (first b c : Channel)
     (result : Result (Unit {0}) DelegateError) → PushedSuch Server d (IsServerRefusal kind) old new → IsTurned Server new first b →
     WritesNewest Server (newest_message new) b.written c.written b.write_faults c.write_faults result → Keeps b.left c.left →
-    c.read_faults ≡ b.read_faults → Refuses Server kind new first c
+    c.read_faults ≡ b.read_faults →
+    NewestIs Server (IsServerRefusal kind) new × WritesMessage Server new first c result
 server_refuses d kind old new first b c result pushed turn w left reading =
     let told = refusal_told d kind old new pushed in (
       pushed_newest Server d (IsServerRefusal kind) old new pushed,
-      result,
       record {
         now = b;
         turned = turn;
@@ -99,6 +99,18 @@ refusal_stops Client limit error answer turns first c (inr refusal) r = rw refus
 refusal_stops Server limit error answer turns first c (inl memory) r =
     rw memory.1 (of_the_end (subst (λ (k : ErrorKind). Refuses Server k turns first c) memory.0 r))
 refusal_stops Server limit error answer turns first c (inr refusal) r = rw refusal.1 (refl, refusal.0, r)
+
+-- what tells of a refusal was written, or why not
+pub told_stops : (limit : ℕ) (error : Error) (told : Result (Unit {0}) DelegateError) (answer : DelegateError) (turns : List Turn)
+    (first c : Channel) → AnswersTold error told answer →
+    NewestIs Server (IsServerRefusal error.error_type) turns × WritesMessage Server turns first c told →
+    Stops Server limit answer turns first c
+told_stops limit error told answer turns first c (inl memory) r =
+    rw memory.1
+    (for_a_refusal error.error_type
+    (r.0, subst (λ (w : Result (Unit {0}) DelegateError). WritesMessage Server turns first c w) memory.0 r.1))
+told_stops limit error told answer turns first c (inr (had, answers)) r =
+    refusal_stops Server limit error answer turns first c answers (r.0, told, had, r.1)
 
 -- ---- no memory for a turn
 

@@ -82,11 +82,24 @@ pub record WritesMessage (end : End) (turns : List Turn) (before after : Channel
 abbrev pub FailsToWrite : End → DelegateError → List Turn → Channel → Channel → Type 0
 FailsToWrite end error turns before after = AllGoOn turns × WritesMessage end turns before after (Err error)
 
--- The newest turn was refused with this kind. A server's client is told, if that can be written; no one else is told.
+-- what came of telling a client was no want of memory
+abbrev pub HadMemory : Result (Unit {0}) DelegateError → Type 0
+HadMemory (Ok done) = Unit {0}
+HadMemory (Err errors.InsufficientMemory) = ⊥
+HadMemory (Err error) = Unit {0}
+
+-- The newest turn was refused with this kind. A server's client was told: all of that was written, or it does not fit, or the sink
+-- failed, and its count of faults rose. No one else is told.
 abbrev pub Refuses : End → ErrorKind → List Turn → Channel → Channel → Type 0
 Refuses Client kind turns before after = NewestIs Client (IsClientRefusal kind) turns × IsTurned Client turns before after
 Refuses Server kind turns before after = NewestIs Server (IsServerRefusal kind) turns
-    × (result : Result (Unit {0}) DelegateError) × WritesMessage Server turns before after result
+    × (result : Result (Unit {0}) DelegateError) × HadMemory result × WritesMessage Server turns before after result
+
+-- a server refused its newest turn with this kind, and memory was wanting for what tells its client
+abbrev pub RefusesUntold : End → ErrorKind → List Turn → Channel → Channel → Type 0
+RefusesUntold Client kind turns before after = ⊥
+RefusesUntold Server kind turns before after =
+    NewestIs Server (IsServerRefusal kind) turns × WritesMessage Server turns before after (Err errors.InsufficientMemory)
 
 -- where memory was wanting
 pub data Lacks (end : End) (limit : ℕ) (turns : List Turn) (before after : Channel) : Type 0 where
@@ -94,6 +107,7 @@ pub data Lacks (end : End) (limit : ℕ) (turns : List Turn) (before after : Cha
   for_a_turn : (d : TsRequest) → length turns < limit → IsDue end turns before after d → Lacks end limit turns before after
   for_a_message : FailsToWrite end errors.InsufficientMemory turns before after → Lacks end limit turns before after
   of_the_end : Refuses end kinds.InsufficientMemory turns before after → Lacks end limit turns before after
+  for_a_refusal : (kind : ErrorKind) → RefusesUntold end kind turns before after → Lacks end limit turns before after
 
 -- what each error shows; limit: how many turns this end may make
 abbrev pub Stops : End → ℕ → DelegateError → List Turn → Channel → Channel → Type 0

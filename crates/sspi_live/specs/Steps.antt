@@ -1,5 +1,5 @@
 -- What one turn over a channel promises the loop round it.
-use Rattle.std.specs.Prelude.{◌≡◌, ℕ, Bool, true, false, List, [], ◌∷◌, Option, None, Some, Result, Ok, Err}
+use Rattle.std.specs.Prelude.{◌≡◌, ◌⊎◌, ℕ, Bool, true, false, List, [], ◌∷◌, Option, None, Some, Result, Ok, Err}
 use Rattle.std.specs.Io.KnownBytes.{Keeps}
 use Rattle.sspi_types.specs.declared.error.Error.{Error}
 use Rattle.sspi_names.specs.declared.identity.AuthIdentity.{AuthIdentity}
@@ -13,11 +13,11 @@ use Rattle.sspi_credssp.specs.Ends.{ClientView}
 use Rattle.sspi_delegate.specs.declared.answer.DelegateError.{DelegateError}
 use Rattle.sspi_delegate.specs.declared.answer.DelegateError.TheVariants as errors
 use Rattle.sspi_delegate.specs.Chain.{KdcCalls}
-use Rattle.sspi_delegate.specs.Halves.{ClientHalfStops}
+use Rattle.sspi_delegate.specs.Halves.{ClientHalfStops, IsAnswerTo}
 use Rattle.sspi_delegate.specs.History.{ClientHistory}
 use Rattle.sspi_delegate.specs.Log.{NewestIs, IsFinished}
 use Rattle.sspi_delegate.specs.Turns.{is_ended}
-use Rattle.sspi_live.specs.Answers.{IsDelegated, IsOwn, IsTurned, SoFar, Stops}
+use Rattle.sspi_live.specs.Answers.{HadMemory, IsDelegated, IsOwn, IsTurned, SoFar, Stops}
 use Rattle.sspi_live.specs.Channel.{Channel}
 use Rattle.sspi_live.specs.Reading.{Reads}
 use Rattle.sspi_live.specs.Writing.{Writes}
@@ -26,6 +26,11 @@ use Rattle.sspi_live.specs.Writing.{Writes}
 abbrev pub refusal_by : End → Error → DelegateError
 refusal_by Client error = errors.Client error
 refusal_by Server error = errors.Server error
+
+-- The answer to a server's refusal, by what came of telling its client: where memory was wanting for that, it is want of memory.
+abbrev pub AnswersTold : Error → Result (Unit {0}) DelegateError → DelegateError → Type 0
+AnswersTold error told answer = ((told ≡ Err errors.InsufficientMemory) × (answer ≡ errors.InsufficientMemory))
+    ⊎ (HadMemory told × IsAnswerTo error.error_type (errors.Server error) answer)
 
 -- the newest turn made the last message of a delegation
 abbrev pub newest_is_last : List Turn → Bool

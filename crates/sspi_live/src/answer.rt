@@ -1,4 +1,4 @@
-ghost use Rattle.sspi_live.specs.Steps.{refusal_by};
+ghost use Rattle.sspi_live.specs.Steps.{AnswersTold, refusal_by};
 ghost use Rattle.sspi_delegate.specs.Halves.{IsAnswerTo};
 
 use sspi_credssp::End;
@@ -15,5 +15,15 @@ pub(crate) fn refusal_of(end: End, error: Error) -> DelegateError
     match end {
         End::Client => DelegateError::Client(error),
         End::Server => DelegateError::Server(error),
+    }
+}
+
+/// The answer of a server that refused, by what came of telling its client.
+pub(crate) fn refusal_told(told: Result<(), DelegateError>, error: Error) -> DelegateError
+    ensures { AnswersTold error told result }
+{
+    match told {
+        Err(DelegateError::InsufficientMemory) => DelegateError::InsufficientMemory,
+        Ok(()) | Err(_) => refusal_of(End::Server, error),
     }
 }

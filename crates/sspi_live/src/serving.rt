@@ -10,7 +10,7 @@ ghost use Rattle.sspi_live.specs.Fresh.{ServedFresh};
 ghost use Rattle.sspi_live.specs.Sides.{AreOf};
 ghost use Rattle.sspi_live.specs.Steps.{ServeStep};
 
-use crate::answer::refusal_of;
+use crate::answer::refusal_told;
 use crate::reading::read_request;
 use crate::writing::write_newest;
 use sspi_ber::{Sink, Source};
@@ -28,15 +28,16 @@ use std::alloc::Global;
 ///
 /// Ok gives the identity that the server opened, and how many turns it made; nothing is written for the last one. Refused:
 ///
-/// - `Server`: the server refused its turn, with this error. What tells its client is written, unless it does not fit, the sink
-///   fails or memory is wanting; that changes no answer.
+/// - `Server`: the server refused its turn, with this error. What tells its client was written whole, unless it does not fit or
+///   the sink failed, whose count of faults rose; that changes no answer.
 /// - `Read`, of the server: what came is no request. The kind is `UnexpectedEof` where the source ended, also in front of a
 ///   request, or a header is at fault, and else `InvalidData`.
 /// - `Write`, of the server: its message has a content past `sspi_ber::MAX_CONTENT`, 1048576 octets. None of it was written.
 /// - `LinkFault`: the source or the sink failed. Of a message that was due a front was written, never all of it.
 /// - `TurnsSpent`: the server made `limit` turns, each was answered, and none of them ended the exchange; at once where `limit`
 ///   is 0. Nothing more is then read.
-/// - `InsufficientMemory`, that of the server among it; a front of a message that was due may have been written.
+/// - `InsufficientMemory`, that of the server among it; a front of a message that was due may have been written. It comes too
+///   where memory was wanting for what tells the client of a refusal: that turn is then the newest of the transcript.
 ///
 /// `Client` does not come. The transcript lets go of the turns that it held before. Whatever the answer, it then has each turn
 /// that was made, a refused one too, and the server is as its last turn left it.
@@ -99,9 +100,8 @@ fn serve_turn<N: Mechanism, K: Mechanism, C: CredentialsProxy, S: Source, W: Sin
         }
         Round::Answered(Some(identity)) => Ok(Some(identity)),
         Round::Refused(error) => {
-            // What comes of the message that tells the client changes nothing.
-            let _written = write_newest(alloc, sink, End::Server, transcript);
-            Err(refusal_of(End::Server, error))
+            let told = write_newest(alloc, sink, End::Server, transcript);
+            Err(refusal_told(told, error))
         }
         Round::Lost => Err(DelegateError::InsufficientMemory),
     }

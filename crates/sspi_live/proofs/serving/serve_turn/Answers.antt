@@ -1,4 +1,4 @@
-use Rattle.std.proofs.Common.{None, Some, refl}
+use Rattle.std.proofs.Common.{None, Some, arith, refl}
 use Rattle.std.proofs.KnownBytes.{Keeps-refl}
 use Rattle.std.proofs.lemmas.Result.{err_from_is_err_and}
 use Rattle.sspi_credssp.specs.declared.turn.End.TheVariants.{Server}
@@ -7,12 +7,12 @@ use Rattle.sspi_delegate.specs.declared.ends.Round.TheVariants as round
 use Rattle.sspi_delegate.specs.Link.{newest_message}
 use Rattle.sspi_delegate.specs.Log.{IsFinished, IsServerRefusal}
 use Rattle.sspi_delegate.specs.Turns.{GoesOn}
-use Rattle.sspi_delegate.proofs.Halves.{server_half_refused, server_half_stopped}
+use Rattle.sspi_delegate.proofs.Halves.{server_half_stopped}
 use Rattle.sspi_live.specs.Channel.{channel}
-use Rattle.sspi_live.proofs.Calling.{server_calls, write_is_no_refusal}
+use Rattle.sspi_live.proofs.Calling.{server_calls, told_past, write_is_no_refusal}
 use Rattle.sspi_live.proofs.Carrying.{one_written, server_read}
-use Rattle.sspi_live.proofs.Stepping.{all_going, pushed_newest, pushed_whose, so_far_on, turned}
-use Rattle.sspi_live.proofs.Stopping.{lost_stops, message_written, refusal_stops, server_refuses, write_stops}
+use Rattle.sspi_live.proofs.Stepping.{all_going, pushed_count, pushed_newest, pushed_whose, so_far_on, turned}
+use Rattle.sspi_live.proofs.Stopping.{lost_stops, message_written, server_refuses, told_stops, write_stops}
 use Rattle.sspi_live.proofs.serving.serve_turn.Goals as goal
 
 pub returns-in_ok-write_newest-in-Answered-None-clause-step : goal.returns-in_ok-write_newest-in-Answered-None-clause-step
@@ -69,12 +69,12 @@ returns-in-Refused-clause-step g c first limit so within =
     let a = channel g.S.Source.left g.S.Source.faults g.W.Sink.written g.W.Sink.faults c.args.source.now c.args.sink.now in
     let b = channel g.S.Source.left g.S.Source.faults g.W.Sink.written g.W.Sink.faults c.read_request.new.source c.args.sink.now in
     let e = channel g.S.Source.left g.S.Source.faults g.W.Sink.written g.W.Sink.faults c.read_request.new.source
-    c.write_newest-written.new.sink in
+    c.write_newest-told.new.sink in
     let read = server_read old a b d c.in_ok-request.ensures (Keeps-refl _) refl in
     let turn = turned Server d (IsServerRefusal error.error_type) old new first a b so read c.in-Refused.ensures.turn in
-    refusal_stops Server limit error c.refusal_of.result new first e c.refusal_of.ensures
-    (server_refuses d error.error_type old new first b e c.write_newest-written.result c.in-Refused.ensures.turn turn
-    c.write_newest-written.ensures (Keeps-refl _) refl)
+    told_stops limit error c.write_newest-told.result c.refusal_told.result new first e c.refusal_told.ensures
+    (server_refuses d error.error_type old new first b e c.write_newest-told.result c.in-Refused.ensures.turn turn
+    c.write_newest-told.ensures (Keeps-refl _) refl)
 
 pub returns-in-Lost-clause-step : goal.returns-in-Lost-clause-step
 returns-in-Lost-clause-step g c first limit so within =
@@ -127,9 +127,20 @@ returns-in-Refused-clause-history g c first whose history =
     let old = c.args.transcript.now.turns in
     let new = c.server_round.new.transcript.turns in
     let error = c.in-Refused.error in
-    server_half_refused (either g.N.Mechanism.REQUESTS g.N.Mechanism.meaning g.K.Mechanism.meaning) g.C.CredentialsProxy.meaning first
-    c.server_round.new.server new error c.refusal_of.result c.refusal_of.ensures
+    told_past (either g.N.Mechanism.REQUESTS g.N.Mechanism.meaning g.K.Mechanism.meaning) g.C.CredentialsProxy.meaning first
+    c.server_round.new.server new error c.write_newest-told.result c.refusal_told.result c.refusal_told.ensures
     (server_calls (either g.N.Mechanism.REQUESTS g.N.Mechanism.meaning g.K.Mechanism.meaning) g.C.CredentialsProxy.meaning
     first c.args.server.now c.server_round.new.server old new (round.Refused error) whose
     (pushed_whose Server c.in_ok-request.request (IsServerRefusal error.error_type) old new c.in-Refused.ensures.turn whose) history
     (λ h. c.in-Refused.ensures.server_history first h))
+
+pub returns-in-Refused-clause-within : goal.returns-in-Refused-clause-within
+returns-in-Refused-clause-within g c =
+    let count = pushed_count Server c.in_ok-request.request (IsServerRefusal c.in-Refused.error.error_type)
+    c.args.transcript.now.turns c.server_round.new.transcript.turns c.in-Refused.ensures.turn in
+    omega (arith, count)
+
+pub returns-in-Refused-clause-whose : goal.returns-in-Refused-clause-whose
+returns-in-Refused-clause-whose g c whose =
+    pushed_whose Server c.in_ok-request.request (IsServerRefusal c.in-Refused.error.error_type) c.args.transcript.now.turns
+    c.server_round.new.transcript.turns c.in-Refused.ensures.turn whose
