@@ -5,10 +5,13 @@ use Rattle.std.proofs.lemmas.List.Sums.{fold-append}
 use Rattle.sspi_scenario.specs.declared.key.Key.{Key}
 use Rattle.sspi_scenario.specs.declared.key.Key.TheVariants as key
 use Rattle.sspi_scenario.specs.declared.scenario.Scenario.{Scenario}
+use Rattle.sspi_scenario.specs.declared.purpose.Purpose.{Purpose}
+use Rattle.sspi_scenario.specs.declared.purpose.Purpose.TheVariants as purposes
 use Rattle.sspi_scenario.specs.declared.values.Values.{Values}
 use Rattle.sspi_scenario.specs.Drafts.{draft_of, noted, draft_completed}
 use Rattle.sspi_scenario.specs.Faults.{Told, keys_of}
 use Rattle.sspi_scenario.specs.Keys.{is_same, excludes, is_excluded, has}
+use Rattle.sspi_scenario.specs.Purposes.{has_random}
 use Rattle.sspi_scenario.specs.Scenario.{defaults, values_of, completed, completed_by, proxy_table, own_identity}
 use Rattle.sspi_scenario.proofs.Seen.{seen-any}
 
@@ -32,19 +35,29 @@ pub draft-excluded : (lines : List Told) (k : Key) → is_excluded (draft_of lin
 unfolding draft_of
 draft-excluded lines k = seen-any (λ e. excludes e k) (keys_of lines)
 
-abbrev completed_at : Bool → Bool → Values → Option Scenario
-completed_at required told values = if required then Some (record values.scenario {
+abbrev completed_at : Bool → Bool → Bool → Values → Option Scenario
+completed_at required random told values = if required && random then Some (record values.scenario {
   server_key = if told then values.scenario.server_key else values.scenario.key;
   account = proxy_table values.scenario.account values.accounts (own_identity values.scenario.user values.scenario.password);
 }) else None
 
-completed-same : (keys seen : List Key) (values : Values) → ((k : Key) → has keys k ≡ has seen k) →
-    completed_by keys values ≡ completed_by seen values
-completed-same keys seen values e = λ i.
-    completed_at (e key.Mode i && e key.User i && e key.Password i && e key.Key i) (e key.ServerKey i) values
+random-same : (purpose : Purpose) (keys seen : List Key) → ((k : Key) → has keys k ≡ has seen k) →
+    has_random purpose keys ≡ has_random purpose seen
+random-same purposes.Exchange keys seen e = refl
+random-same purposes.Play keys seen e = refl
+random-same purposes.Early keys seen e = refl
+random-same purposes.Sessions keys seen e = refl
+random-same purposes.Serve keys seen e = e key.Challenge
+random-same purposes.Connect keys seen e = e key.Nonce
 
-pub draft-ends : (lines : List Told) → completed lines ≡ draft_completed (draft_of lines)
+completed-same : (purpose : Purpose) (keys seen : List Key) (values : Values) → ((k : Key) → has keys k ≡ has seen k) →
+    completed_by purpose keys values ≡ completed_by purpose seen values
+completed-same purpose keys seen values e = λ i.
+    completed_at (e key.Mode i && e key.User i && e key.Password i && e key.Key i) (random-same purpose keys seen e i)
+    (e key.ServerKey i) values
+
+pub draft-ends : (purpose : Purpose) (lines : List Told) → completed purpose lines ≡ draft_completed purpose (draft_of lines)
 unfolding completed draft_of
-draft-ends lines =
-    completed-same (keys_of lines) (fold noted [] (keys_of lines)) (values_of lines)
+draft-ends purpose lines =
+    completed-same purpose (keys_of lines) (fold noted [] (keys_of lines)) (values_of lines)
     (λ k. sym (seen-any (λ e. is_same e k) (keys_of lines)))

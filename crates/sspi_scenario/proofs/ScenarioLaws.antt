@@ -94,10 +94,10 @@ settings-later [] = refl
 settings-later (broken number ∷ lines) = settings-later lines
 settings-later (telling number told ∷ lines) = ap (λ (rest : List Told). told ∷ rest) (settings-later lines)
 
-scenario-later : (lines : List Line) → scenario_of_lines (map later_line lines) ≡ decided (option_map (λ n. n + 1) (first_fault [] lines))
-    (completed (told_in lines))
+scenario-later : (purpose : Purpose) (lines : List Line) → scenario_of_lines purpose (map later_line lines) ≡ decided (option_map (λ n. n + 1) (first_fault [] lines))
+    (completed purpose (told_in lines))
 unfolding scenario_of_lines
-scenario-later lines = λ i. decided (fault-later [] lines i) (completed (settings-later lines i))
+scenario-later purpose lines = λ i. decided (fault-later [] lines i) (completed purpose (settings-later lines i))
 
 decided-ok : (fault : Option ℕ) (found : Option Scenario) (scenario : Scenario) → decided fault found ≡ Ok scenario → fault ≡ None
 decided-ok None found scenario e = refl
@@ -111,7 +111,7 @@ decided-fault None None n e some = let same : 0 ≡ n = cc in absurd (omega (ari
 err-other : (n : ℕ) → 0 < n → ◌≡◌ {A = Result Scenario ℕ} (Err n) (Err 0) → ⊥
 err-other n some e = let same : n ≡ 0 = cc in omega (arith, same, some)
 
-readable-lines : (purpose : Purpose) (text : List ℕ) → is_readable text ≡ true → scenario_of purpose text ≡ scenario_of_lines
+readable-lines : (purpose : Purpose) (text : List ℕ) → is_readable text ≡ true → scenario_of purpose text ≡ scenario_of_lines purpose
     (lines_from purpose 1 (lines_of text))
 unfolding scenario_of
 readable-lines purpose text e = rw e refl
@@ -138,9 +138,9 @@ module _ (purpose : Purpose) (line text : List ℕ) (skip : is_skipped line ≡ 
 
   skip-scenario : scenario_of purpose (line ++ 10 ∷ text)
       ≡ decided (option_map (λ n. n + 1) (first_fault [] (lines_from purpose 1 (lines_of text))))
-      (completed (told_in (lines_from purpose 1 (lines_of text))))
+      (completed purpose (told_in (lines_from purpose 1 (lines_of text))))
   skip-scenario = readable-lines purpose (line ++ 10 ∷ text) readable ∙
-      (ap scenario_of_lines skip-lines ∙ scenario-later (lines_from purpose 1 (lines_of text)))
+      (ap (scenario_of_lines purpose) skip-lines ∙ scenario-later purpose (lines_from purpose 1 (lines_of text)))
 
   pub skip-ok : (scenario : Scenario) → scenario_of purpose text ≡ Ok scenario → scenario_of purpose (line ++ 10 ∷ text) ≡ Ok scenario
   unfolding scenario_of_lines
@@ -148,10 +148,10 @@ module _ (purpose : Purpose) (line text : List ℕ) (skip : is_skipped line ≡ 
       let whole = sym (readable-lines purpose text (readable-by purpose text (Ok scenario) (λ (h : Ok scenario ≡ Err 0). absurd cc) e
       (is_readable text) refl)) ∙ e in
       let none = decided-ok (first_fault [] (lines_from purpose 1 (lines_of text)))
-      (completed (told_in (lines_from purpose 1 (lines_of text)))) scenario whole in
+      (completed purpose (told_in (lines_from purpose 1 (lines_of text)))) scenario whole in
       skip-scenario
-      ∙ (ap (λ (f : Option ℕ). decided (option_map (λ n. n + 1) f) (completed (told_in (lines_from purpose 1 (lines_of text))))) none
-      ∙ (ap (λ (f : Option ℕ). decided f (completed (told_in (lines_from purpose 1 (lines_of text))))) (sym none) ∙ whole))
+      ∙ (ap (λ (f : Option ℕ). decided (option_map (λ n. n + 1) f) (completed purpose (told_in (lines_from purpose 1 (lines_of text))))) none
+      ∙ (ap (λ (f : Option ℕ). decided f (completed purpose (told_in (lines_from purpose 1 (lines_of text))))) (sym none) ∙ whole))
 
   pub skip-fault : (n : ℕ) → 0 < n → scenario_of purpose text ≡ Err n → scenario_of purpose (line ++ 10 ∷ text) ≡ Err (n + 1)
   unfolding scenario_of_lines
@@ -159,9 +159,9 @@ module _ (purpose : Purpose) (line text : List ℕ) (skip : is_skipped line ≡ 
       let other = err-other n some in
       let whole = sym (readable-lines purpose text (readable-by purpose text (Err n) other e (is_readable text) refl)) ∙ e in
       let fault = decided-fault (first_fault [] (lines_from purpose 1 (lines_of text)))
-      (completed (told_in (lines_from purpose 1 (lines_of text)))) n whole some in
+      (completed purpose (told_in (lines_from purpose 1 (lines_of text)))) n whole some in
       skip-scenario
-      ∙ ap (λ (f : Option ℕ). decided (option_map (λ n. n + 1) f) (completed (told_in (lines_from purpose 1 (lines_of text))))) fault
+      ∙ ap (λ (f : Option ℕ). decided (option_map (λ n. n + 1) f) (completed purpose (told_in (lines_from purpose 1 (lines_of text))))) fault
 
 cons-append : (o : Option Line) (lines more : List Line) → cons_option o (lines ++ more) ≡ cons_option o lines ++ more
 cons-append None lines more = refl
@@ -201,12 +201,12 @@ fault-stays purpose text more n some e readable =
     let other = err-other n some in
     let whole = sym (readable-lines purpose text (readable-by purpose text (Err n) other e (is_readable text) refl)) ∙ e in
     let fault = decided-fault (first_fault [] (lines_from purpose 1 (lines_of text)))
-    (completed (told_in (lines_from purpose 1 (lines_of text)))) n whole some in
+    (completed purpose (told_in (lines_from purpose 1 (lines_of text)))) n whole some in
     let both = lines-append purpose 1 (lines_of text) (lines_of more) in
     let all = ap (lines_from purpose 1) (split-append is_line_feed text 10 more refl) ∙ both.1 in
     readable-lines purpose (text ++ 10 ∷ more) readable
-    ∙ (ap scenario_of_lines all
-    ∙ ap (λ (f : Option ℕ). decided f (completed (told_in (lines_from purpose 1 (lines_of text) ++ both.0))))
+    ∙ (ap (scenario_of_lines purpose) all
+    ∙ ap (λ (f : Option ℕ). decided f (completed purpose (told_in (lines_from purpose 1 (lines_of text) ++ both.0))))
     (fault-kept [] (lines_from purpose 1 (lines_of text)) both.0 n fault))
 
 -- no setting is excluded by those before it
@@ -239,7 +239,7 @@ apart purpose text scenario before told after e settings =
     let whole = sym (readable-lines purpose text (readable-by purpose text (Ok scenario) (λ (h : Ok scenario ≡ Err 0). absurd cc) e
     (is_readable text) refl)) ∙ e in
     let none = decided-ok (first_fault [] (lines_from purpose 1 (lines_of text)))
-    (completed (told_in (lines_from purpose 1 (lines_of text)))) scenario whole in
+    (completed purpose (told_in (lines_from purpose 1 (lines_of text)))) scenario whole in
     apart-in [] (lines_from purpose 1 (lines_of text)) before told after none settings
 
 decided-some : (fault : Option ℕ) (found : Option Scenario) (scenario : Scenario) → decided fault found ≡ Ok scenario →
@@ -250,12 +250,12 @@ decided-some (Some n) found scenario e = absurd cc
 
 -- a text that is a scenario is readable, and all its lines make that scenario
 pub told-whole : (purpose : Purpose) (text : List ℕ) (scenario : Scenario) → scenario_of purpose text ≡ Ok scenario →
-    (is_readable text ≡ true) × (completed (told_in (lines_from purpose 1 (lines_of text))) ≡ Some scenario)
+    (is_readable text ≡ true) × (completed purpose (told_in (lines_from purpose 1 (lines_of text))) ≡ Some scenario)
 unfolding scenario_of_lines
 told-whole purpose text scenario e =
     let readable = readable-by purpose text (Ok scenario) (λ (h : Ok scenario ≡ Err 0). absurd cc) e (is_readable text) refl in
     let whole = sym (readable-lines purpose text readable) ∙ e in (
       readable,
       decided-some (first_fault [] (lines_from purpose 1 (lines_of text)))
-          (completed (told_in (lines_from purpose 1 (lines_of text)))) scenario whole,
+          (completed purpose (told_in (lines_from purpose 1 (lines_of text)))) scenario whole,
     )

@@ -28,6 +28,7 @@ use Rattle.sspi_scenario.specs.Held.{HoldsValues}
 use Rattle.sspi_scenario.specs.Hex.{hex_of, hex_of_size}
 use Rattle.sspi_scenario.specs.Kdcs.{kdc_of}
 use Rattle.sspi_scenario.specs.Keys.{has_required}
+use Rattle.sspi_scenario.specs.Purposes.{has_random}
 use Rattle.sspi_scenario.specs.Lines.{is_skipped, lines_of, before_space, after_space}
 use Rattle.sspi_scenario.specs.Optional.{◌>>=◌}
 use Rattle.sspi_scenario.specs.Purposes.{key_for}
@@ -238,11 +239,12 @@ completed-is false made scenario e = absurd cc
 readable-utf8 : (text : List ℕ) → is_readable text ≡ true → IsUtf8 text
 readable-utf8 text e = IsUtf8-from_is_utf8 text (and_parts (nat_le (length text) text_limit) (is_utf8 text) e).1
 
-finished-holds : (lines : List Told) (scenario : Scenario) → HoldsValues (values_of lines).scenario → completed lines ≡ Some scenario →
-    HoldsValues scenario
+finished-holds : (purpose : Purpose) (lines : List Told) (scenario : Scenario) → HoldsValues (values_of lines).scenario →
+    completed purpose lines ≡ Some scenario → HoldsValues scenario
 unfolding completed
-finished-holds lines scenario h e =
-    subst HoldsValues (completed-is (has_required (keys_of lines)) (finished (keys_of lines) (values_of lines)) scenario e) h
+finished-holds purpose lines scenario h e =
+    subst HoldsValues
+    (completed-is (has_required (keys_of lines) && has_random purpose (keys_of lines)) (finished (keys_of lines) (values_of lines)) scenario e) h
 
 values-held : (purpose : Purpose) (lines : List (List ℕ)) → AreUtf8 lines →
     HoldsValues (values_of (told_in (lines_from purpose 1 lines))).scenario
@@ -253,5 +255,5 @@ pub scenario_holds : (purpose : Purpose) (text : List ℕ) (scenario : Scenario)
     HoldsValues scenario
 scenario_holds purpose text scenario e =
     let parts = told-whole purpose text scenario e in
-    finished-holds (told_in (lines_from purpose 1 (lines_of text))) scenario
+    finished-holds purpose (told_in (lines_from purpose 1 (lines_of text))) scenario
     (values-held purpose (lines_of text) (lines-utf8 text (readable-utf8 text parts.0))) parts.1

@@ -23,98 +23,98 @@ left None = 0
 left (Some rest) = length rest + 1
 
 -- what lines decide that stand behind lines which told these
-unfoldable pub outcome : List Told → List Line → Result Scenario ℕ
-outcome earlier lines = decided (first_fault earlier lines) (completed (earlier ++ told_in lines))
+unfoldable pub outcome : Purpose → List Told → List Line → Result Scenario ℕ
+outcome purpose earlier lines = decided (first_fault earlier lines) (completed purpose (earlier ++ told_in lines))
 
-pub outcome-start : (lines : List Line) → outcome [] lines ≡ scenario_of_lines lines
+pub outcome-start : (purpose : Purpose) (lines : List Line) → outcome purpose [] lines ≡ scenario_of_lines purpose lines
 unfolding outcome scenario_of_lines
-outcome-start lines = refl
+outcome-start purpose lines = refl
 
-pub outcome-end : (purpose : Purpose) (earlier : List Told) (number : ℕ) → outcome earlier (lines_from purpose number []) ≡ decided None
-    (draft_completed (draft_of earlier))
+pub outcome-end : (purpose : Purpose) (earlier : List Told) (number : ℕ) → outcome purpose earlier (lines_from purpose number []) ≡ decided None
+    (draft_completed purpose (draft_of earlier))
 unfolding outcome lines_from told_in first_fault
-outcome-end purpose earlier number = ap (λ (lines : List Told). decided None (completed lines)) (append-nil earlier) ∙ ap (decided None)
-    (draft-ends earlier)
+outcome-end purpose earlier number = ap (λ (lines : List Told). decided None (completed purpose lines)) (append-nil earlier) ∙ ap (decided None)
+    (draft-ends purpose earlier)
 
-outcome-broken : (earlier : List Told) (number : ℕ) (lines : List Line) → outcome earlier (broken number ∷ lines) ≡ Err number
+outcome-broken : (purpose : Purpose) (earlier : List Told) (number : ℕ) (lines : List Line) → outcome purpose earlier (broken number ∷ lines) ≡ Err number
 unfolding outcome first_fault
-outcome-broken earlier number lines = refl
+outcome-broken purpose earlier number lines = refl
 
-outcome-excluded : (earlier : List Told) (number : ℕ) (told : Told) (lines : List Line) → is_excluded (keys_of earlier) told.key ≡ true
-    → outcome earlier (telling number told ∷ lines) ≡ Err number
+outcome-excluded : (purpose : Purpose) (earlier : List Told) (number : ℕ) (told : Told) (lines : List Line) → is_excluded (keys_of earlier) told.key ≡ true
+    → outcome purpose earlier (telling number told ∷ lines) ≡ Err number
 unfolding outcome first_fault
-outcome-excluded earlier number told lines h = rw h refl
+outcome-excluded purpose earlier number told lines h = rw h refl
 
-outcome-told : (earlier : List Told) (number : ℕ) (told : Told) (lines : List Line) → is_excluded (keys_of earlier) told.key ≡ false
-    → outcome earlier (telling number told ∷ lines) ≡ outcome (earlier ++ told ∷ []) lines
+outcome-told : (purpose : Purpose) (earlier : List Told) (number : ℕ) (told : Told) (lines : List Line) → is_excluded (keys_of earlier) told.key ≡ false
+    → outcome purpose earlier (telling number told ∷ lines) ≡ outcome purpose (earlier ++ told ∷ []) lines
 unfolding outcome first_fault told_in
-outcome-told earlier number told lines h = rw (h, append_assoc) refl
+outcome-told purpose earlier number told lines h = rw (h, append_assoc) refl
 
 -- what a line does: it is at fault with its number, or lines that told more lead to the values after it
-abbrev Step : List Told → Option Draft → ℕ → List Line → List Line → Type 0
-Step earlier None number lines rest = outcome earlier lines ≡ Err number
-Step earlier (Some new) number lines rest = (later : List Told) × (new ≡ draft_of later) × (outcome earlier lines ≡ outcome later rest)
+abbrev Step : Purpose → List Told → Option Draft → ℕ → List Line → List Line → Type 0
+Step purpose earlier None number lines rest = outcome purpose earlier lines ≡ Err number
+Step purpose earlier (Some new) number lines rest = (later : List Told) × (new ≡ draft_of later) × (outcome purpose earlier lines ≡ outcome purpose later rest)
 
-module _ (earlier : List Told) (number : ℕ) (rest : List Line) where
+module _ (purpose : Purpose) (earlier : List Told) (number : ℕ) (rest : List Line) where
   step-barred : (told : Told) (b : Bool) → is_excluded (draft_of earlier).seen told.key ≡ b
-      → Step earlier (if b then None else Some (record {
+      → Step purpose earlier (if b then None else Some (record {
         values = told.change (draft_of earlier).values;
         seen = noted (draft_of earlier).seen told.key;
       })) number (telling number told ∷ rest) rest
-  step-barred told true e = outcome-excluded earlier number told rest (sym (draft-excluded earlier told.key) ∙ e)
+  step-barred told true e = outcome-excluded purpose earlier number told rest (sym (draft-excluded earlier told.key) ∙ e)
   step-barred told false e = (
     earlier ++ told ∷ [],
     sym (draft-more earlier told),
-    outcome-told earlier number told rest
+    outcome-told purpose earlier number told rest
         (sym (draft-excluded earlier told.key) ∙ e),
   )
 
-  step-told : (told : Option Told) → Step earlier (with_told (draft_of earlier) told) number (judged number told ∷ rest) rest
-  step-told None = outcome-broken earlier number rest
+  step-told : (told : Option Told) → Step purpose earlier (with_told (draft_of earlier) told) number (judged number told ∷ rest) rest
+  step-told None = outcome-broken purpose earlier number rest
   step-told (Some told) = step-barred told (is_excluded (draft_of earlier).seen told.key) refl
 
   step-line : (skipped : Bool) (told : Option Told)
-      → Step earlier (if skipped then Some (draft_of earlier) else with_told (draft_of earlier) told) number
+      → Step purpose earlier (if skipped then Some (draft_of earlier) else with_told (draft_of earlier) told) number
       (cons_option (if skipped then None else Some (judged number told)) rest) rest
   step-line true told = (earlier, refl, refl)
   step-line false told = step-told told
 
 pub step : (purpose : Purpose) (earlier : List Told) (number : ℕ) (line : List ℕ) (rest : List (List ℕ))
-    → Step earlier (with_line purpose (draft_of earlier) line) number (lines_from purpose number (line ∷ rest))
+    → Step purpose earlier (with_line purpose (draft_of earlier) line) number (lines_from purpose number (line ∷ rest))
     (lines_from purpose (number + 1) rest)
 unfolding with_line lines_from
-step purpose earlier number line rest = step-line earlier number (lines_from purpose (number + 1) rest) (is_skipped line)
+step purpose earlier number line rest = step-line purpose earlier number (lines_from purpose (number + 1) rest) (is_skipped line)
     (line_told purpose line)
 
 -- the same of a line that is taken, and of one that is at fault
 pub step-taken : (purpose : Purpose) (earlier : List Told) (number : ℕ) (line : List ℕ) (rest : List (List ℕ)) (new : Draft)
     → with_line purpose (draft_of earlier) line ≡ Some new
-    → (later : List Told) × (new ≡ draft_of later) × (outcome earlier (lines_from purpose number (line ∷ rest)) ≡ outcome later
+    → (later : List Told) × (new ≡ draft_of later) × (outcome purpose earlier (lines_from purpose number (line ∷ rest)) ≡ outcome purpose later
     (lines_from purpose (number + 1) rest))
 step-taken purpose earlier number line rest new e =
-    subst (λ o. Step earlier o number (lines_from purpose number (line ∷ rest)) (lines_from purpose (number + 1) rest)) e
+    subst (λ o. Step purpose earlier o number (lines_from purpose number (line ∷ rest)) (lines_from purpose (number + 1) rest)) e
     (step purpose earlier number line rest)
 
 pub step-refused : (purpose : Purpose) (earlier : List Told) (number : ℕ) (line : List ℕ) (rest : List (List ℕ))
     → with_line purpose (draft_of earlier) line ≡ None
-    → outcome earlier (lines_from purpose number (line ∷ rest)) ≡ Err number
+    → outcome purpose earlier (lines_from purpose number (line ∷ rest)) ≡ Err number
 step-refused purpose earlier number line rest e =
-    subst (λ o. Step earlier o number (lines_from purpose number (line ∷ rest)) (lines_from purpose (number + 1) rest)) e
+    subst (λ o. Step purpose earlier o number (lines_from purpose number (line ∷ rest)) (lines_from purpose (number + 1) rest)) e
     (step purpose earlier number line rest)
 
 -- the values so far, and what the lines that are left decide: that is what all lines decide
 abbrev pub Sofar : (purpose : Purpose) → Draft → ℕ → List (List ℕ) → Result Scenario ℕ → Type 0
 Sofar purpose draft number lines all = (earlier : List Told) × (draft ≡ draft_of earlier)
-    × (outcome earlier (lines_from purpose number lines) ≡ all)
+    × (outcome purpose earlier (lines_from purpose number lines) ≡ all)
 
 pub told-start : (purpose : Purpose) (draft : Draft) (lines : List (List ℕ)) → draft ≡ draft_of [] →
-    Sofar purpose draft 1 lines (scenario_of_lines (lines_from purpose 1 lines))
-told-start purpose draft lines e = ([], e, outcome-start (lines_from purpose 1 lines))
+    Sofar purpose draft 1 lines (scenario_of_lines purpose (lines_from purpose 1 lines))
+told-start purpose draft lines e = ([], e, outcome-start purpose (lines_from purpose 1 lines))
 
 pub told-end : (purpose : Purpose) (draft : Draft) (number : ℕ) (all : Result Scenario ℕ) → Sofar purpose draft number [] all →
-    all ≡ decided None (draft_completed draft)
+    all ≡ decided None (draft_completed purpose draft)
 told-end purpose draft number all told =
-    sym told.2 ∙ (outcome-end purpose told.0 number ∙ ap (λ (d : Draft). decided None (draft_completed d)) (sym told.1))
+    sym told.2 ∙ (outcome-end purpose told.0 number ∙ ap (λ (d : Draft). decided None (draft_completed purpose d)) (sym told.1))
 
 module _ (purpose : Purpose) (draft : Draft) (number : ℕ) (all : Result Scenario ℕ) (lines : List (List ℕ)) (line : List ℕ)
     (rest : List (List ℕ))
@@ -123,12 +123,12 @@ module _ (purpose : Purpose) (draft : Draft) (number : ℕ) (all : Result Scenar
       Sofar purpose new (number + 1) rest all
   told-more new h told =
       let next = step-taken purpose told.0 number line rest new (ap (λ (d : Draft). with_line purpose d line) (sym told.1) ∙ h) in
-      (next.0, next.1, sym next.2 ∙ (ap (λ (ls : List (List ℕ)). outcome told.0 (lines_from purpose number ls)) (sym cut) ∙ told.2))
+      (next.0, next.1, sym next.2 ∙ (ap (λ (ls : List (List ℕ)). outcome purpose told.0 (lines_from purpose number ls)) (sym cut) ∙ told.2))
 
   pub told-fault : with_line purpose draft line ≡ None → Sofar purpose draft number lines all → all ≡ Err number
   told-fault h told =
       sym told.2
-      ∙ (ap (λ (ls : List (List ℕ)). outcome told.0 (lines_from purpose number ls)) cut
+      ∙ (ap (λ (ls : List (List ℕ)). outcome purpose told.0 (lines_from purpose number ls)) cut
       ∙ step-refused purpose told.0 number line rest (ap (λ (d : Draft). with_line purpose d line) (sym told.1) ∙ h))
 
 -- a rest that is shorter
@@ -141,7 +141,7 @@ unfolding scenario_of
 unreadable purpose text e = rw e refl
 
 module _ (purpose : Purpose) (text read : List ℕ) (same : read ≡ text) (readable : is_readable text ≡ true) where
-  whole : scenario_of purpose text ≡ scenario_of_lines (lines_from purpose 1 (lines_of read))
+  whole : scenario_of purpose text ≡ scenario_of_lines purpose (lines_from purpose 1 (lines_of read))
   unfolding scenario_of
   whole = rw (same, readable) refl
 
@@ -149,7 +149,7 @@ module _ (purpose : Purpose) (text read : List ℕ) (same : read ≡ text) (read
   parsed-fault (error.Line number) h = whole ∙ h
   parsed-fault error.InsufficientMemory h = tt
 
-  pub parsed : (draft : Draft) (r : Result Scenario ScenarioError) → Gathers purpose read (Ok draft) → Completes r (draft_completed draft) →
+  pub parsed : (draft : Draft) (r : Result Scenario ScenarioError) → Gathers purpose read (Ok draft) → Completes r (draft_completed purpose draft) →
       Parses purpose text r
   parsed draft (Ok scenario) h e = whole ∙ (h ∙ ap (decided None) e)
   parsed draft (Err (error.Line number)) h e = whole ∙ (h ∙ (ap (decided None) e.0 ∙ ap Err (sym e.1)))

@@ -45,9 +45,9 @@ Takes purpose old new text (Ok done) = with_line purpose old text ≡ Some new
 Takes purpose old new text (Err line.Fault) = with_line purpose old text ≡ None
 Takes purpose old new text (Err line.InsufficientMemory) = AsksMemory purpose old text
 
--- the scenario of the draft, or none where a required key is missing
-abbrev pub draft_completed : Draft → Option Scenario
-draft_completed draft = completed_by draft.seen draft.values
+-- the scenario of the draft for this, or none where a key is missing that it is to have
+abbrev pub draft_completed : Purpose → Draft → Option Scenario
+draft_completed purpose draft = completed_by purpose draft.seen draft.values
 
 -- exactly that scenario; line 0 exactly where there is none; want of memory is free
 abbrev pub Completes : Result Scenario ScenarioError → Option Scenario → Type 0
@@ -57,6 +57,6 @@ Completes (Err error.InsufficientMemory) found = Unit {0}
 
 -- the draft of all lines, or the first faulty line
 abbrev pub Gathers : Purpose → List ℕ → Result Draft ScenarioError → Type 0
-Gathers purpose text (Ok draft) = scenario_of_lines (lines_from purpose 1 (lines_of text)) ≡ decided None (draft_completed draft)
-Gathers purpose text (Err (error.Line number)) = scenario_of_lines (lines_from purpose 1 (lines_of text)) ≡ Err number
+Gathers purpose text (Ok draft) = scenario_of_lines purpose (lines_from purpose 1 (lines_of text)) ≡ decided None (draft_completed purpose draft)
+Gathers purpose text (Err (error.Line number)) = scenario_of_lines purpose (lines_from purpose 1 (lines_of text)) ≡ Err number
 Gathers purpose text (Err error.InsufficientMemory) = Unit {0}

@@ -19,6 +19,7 @@ use Rattle.sspi_scenario.specs.declared.words.Accounts.TheVariants as accounts
 use Rattle.sspi_scenario.specs.Faults.{Line, Told, lines_from, first_fault, keys_of, told_in}
 use Rattle.sspi_scenario.specs.Keys.{has, has_required}
 use Rattle.sspi_scenario.specs.Lines.{lines_of}
+use Rattle.sspi_scenario.specs.Purposes.{has_random}
 use Rattle.sspi_scenario.specs.Reading.{text_limit}
 
 -- no longer than a text may be, and UTF-8
@@ -83,13 +84,13 @@ finished keys values = record values.scenario {
   account = proxy_table values.scenario.account values.accounts (own_identity values.scenario.user values.scenario.password);
 }
 
--- the same where all required keys are there
-abbrev pub completed_by : List Key → Values → Option Scenario
-completed_by keys values = if has_required keys then Some (finished keys values) else None
+-- the same where all keys are there that a scenario for this is to have
+abbrev pub completed_by : Purpose → List Key → Values → Option Scenario
+completed_by purpose keys values = if has_required keys && has_random purpose keys then Some (finished keys values) else None
 
 -- the scenario of the lines of a text without a faulty one, or none where a required key is missing
-unfoldable pub completed : List Told → Option Scenario
-completed lines = completed_by (keys_of lines) (values_of lines)
+unfoldable pub completed : Purpose → List Told → Option Scenario
+completed purpose lines = completed_by purpose (keys_of lines) (values_of lines)
 
 -- the first faulty line decides; a missing key is found where there is none
 abbrev pub decided : Option ℕ → Option Scenario → Result Scenario ℕ
@@ -97,13 +98,13 @@ decided (Some number) scenario = Err number
 decided None (Some scenario) = Ok scenario
 decided None None = Err 0
 
-unfoldable pub scenario_of_lines : List Line → Result Scenario ℕ
-scenario_of_lines lines = decided (first_fault [] lines) (completed (told_in lines))
+unfoldable pub scenario_of_lines : Purpose → List Line → Result Scenario ℕ
+scenario_of_lines purpose lines = decided (first_fault [] lines) (completed purpose (told_in lines))
 
 -- the scenario that a text is for this, or the number of its first faulty line, from 1; 0 where no line is to blame
 unfoldable pub scenario_of : Purpose → List ℕ → Result Scenario ℕ
 scenario_of purpose text =
-    if is_readable text then scenario_of_lines (lines_from purpose 1 (lines_of text)) else Err 0
+    if is_readable text then scenario_of_lines purpose (lines_from purpose 1 (lines_of text)) else Err 0
 
 -- a text gives its scenario, or is refused at the line that its scenario names; want of memory is free
 abbrev pub Parses : Purpose → List ℕ → Result Scenario ScenarioError → Type 0

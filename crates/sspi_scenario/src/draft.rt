@@ -58,12 +58,12 @@ impl Draft {
         Ok(())
     }
 
-    /// The scenario of these lines.
-    pub fn complete(self, alloc: Global) -> Result<Scenario, ScenarioError>
-        ensures { Completes result (draft_completed self) }
+    /// The scenario of these lines, for this.
+    pub fn complete(self, alloc: Global, purpose: Purpose) -> Result<Scenario, ScenarioError>
+        ensures { Completes result (draft_completed purpose self) }
     {
         let Draft { values, seen } = self;
-        if has_required(seen.as_slice()) {
+        if has_required(seen.as_slice()) && purpose.has_random(seen.as_slice()) {
             Ok(values.finish(alloc, seen.as_slice())?)
         } else {
             given_up(values, ScenarioError::Line(0))

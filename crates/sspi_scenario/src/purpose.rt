@@ -2,7 +2,7 @@ ghost use Rattle.std.specs.Prelude.{◌≡◌};
 ghost use Rattle.sspi_scenario.specs.Purposes;
 ghost use Rattle.sspi_scenario.specs.Purposes.{key_for};
 
-use crate::key::Key;
+use crate::key::{Key, has};
 
 /// What a scenario is for, which says what keys it may have.
 #[derive(Clone, Copy, Debug, PartialEq, Eq)]
@@ -15,6 +15,10 @@ pub enum Purpose {
     Early,
     /// Many of its clients are served at one desk, which delivers what was sent.
     Sessions,
+    /// Its server takes the credentials of a peer, over a channel.
+    Serve,
+    /// Its client delegates its credentials to a peer, over a channel.
+    Connect,
 }
 
 impl Purpose {
@@ -36,6 +40,20 @@ impl Purpose {
             Purpose::Play => !matches!(key, Key::Turns | Key::Edit | Key::Admit),
             Purpose::Early => !matches!(key, Key::Deliver),
             Purpose::Sessions => !matches!(key, Key::Edit | Key::Deliver | Key::Admit),
+            Purpose::Serve | Purpose::Connect => {
+                !matches!(key, Key::Edit | Key::Deliver | Key::ProxyFail)
+            }
+        }
+    }
+
+    /// Whether the random value of an end over a channel is told: zeros are known to everybody.
+    pub fn has_random(self, keys: &[Key]) -> bool
+        ensures { result ≡ Purposes.has_random self keys.now }
+    {
+        match self {
+            Purpose::Serve => has(keys, Key::Challenge),
+            Purpose::Connect => has(keys, Key::Nonce),
+            Purpose::Exchange | Purpose::Play | Purpose::Early | Purpose::Sessions => true,
         }
     }
 }

@@ -113,7 +113,7 @@ impl Scenario {
     pub fn parse(alloc: Global, purpose: Purpose, text: &[u8]) -> Result<Scenario, ScenarioError>
         ensures { Parses purpose text.now result }
     {
-        read(alloc, purpose, checked(text)?)?.complete(alloc)
+        read(alloc, purpose, checked(text)?)?.complete(alloc, purpose)
     }
 }
 

@@ -93,6 +93,26 @@ const FAULTS_OF_SESSIONS: [(&str, usize); 4] = [
     ("turns 5\nturns 5", 2),
 ];
 
+/// The same for a server over a channel, which has its challenge; the fewest lines that it needs are none at fault.
+const FAULTS_OF_A_SERVER: [(&str, usize); 5] = [
+    ("admit ann\nturns 5\nproxy-fail 9", 3),
+    ("edit 0 drop", 1),
+    ("challenge 0001020304050607\ndeliver client", 2),
+    ("mode ntlm\nuser a\npassword b\nkey 00\nnonce 00", 5),
+    ("mode ntlm\nuser a\npassword b\nkey 00", 0),
+];
+
+/// The same for a client over a channel, which has its nonce.
+const FAULTS_OF_A_CLIENT: [(&str, usize); 4] = [
+    ("proxy-fail 9", 1),
+    ("admit ann\nedit 0 drop", 2),
+    ("deliver server", 1),
+    (
+        "mode ntlm\nuser a\npassword b\nkey 00\nchallenge 0001020304050607",
+        0,
+    ),
+];
+
 /// The line at which a text is refused; none where it is not refused for a line.
 fn line_of<T: Drop>(read: Result<T, ScenarioError>) -> Option<usize> {
     match read {
@@ -119,5 +139,11 @@ fn faults_are_found_at_their_lines(rt: HostRuntime) {
     }
     for (text, line) in FAULTS_OF_SESSIONS {
         is_refused(&rt, rt.alloc(), Purpose::Sessions, text, line);
+    }
+    for (text, line) in FAULTS_OF_A_SERVER {
+        is_refused(&rt, rt.alloc(), Purpose::Serve, text, line);
+    }
+    for (text, line) in FAULTS_OF_A_CLIENT {
+        is_refused(&rt, rt.alloc(), Purpose::Connect, text, line);
     }
 }

@@ -18,7 +18,7 @@ pub returns-in-Err-Fault : goal.returns-in-Err-Fault
 returns-in-Err-Fault c =
     let cut = ap (λ (r : Option (Bor (List ℕ))). lines_after (option_copied r)) c.in-Some.is ∙ c.first_line.ensures.lines in
     told-fault c.args.purpose c.loop-rest.draft c.loop-rest.number
-    (scenario_of_lines (lines_from c.args.purpose 1 (lines_of c.args.text.now)))
+    (scenario_of_lines c.args.purpose (lines_from c.args.purpose 1 (lines_of c.args.text.now)))
     (lines_after (option_copied c.loop-rest.rest)) c.first_line.result.0.now (lines_after (option_copied c.first_line.result.1)) cut
     (rw c.in-Err-Fault.field-0-is at c.in-Err-Fault.ensures) c.loop-rest.invariant.told
 
@@ -34,7 +34,7 @@ loop-rest-preserved c =
     let fits = c.loop-rest.invariant.fits in
     record {
       told = told-more c.args.purpose c.loop-rest.draft c.loop-rest.number
-          (scenario_of_lines (lines_from c.args.purpose 1 (lines_of c.args.text.now)))
+          (scenario_of_lines c.args.purpose (lines_from c.args.purpose 1 (lines_of c.args.text.now)))
           (lines_after (option_copied c.loop-rest.rest)) c.first_line.result.0.now (lines_after (option_copied c.first_line.result.1)) cut
           c.take_line.new.self c.in-Ok.ensures c.loop-rest.invariant.told;
       fits = omega (arith, size, less, fits);
@@ -43,5 +43,5 @@ loop-rest-preserved c =
 pub returns : goal.returns
 returns c =
     told-end c.args.purpose c.loop-rest.draft c.loop-rest.number
-    (scenario_of_lines (lines_from c.args.purpose 1 (lines_of c.args.text.now)))
+    (scenario_of_lines c.args.purpose (lines_from c.args.purpose 1 (lines_of c.args.text.now)))
     (rw c.in_default.is at c.loop-rest.invariant.told)

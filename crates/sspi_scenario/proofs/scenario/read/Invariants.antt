@@ -10,7 +10,7 @@ use Rattle.sspi_scenario.proofs.scenario.read.Given as goal
 abbrev pub invariant-loop-rest : goal.invariant-loop-rest
 invariant-loop-rest l = record {
   told : Sofar l.fn.purpose l.draft l.number (lines_after (option_copied l.rest))
-      (scenario_of_lines (lines_from l.fn.purpose 1 (lines_of l.fn.text)));
+      (scenario_of_lines l.fn.purpose (lines_from l.fn.purpose 1 (lines_of l.fn.text)));
   fits : l.number + left (option_copied l.rest) ≤ 1048578;
 }
 
