@@ -57,7 +57,7 @@ pub fn given_up<A: Drop, T>(_there: A, error: AllocError) -> Result<T, AllocErro
 }
 
 /// The client that the scenario names, to which nothing was delivered.
-fn client_of(alloc: Global, scenario: &Scenario) -> Result<Box<Client>, AllocError>
+pub fn client_of(alloc: Global, scenario: &Scenario) -> Result<Box<Client>, AllocError>
     ensures fresh { IfOk result (λ client. IsFreshClient client.value) }
     ensures named { IfOk result (λ client. IsClientOf scenario.now client.value) }
 {
@@ -104,7 +104,7 @@ fn credentials_of(alloc: Global, scenario: &Scenario) -> Result<Credentials, All
 }
 
 /// The server that the scenario names, to which nothing was delivered.
-fn server_of(alloc: Global, scenario: &Scenario) -> Result<Box<Server>, AllocError>
+pub fn server_of(alloc: Global, scenario: &Scenario) -> Result<Box<Server>, AllocError>
     ensures fresh { IfOk result (λ server. IsFreshServer server.value) }
     ensures named { IfOk result (λ server. IsServerOf scenario.now server.value) }
 {
@@ -151,7 +151,7 @@ fn copy_edits(alloc: Global, edits: &[Edit]) -> Result<Vec<Edit>, AllocError>
 }
 
 /// The KDC that the scenario names, which was not asked yet.
-fn kdc_of(alloc: Global, scenario: &Scenario) -> Result<PlainKdc, AllocError>
+pub fn kdc_of(alloc: Global, scenario: &Scenario) -> Result<PlainKdc, AllocError>
     ensures { IfOk result (λ kdc. kdc ≡ kdc_in scenario.now) }
 {
     let users = copy_texts(alloc, scenario.kdc_user.as_slice())?;

@@ -8,7 +8,7 @@
 
 pub mod command;
 pub mod ended;
-mod ends;
+pub mod ends;
 mod exchange;
 pub mod keeping;
 mod modes;
