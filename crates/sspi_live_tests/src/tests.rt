@@ -4,3 +4,4 @@ mod pipes;
 mod recorded;
 mod serving;
 mod stage;
+mod words;
