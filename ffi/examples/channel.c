@@ -4,19 +4,63 @@
 
 #include <ctype.h>
 #include <errno.h>
+#include <fcntl.h>
 #include <netdb.h>
 #include <openssl/evp.h>
 #include <openssl/x509v3.h>
+#include <poll.h>
 #include <string.h>
 #include <sys/socket.h>
 #include <sys/time.h>
+#include <time.h>
 #include <unistd.h>
 
-/* A peer that falls silent must not hold a program up for ever. */
-static void set_timeout(int socket) {
+enum { MILLISECONDS = 1000 };
+
+static int64_t now(void) {
+    struct timespec time;
+    clock_gettime(CLOCK_MONOTONIC, &time);
+    return (int64_t)time.tv_sec * MILLISECONDS + time.tv_nsec / 1000000;
+}
+
+void channel_set_deadline(struct channel *channel, uint32_t seconds) {
+    channel->deadline = now() + (int64_t)seconds * MILLISECONDS;
+}
+
+static enum fault check_deadline(const struct channel *channel) {
+    return now() < channel->deadline ? FAULT_NONE : FAULT_DEADLINE;
+}
+
+/* Waits until the socket can be read or written. */
+static enum fault await(const struct channel *channel, short events) {
+    struct pollfd ready = {.fd = channel->socket, .events = events};
+    const int64_t silence = now() + CHANNEL_SECONDS * MILLISECONDS;
+    const int64_t end = silence < channel->deadline ? silence : channel->deadline;
+    for (;;) {
+        int64_t left = end - now();
+        int count = left > 0 ? poll(&ready, 1, (int)left) : 0;
+        if (count > 0)
+            return FAULT_NONE;
+        if (count == 0 && now() >= end)
+            return end == silence ? FAULT_TIMEOUT : FAULT_DEADLINE;
+        if (count < 0 && errno != EINTR)
+            return FAULT_SOCKET;
+    }
+}
+
+/* A host that does not answer must not hold a program up for ever. */
+static void limit_connect(int socket) {
     struct timeval limit = {.tv_sec = CHANNEL_SECONDS};
-    setsockopt(socket, SOL_SOCKET, SO_RCVTIMEO, &limit, sizeof limit);
     setsockopt(socket, SOL_SOCKET, SO_SNDTIMEO, &limit, sizeof limit);
+}
+
+/* From here on no call on the socket waits but `await`. */
+static enum fault begin(struct channel *channel, int socket, uint32_t seconds) {
+    *channel = (struct channel){.socket = socket};
+    channel_set_deadline(channel, seconds);
+    int flags = fcntl(socket, F_GETFL);
+    return flags >= 0 && fcntl(socket, F_SETFL, flags | O_NONBLOCK) == 0 ? FAULT_NONE
+                                                                         : FAULT_SOCKET;
 }
 
 static enum fault resolve(const char *host, const char *port, int flags, struct addrinfo **found) {
@@ -24,24 +68,26 @@ static enum fault resolve(const char *host, const char *port, int flags, struct 
     return getaddrinfo(host, port, &hints, found) == 0 ? FAULT_NONE : FAULT_ADDRESS;
 }
 
-enum fault channel_connect(struct channel *channel, const char *host, const char *port) {
+enum fault channel_connect(struct channel *channel, const char *host, const char *port,
+                           uint32_t seconds) {
     struct addrinfo *found;
+    int connected = -1;
     enum fault fault = resolve(host, port, 0, &found);
     if (fault != FAULT_NONE)
         return fault;
-    *channel = (struct channel){.socket = -1};
-    for (struct addrinfo *at = found; at && channel->socket < 0; at = at->ai_next) {
+    for (struct addrinfo *at = found; at && connected < 0; at = at->ai_next) {
         int fd = socket(at->ai_family, at->ai_socktype | SOCK_CLOEXEC, at->ai_protocol);
         if (fd < 0)
             continue;
-        set_timeout(fd);
+        limit_connect(fd);
         if (connect(fd, at->ai_addr, at->ai_addrlen) == 0)
-            channel->socket = fd;
+            connected = fd;
         else
             close(fd);
     }
     freeaddrinfo(found);
-    return channel->socket < 0 ? FAULT_CONNECT : FAULT_NONE;
+    *channel = (struct channel){.socket = -1};
+    return connected < 0 ? FAULT_CONNECT : begin(channel, connected, seconds);
 }
 
 enum fault channel_listen(int *listener, const char *address, const char *port) {
@@ -61,79 +107,96 @@ enum fault channel_listen(int *listener, const char *address, const char *port) 
     return *listener < 0 ? FAULT_ADDRESS : FAULT_NONE;
 }
 
-enum fault channel_accept(struct channel *channel, int listener) {
-    *channel = (struct channel){.socket = accept4(listener, NULL, NULL, SOCK_CLOEXEC)};
-    if (channel->socket < 0)
-        return FAULT_SOCKET;
-    set_timeout(channel->socket);
-    return FAULT_NONE;
+enum fault channel_accept(struct channel *channel, int listener, uint32_t seconds) {
+    int accepted = accept4(listener, NULL, NULL, SOCK_CLOEXEC);
+    *channel = (struct channel){.socket = -1};
+    return accepted < 0 ? FAULT_SOCKET : begin(channel, accepted, seconds);
 }
 
-static enum fault socket_fault(ssize_t got) {
-    if (got == 0)
+static enum fault socket_fault(int error) {
+    return error == ECONNRESET || error == EPIPE ? FAULT_CLOSED : FAULT_SOCKET;
+}
+
+/* Waits where a call on the socket would have waited. FAULT_NONE: it may be made again. To be called
+ * right behind it. */
+static enum fault retry_socket(const struct channel *channel, ssize_t moved, short events) {
+    if (moved == 0)
         return FAULT_CLOSED;
-    if (errno == EAGAIN || errno == EWOULDBLOCK)
-        return FAULT_TIMEOUT;
-    return errno == ECONNRESET || errno == EPIPE ? FAULT_CLOSED : FAULT_SOCKET;
+    if (errno == EINTR)
+        return FAULT_NONE;
+    return errno == EAGAIN || errno == EWOULDBLOCK ? await(channel, events) : socket_fault(errno);
 }
 
-/* What a TLS call failed for; to be called right behind it. */
-static enum fault tls_fault(const SSL *tls, int got) {
-    switch (SSL_get_error(tls, got)) {
+/* The same of a call of TLS. */
+static enum fault retry_tls(const struct channel *channel, int got) {
+    switch (SSL_get_error(channel->tls, got)) {
     case SSL_ERROR_ZERO_RETURN:
         return FAULT_CLOSED;
     case SSL_ERROR_WANT_READ:
+        return await(channel, POLLIN);
     case SSL_ERROR_WANT_WRITE:
-        return FAULT_TIMEOUT;
+        return await(channel, POLLOUT);
     case SSL_ERROR_SYSCALL:
-        return socket_fault(errno ? -1 : 0);
+        return errno ? socket_fault(errno) : FAULT_CLOSED;
     default:
         return FAULT_TLS;
     }
 }
 
-enum fault channel_read(struct channel *channel, void *bytes, size_t count) {
-    for (uint8_t *at = bytes; count > 0;) {
-        size_t got;
-        if (channel->tls) {
-            errno = 0;
-            int read = SSL_read_ex(channel->tls, at, count, &got);
-            if (read != 1)
-                return tls_fault(channel->tls, read);
-        } else {
-            ssize_t read = recv(channel->socket, at, count, 0);
-            if (read < 0 && errno == EINTR)
-                continue;
-            if (read <= 0)
-                return socket_fault(read);
-            got = (size_t)read;
-        }
-        at += got;
-        count -= got;
+/* Some of the bytes, or none, and then it may be called again. */
+static enum fault read_some(struct channel *channel, void *bytes, size_t count, size_t *got) {
+    *got = 0;
+    errno = 0;
+    if (channel->tls) {
+        int done = SSL_read_ex(channel->tls, bytes, count, got);
+        return done == 1 ? FAULT_NONE : retry_tls(channel, done);
     }
+    ssize_t received = recv(channel->socket, bytes, count, 0);
+    if (received <= 0)
+        return retry_socket(channel, received, POLLIN);
+    *got = (size_t)received;
     return FAULT_NONE;
 }
 
+static enum fault write_some(struct channel *channel, const void *bytes, size_t count,
+                             size_t *put) {
+    *put = 0;
+    errno = 0;
+    if (channel->tls) {
+        int done = SSL_write_ex(channel->tls, bytes, count, put);
+        return done == 1 ? FAULT_NONE : retry_tls(channel, done);
+    }
+    ssize_t sent = send(channel->socket, bytes, count, MSG_NOSIGNAL);
+    if (sent <= 0)
+        return retry_socket(channel, sent, POLLOUT);
+    *put = (size_t)sent;
+    return FAULT_NONE;
+}
+
+enum fault channel_read(struct channel *channel, void *bytes, size_t count) {
+    enum fault fault = FAULT_NONE;
+    for (uint8_t *at = bytes; fault == FAULT_NONE && count > 0;) {
+        size_t got = 0;
+        fault = check_deadline(channel);
+        if (fault == FAULT_NONE)
+            fault = read_some(channel, at, count, &got);
+        at += got;
+        count -= got;
+    }
+    return fault;
+}
+
 enum fault channel_write(struct channel *channel, const void *bytes, size_t count) {
-    for (const uint8_t *at = bytes; count > 0;) {
-        size_t put;
-        if (channel->tls) {
-            errno = 0;
-            int wrote = SSL_write_ex(channel->tls, at, count, &put);
-            if (wrote != 1)
-                return tls_fault(channel->tls, wrote);
-        } else {
-            ssize_t wrote = send(channel->socket, at, count, MSG_NOSIGNAL);
-            if (wrote < 0 && errno == EINTR)
-                continue;
-            if (wrote < 0)
-                return socket_fault(wrote);
-            put = (size_t)wrote;
-        }
+    enum fault fault = FAULT_NONE;
+    for (const uint8_t *at = bytes; fault == FAULT_NONE && count > 0;) {
+        size_t put = 0;
+        fault = check_deadline(channel);
+        if (fault == FAULT_NONE)
+            fault = write_some(channel, at, count, &put);
         at += put;
         count -= put;
     }
-    return FAULT_NONE;
+    return fault;
 }
 
 void channel_close(struct channel *channel) {
@@ -153,6 +216,21 @@ static enum fault tls_over(struct channel *channel, SSL_CTX *context) {
     if (!channel->tls || SSL_set_fd(channel->tls, channel->socket) != 1)
         return FAULT_MEMORY;
     return FAULT_NONE;
+}
+
+/* A handshake that fails is FAULT_TLS, whatever it failed for, unless the peer took too long. */
+static enum fault shake_hands(struct channel *channel, int (*step)(SSL *)) {
+    enum fault fault = FAULT_NONE;
+    while (fault == FAULT_NONE) {
+        errno = 0;
+        int done = step(channel->tls);
+        if (done == 1)
+            return FAULT_NONE;
+        fault = retry_tls(channel, done);
+        if (fault == FAULT_NONE)
+            fault = check_deadline(channel);
+    }
+    return fault == FAULT_TIMEOUT || fault == FAULT_DEADLINE ? fault : FAULT_TLS;
 }
 
 static SSL_CTX *tls_context(const SSL_METHOD *method) {
@@ -175,9 +253,7 @@ enum fault tls_accept(struct channel *channel, const char *certificate_file, con
         return FAULT_FILE;
     }
     enum fault fault = tls_over(channel, context);
-    if (fault == FAULT_NONE && SSL_accept(channel->tls) != 1)
-        fault = FAULT_TLS;
-    return fault;
+    return fault == FAULT_NONE ? shake_hands(channel, SSL_accept) : fault;
 }
 
 /* Whether the text is the SHA-256 of the certificate, whatever the case of its digits. */
@@ -224,8 +300,11 @@ enum fault tls_connect(struct channel *channel, const char *host, const struct t
     if (fault != FAULT_NONE)
         return fault;
     SSL_set_tlsext_host_name(channel->tls, host);
-    if (SSL_connect(channel->tls) != 1)
-        return SSL_get_verify_result(channel->tls) == X509_V_OK ? FAULT_TLS : FAULT_CERTIFICATE;
+    fault = shake_hands(channel, SSL_connect);
+    if (fault == FAULT_TLS && SSL_get_verify_result(channel->tls) != X509_V_OK)
+        return FAULT_CERTIFICATE;
+    if (fault != FAULT_NONE)
+        return fault;
     if (trust->fingerprint &&
         !has_fingerprint(SSL_get0_peer_certificate(channel->tls), trust->fingerprint))
         return FAULT_CERTIFICATE;

@@ -1,5 +1,6 @@
 /* A connection: a socket at first, TLS over it later. The same two calls read and write over
- * both. */
+ * both. Neither waits for a silent peer longer than CHANNEL_SECONDS, nor past the deadline, so that
+ * no peer holds a program up by sending a byte now and then. */
 #ifndef NEWAKSU_EXAMPLE_CHANNEL_H
 #define NEWAKSU_EXAMPLE_CHANNEL_H
 
@@ -9,11 +10,12 @@
 
 #include "fault.h"
 
-enum { CHANNEL_SECONDS = 10 };
+enum { CHANNEL_SECONDS = 10, EXCHANGE_SECONDS = 60 };
 
 struct channel {
-    int socket; /* below 0 where there is none */
-    SSL *tls;   /* NULL before the handshake */
+    int socket;       /* below 0 where there is none */
+    SSL *tls;         /* NULL before the handshake */
+    int64_t deadline; /* in milliseconds of CLOCK_MONOTONIC */
 };
 
 /* By what a client knows the certificate of its server. One of the two is set. */
@@ -22,11 +24,15 @@ struct trust {
     const char *fingerprint; /* SHA-256 of the certificate in hexadecimal, with or without colons */
 };
 
-enum fault channel_connect(struct channel *, const char *host, const char *port);
+/* The deadline is that many seconds after the connection. */
+enum fault channel_connect(struct channel *, const char *host, const char *port, uint32_t seconds);
 
 /* A socket that listens at the address. */
 enum fault channel_listen(int *listener, const char *address, const char *port);
-enum fault channel_accept(struct channel *, int listener);
+enum fault channel_accept(struct channel *, int listener, uint32_t seconds);
+
+/* Sets the deadline anew, as many seconds from now. */
+void channel_set_deadline(struct channel *, uint32_t seconds);
 
 /* Exactly `count` bytes, or a fault. */
 enum fault channel_read(struct channel *, void *bytes, size_t count);

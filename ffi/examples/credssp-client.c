@@ -24,7 +24,7 @@ struct settings {
     const char *host, *port, *user, *mechanism;
     struct trust trust;
     uint32_t password_fd; /* NO_DESCRIPTOR: the password is asked for */
-    uint32_t version, least_version;
+    uint32_t version, least_version, seconds;
     bool early, credential_less, trace;
 };
 
@@ -41,6 +41,7 @@ static const struct argument arguments[] = {
     PLACE("mechanism", ARGUMENT_TEXT, mechanism),
     PLACE("version", ARGUMENT_NUMBER, version),
     PLACE("least-version", ARGUMENT_NUMBER, least_version),
+    PLACE("seconds", ARGUMENT_NUMBER, seconds),
     PLACE("early", ARGUMENT_FLAG, early),
     PLACE("credential-less", ARGUMENT_FLAG, credential_less),
     PLACE("trace", ARGUMENT_FLAG, trace),
@@ -51,10 +52,13 @@ static int usage(void) {
     fputs("usage: credssp-client --host HOST --user USER (--certificate FILE | --fingerprint "
           "SHA256)\n"
           "    [--port PORT] [--password-fd N] [--mechanism ntlm|kerberos|spnego]\n"
-          "    [--version N] [--least-version N] [--early] [--credential-less] [--trace]\n"
+          "    [--version N] [--least-version N] [--seconds N] [--early] [--credential-less]\n"
+          "    [--trace]\n"
           "USER is DOMAIN\\user, user@domain or user. The password is the next line of the file\n"
-          "descriptor, or is asked for. --early asks for HYBRID_EX. --credential-less sends no\n"
-          "password. --trace shows each message.\n",
+          "descriptor, or is asked for. --seconds is how long the exchange may take in all, 60 if "
+          "left\n"
+          "out, once before the password and once behind it. --early asks for HYBRID_EX.\n"
+          "--credential-less sends no password. --trace shows each message.\n",
           stderr);
     return 2;
 }
@@ -115,6 +119,8 @@ static int delegate(const struct settings *settings, struct channel *channel, ui
     enum fault fault = make_host(settings, channel, &gss, &host);
     int status = 1;
     if (fault == FAULT_NONE) {
+        /* whoever types a password takes their time */
+        channel_set_deadline(channel, settings->seconds);
         fault = exchange_run(&exchange, channel, host, true);
         if (exchange.peer_version)
             printf("version %u\n", (unsigned int)exchange.peer_version);
@@ -154,13 +160,14 @@ int main(int count, char **words) {
                                 .mechanism = "ntlm",
                                 .password_fd = NO_DESCRIPTOR,
                                 .version = 6,
-                                .least_version = 5};
+                                .least_version = 5,
+                                .seconds = EXCHANGE_SECONDS};
     struct channel channel;
     signal(SIGPIPE, SIG_IGN);
     setvbuf(stdout, NULL, _IOLBF, 0);
     if (!read_arguments(words, &settings))
         return usage();
-    enum fault fault = channel_connect(&channel, settings.host, settings.port);
+    enum fault fault = channel_connect(&channel, settings.host, settings.port, settings.seconds);
     if (fault != FAULT_NONE)
         return fault_report(fault, settings.host);
     int status = log_on(&settings, &channel);

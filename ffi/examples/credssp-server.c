@@ -24,7 +24,7 @@ struct settings {
     const char *address, *port;
     const char *certificate, *key, *users, *mechanism;
     const char *admit; /* the one user who may log on; NULL for everyone who was authenticated */
-    uint32_t version, least_version;
+    uint32_t version, least_version, seconds;
     bool early, show_password, trace;
 };
 
@@ -40,6 +40,7 @@ static const struct argument arguments[] = {
     PLACE("mechanism", ARGUMENT_TEXT, mechanism),
     PLACE("version", ARGUMENT_NUMBER, version),
     PLACE("least-version", ARGUMENT_NUMBER, least_version),
+    PLACE("seconds", ARGUMENT_NUMBER, seconds),
     PLACE("admit", ARGUMENT_TEXT, admit),
     PLACE("early", ARGUMENT_FLAG, early),
     PLACE("show-password", ARGUMENT_FLAG, show_password),
@@ -50,9 +51,12 @@ static const struct argument arguments[] = {
 static int usage(void) {
     fputs("usage: credssp-server --certificate FILE --key FILE [--users FILE] [--address HOST]\n"
           "    [--port PORT] [--mechanism ntlm|kerberos|spnego] [--version N] [--least-version N]\n"
-          "    [--early] [--admit USER] [--show-password] [--trace]\n"
-          "FILE of --users has lines DOMAIN:user:password. --early offers HYBRID_EX too. --trace\n"
-          "shows each message.\n",
+          "    [--seconds N] [--early] [--admit USER] [--show-password] [--trace]\n"
+          "FILE of --users has lines DOMAIN:user:password. --seconds is how long the exchange may "
+          "take\n"
+          "in all, from the connection on, 60 if left out. --early offers HYBRID_EX too. --trace "
+          "shows\n"
+          "each message.\n",
           stderr);
     return 2;
 }
@@ -171,7 +175,8 @@ int main(int count, char **words) {
                                 .port = "3389",
                                 .mechanism = "ntlm",
                                 .version = 6,
-                                .least_version = 5};
+                                .least_version = 5,
+                                .seconds = EXCHANGE_SECONDS};
     struct channel channel;
     int listener;
     signal(SIGPIPE, SIG_IGN);
@@ -182,7 +187,7 @@ int main(int count, char **words) {
     if (fault != FAULT_NONE)
         return fault_report(fault, settings.address);
     printf("listening %s:%s\n", settings.address, settings.port);
-    fault = channel_accept(&channel, listener);
+    fault = channel_accept(&channel, listener, settings.seconds);
     close(listener);
     if (fault != FAULT_NONE)
         return fault_report(fault, "accept");

@@ -15,6 +15,8 @@ const char *fault_name(enum fault fault) {
         return "ConnectionRefused";
     case FAULT_TIMEOUT:
         return "TimedOut";
+    case FAULT_DEADLINE:
+        return "DeadlinePassed";
     case FAULT_CLOSED:
         return "ConnectionClosed";
     case FAULT_SOCKET:

@@ -9,6 +9,7 @@ enum fault {
     FAULT_ADDRESS,       /* a host or port that does not resolve, or cannot be bound */
     FAULT_CONNECT,       /* nobody listens at the address */
     FAULT_TIMEOUT,       /* the peer was silent for longer than CHANNEL_SECONDS */
+    FAULT_DEADLINE,      /* the exchange took longer than it may in all */
     FAULT_CLOSED,        /* the peer closed the connection inside a message */
     FAULT_SOCKET,        /* any other failure of a read or a write */
     FAULT_X224,          /* what came is no X.224 connection request or confirm */
