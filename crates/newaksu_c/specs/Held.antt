@@ -116,10 +116,10 @@ last_in (Some (Init t)) = None
 last_in (Some (Targ t)) = None
 last_in (Some (Credentials c)) = None
 last_in (Some (Identities l)) = None
-last_in (Some (Client e)) = Some e.last
-last_in (Some (Server e)) = Some e.last
-last_in (Some (PlainClient e)) = Some e.last
-last_in (Some (PlainServer e)) = Some e.last
+last_in (Some (Client e)) = Some e.value.last
+last_in (Some (Server e)) = Some e.value.last
+last_in (Some (PlainClient e)) = Some e.value.last
+last_in (Some (PlainServer e)) = Some e.value.last
 
 abbrev pub acts_in : Option Object → Option Acts
 acts_in None = None
@@ -129,10 +129,10 @@ acts_in (Some (Init t)) = None
 acts_in (Some (Targ t)) = None
 acts_in (Some (Credentials c)) = None
 acts_in (Some (Identities l)) = None
-acts_in (Some (Client e)) = Some e.client.acts
-acts_in (Some (Server e)) = Some e.server.acts
-acts_in (Some (PlainClient e)) = Some e.client.acts
-acts_in (Some (PlainServer e)) = Some e.server.acts
+acts_in (Some (Client e)) = Some e.value.client.acts
+acts_in (Some (Server e)) = Some e.value.server.acts
+acts_in (Some (PlainClient e)) = Some e.value.client.acts
+acts_in (Some (PlainServer e)) = Some e.value.server.acts
 
 abbrev pub state_in : Option Object → Option CredSspState
 state_in None = None
@@ -142,10 +142,10 @@ state_in (Some (Init t)) = None
 state_in (Some (Targ t)) = None
 state_in (Some (Credentials c)) = None
 state_in (Some (Identities l)) = None
-state_in (Some (Client e)) = Some e.client.state
-state_in (Some (Server e)) = Some e.server.state
-state_in (Some (PlainClient e)) = Some e.client.state
-state_in (Some (PlainServer e)) = Some e.server.state
+state_in (Some (Client e)) = Some e.value.client.state
+state_in (Some (Server e)) = Some e.value.server.state
+state_in (Some (PlainClient e)) = Some e.value.client.state
+state_in (Some (PlainServer e)) = Some e.value.server.state
 
 abbrev pub is_hosted : Option Object → Bool
 is_hosted None = false

@@ -23,8 +23,8 @@ settings_for mechanism settings =
     if mechanism == 0 then settings else if mechanism == 1 then settings else Err invalid_parameter
 
 abbrev pub MakesClient : ℕ → Result ClientSettings ℕ → Result Object ℕ → Type 0
-MakesClient mechanism settings (Ok (Client end)) = (mechanism ≡ 0) × IsNewClient settings end.client end.last
-MakesClient mechanism settings (Ok (PlainClient end)) = (mechanism ≡ 1) × IsNewClient settings end.client end.last
+MakesClient mechanism settings (Ok (Client end)) = (mechanism ≡ 0) × IsNewClient settings end.value.client end.value.last
+MakesClient mechanism settings (Ok (PlainClient end)) = (mechanism ≡ 1) × IsNewClient settings end.value.client end.value.last
 MakesClient mechanism settings (Ok (Request r)) = ⊥
 MakesClient mechanism settings (Ok (Reader r)) = ⊥
 MakesClient mechanism settings (Ok (Init t)) = ⊥

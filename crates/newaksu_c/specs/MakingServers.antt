@@ -45,10 +45,10 @@ IsServerFault mechanism hosted plain status =
 
 abbrev pub MakesServer : ServerOptions → List ℕ → List ℕ → Option Object → Result Object ℕ → Type 0
 MakesServer options key challenge known (Ok (Server end)) = (options.mechanism ≡ 0) × (hosted_peers options.peers known ≡ Ok tt) ×
-    IsNewServer (server_settings options key (replicate 8 0)) (taken_peers options.peers known) end.server end.last
+    IsNewServer (server_settings options key (replicate 8 0)) (taken_peers options.peers known) end.value.server end.value.last
 MakesServer options key challenge known (Ok (PlainServer end)) = (options.mechanism ≡ 1) × (options.peers ≡ 0) ×
     ((bytes : List ℕ) × (challenge_of challenge ≡ Ok bytes) ×
-    IsNewServer (server_settings options key bytes) (identities_in known) end.server end.last)
+    IsNewServer (server_settings options key bytes) (identities_in known) end.value.server end.value.last)
 MakesServer options key challenge known (Ok (Request r)) = ⊥
 MakesServer options key challenge known (Ok (Reader r)) = ⊥
 MakesServer options key challenge known (Ok (Init t)) = ⊥

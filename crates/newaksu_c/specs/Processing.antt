@@ -1,6 +1,8 @@
 -- What a call that hands an end a message does.
 use Rattle.std.specs.Prelude.{◌≡◌, ◌≢◌, ℕ, ◌==◌, ◌&&◌, List, [], ◌∷◌, length, Bool, true, false, Option, None, Some, Result, Ok, Err}
 use Rattle.std.specs.Prelude.{if◌then◌else◌}
+use Rattle.std.specs.Global.{Box}
+use Rattle.std_alloc.specs.Box.{with_value}
 use Rattle.sspi_types.specs.declared.error.Error.{Error}
 use Rattle.sspi_ber.specs.declared.wire_kind.WireKind.{WireKind}
 use Rattle.sspi_mech.specs.Meaning.{Meaning}
@@ -87,29 +89,29 @@ abbrev pub is_bare : List ℕ → ℕ → List ℕ → Bool
 is_bare step field text = (length step == 0) && (field == 0) && (length text == 0)
 
 module _ (bytes step : List ℕ) (after : Option Object) (status : ℕ) where
-  abbrev pub HostedClient : ClientEnd OutsideState OutsideState → Option (Option (List ℕ) × Option (List ℕ)) → Type 0
+  abbrev pub HostedClient : Box (ClientEnd OutsideState OutsideState) → Option (Option (List ℕ) × Option (List ℕ)) → Type 0
   HostedClient end None = (status ≡ invalid_parameter) × (after ≡ Some (Client end))
   HostedClient end (Some texts) = (said : Result (Result (Unit {0}) Error) ℕ) × (next : ClientEnd OutsideState OutsideState) ×
-      ClientDoes hosted (λ d. handed d step texts.0 texts.1) bytes end.client end.last said next.client next.last ×
-      (status ≡ said_status said) × (after ≡ Some (Client next))
+      ClientDoes hosted (λ d. handed d step texts.0 texts.1) bytes end.value.client end.value.last said next.client next.last ×
+      (status ≡ said_status said) × (after ≡ Some (Client (with_value end next)))
 
-  abbrev pub HostedServer : ServerEnd OutsideState OutsideState Peers → Option (Option (List ℕ) × Option (List ℕ)) → Type 0
+  abbrev pub HostedServer : Box (ServerEnd OutsideState OutsideState Peers) → Option (Option (List ℕ) × Option (List ℕ)) → Type 0
   HostedServer end None = (status ≡ invalid_parameter) × (after ≡ Some (Server end))
   HostedServer end (Some texts) = (said : Result (Result (Unit {0}) Error) ℕ) × (next : ServerEnd OutsideState OutsideState Peers) ×
-      ServerDoes hosted (λ d. handed d step texts.0 texts.1) bytes end.server end.last said next.server next.last ×
-      (status ≡ said_status said) × (after ≡ Some (Server next))
+      ServerDoes hosted (λ d. handed d step texts.0 texts.1) bytes end.value.server end.value.last said next.server next.last ×
+      (status ≡ said_status said) × (after ≡ Some (Server (with_value end next)))
 
-  abbrev pub BareClient : ClientEnd NtlmState NtlmState → Bool → Type 0
+  abbrev pub BareClient : Box (ClientEnd NtlmState NtlmState) → Bool → Type 0
   BareClient end false = (status ≡ invalid_parameter) × (after ≡ Some (PlainClient end))
   BareClient end true = (said : Result (Result (Unit {0}) Error) ℕ) × (next : ClientEnd NtlmState NtlmState) ×
-      ClientDoes plain as_it_came bytes end.client end.last said next.client next.last ×
-      (status ≡ said_status said) × (after ≡ Some (PlainClient next))
+      ClientDoes plain as_it_came bytes end.value.client end.value.last said next.client next.last ×
+      (status ≡ said_status said) × (after ≡ Some (PlainClient (with_value end next)))
 
-  abbrev pub BareServer : ServerEnd NtlmState NtlmState Peers → Bool → Type 0
+  abbrev pub BareServer : Box (ServerEnd NtlmState NtlmState Peers) → Bool → Type 0
   BareServer end false = (status ≡ invalid_parameter) × (after ≡ Some (PlainServer end))
   BareServer end true = (said : Result (Result (Unit {0}) Error) ℕ) × (next : ServerEnd NtlmState NtlmState Peers) ×
-      ServerDoes plain as_it_came bytes end.server end.last said next.server next.last ×
-      (status ≡ said_status said) × (after ≡ Some (PlainServer next))
+      ServerDoes plain as_it_came bytes end.value.server end.value.last said next.server next.last ×
+      (status ≡ said_status said) × (after ≡ Some (PlainServer (with_value end next)))
 
   -- nothing changes where the handle has no such end
   abbrev pub Unfit : Option Object → Type 0

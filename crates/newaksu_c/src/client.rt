@@ -8,7 +8,7 @@ ghost use Rattle.newaksu_c.specs.Settings.{client_settings};
 ghost use Rattle.newaksu_c.specs.Status.{insufficient_memory};
 
 use crate::handle::Handle;
-use crate::object::Object;
+use crate::object::{Object, boxed};
 use crate::putting::put;
 use crate::settings::{ClientOptions, delegation_of, identity_of, nonce_of, text_of};
 use crate::status::{INSUFFICIENT_MEMORY, INVALID_PARAMETER};
@@ -83,13 +83,13 @@ fn made(
             let client = client_of::<Outside, Outside>(
                 alloc, options, key, target, nonce, name, password,
             )?;
-            Ok(Object::Client(ClientEnd::new(client)))
+            Ok(Object::Client(boxed(alloc, ClientEnd::new(client))?))
         }
         1 => {
             let client = client_of::<Ntlm, Ntlm>(
                 alloc, options, key, target, nonce, name, password,
             )?;
-            Ok(Object::PlainClient(ClientEnd::new(client)))
+            Ok(Object::PlainClient(boxed(alloc, ClientEnd::new(client))?))
         }
         _ => Err(INVALID_PARAMETER),
     }

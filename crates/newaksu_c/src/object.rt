@@ -1,15 +1,19 @@
 //! What can stand behind a handle.
-ghost use Rattle.std.specs.Prelude.{◌≡◌, option_copied, option_map};
+ghost use Rattle.std.specs.Prelude.{◌≡◌, option_copied, option_map, IfOk, IfErr};
 ghost use Rattle.newaksu_c.specs.Held.{kind_in, request_in, init_in, targ_in, credentials_in, identities_in};
+ghost use Rattle.newaksu_c.specs.Status.{insufficient_memory};
 
 use crate::identity_list::IdentityList;
+use crate::status::INSUFFICIENT_MEMORY;
 use sspi_mech::Ntlm;
 use sspi_names::CredentialsBuffers;
 use sspi_outside::{ClientEnd, Outside, Peers, ServerEnd};
 use sspi_tokens::{NegTokenInit, NegTokenTarg};
 use sspi_tsreq::{TsReader, TsRequest};
+use std::alloc::Global;
 
-/// An object that C keeps by a handle.
+/// An object that C keeps by a handle. An end, much larger than the others, is in memory of its
+/// own, so that they move no more bytes than they have.
 #[derive(Drop)]
 pub enum Object {
     /// A TSRequest.
@@ -25,13 +29,24 @@ pub enum Object {
     /// The identities that a server knows.
     Identities(IdentityList),
     /// A client over the host's mechanism.
-    Client(ClientEnd<Outside, Outside>),
+    Client(Box<ClientEnd<Outside, Outside>>),
     /// A server over the host's mechanism.
-    Server(ServerEnd<Outside, Outside, Peers>),
+    Server(Box<ServerEnd<Outside, Outside, Peers>>),
     /// A client over plain NTLM.
-    PlainClient(ClientEnd<Ntlm, Ntlm>),
+    PlainClient(Box<ClientEnd<Ntlm, Ntlm>>),
     /// A server over plain NTLM.
-    PlainServer(ServerEnd<Ntlm, Ntlm, Peers>),
+    PlainServer(Box<ServerEnd<Ntlm, Ntlm, Peers>>),
+}
+
+/// Moves an end to memory of its own.
+pub(crate) fn boxed<T: Drop>(alloc: Global, end: T) -> Result<Box<T>, u32>
+    ensures ok { IfOk result (λ it. it.value ≡ end) }
+    ensures err { IfErr result (λ status. status ≡ insufficient_memory) }
+{
+    match Box::new(alloc, end) {
+        Ok(end) => Ok(end),
+        Err(_) => Err(INSUFFICIENT_MEMORY),
+    }
 }
 
 /// The number of the kind of object that stands behind a handle.

@@ -101,11 +101,11 @@ fn process_client(
 {
     match object {
         Object::Client(end) => match opened_by(field, text) {
-            Some(opened) => status_of(hosted_client(alloc, end, message, step, opened)),
+            Some(opened) => status_of(hosted_client(alloc, &mut **end, message, step, opened)),
             None => INVALID_PARAMETER,
         },
         Object::PlainClient(end) => match is_bare(step, field, text) {
-            true => status_of(plain_client(alloc, end, message)),
+            true => status_of(plain_client(alloc, &mut **end, message)),
             false => INVALID_PARAMETER,
         },
         _ => INVALID_HANDLE,
@@ -174,11 +174,11 @@ fn process_server(
 {
     match object {
         Object::Server(end) => match opened_by(field, text) {
-            Some(opened) => status_of(hosted_server(alloc, end, message, step, opened)),
+            Some(opened) => status_of(hosted_server(alloc, &mut **end, message, step, opened)),
             None => INVALID_PARAMETER,
         },
         Object::PlainServer(end) => match is_bare(step, field, text) {
-            true => status_of(plain_server(alloc, end, message)),
+            true => status_of(plain_server(alloc, &mut **end, message)),
             false => INVALID_PARAMETER,
         },
         _ => INVALID_HANDLE,

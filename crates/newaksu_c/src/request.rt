@@ -64,9 +64,30 @@ pub extern "C" fn newaksu_request_decode(alloc: Global, handle: &mut Handle, byt
     ensures { (read : Result Message Kind) × IsAnswer bytes.now read × Puts handle.old.held handle.new.held (request_made read) result }
 {
     match TsRequest::from_buffer(alloc, bytes) {
-        Ok(request) => put(alloc, handle, Object::Request(request)),
+        Ok(request) => put_request(alloc, handle, request),
         Err(kind) => wire_status(kind),
     }
+}
+
+fn set_request(object: &mut Object, request: TsRequest)
+    ensures { object.new ≡ objects.Request request }
+{
+    match object {
+        Object::Request(before) => *before = request,
+        _ => *object = Object::Request(request),
+    }
+}
+
+// In the place of a request it moves once, and takes no memory.
+fn put_request(alloc: Global, handle: &mut Handle, request: TsRequest) -> u32
+    ensures { Puts handle.old.held handle.new.held (Ok (objects.Request request)) result }
+{
+    let Some(mut object) = handle.take(alloc) else {
+        return put(alloc, handle, Object::Request(request));
+    };
+    set_request(&mut object, request);
+    handle.put(object);
+    OK
 }
 
 fn encoded(alloc: Global, object: &Option<Box<Object>>) -> Result<Vec<u8>, u32>

@@ -11,7 +11,7 @@ ghost use Rattle.newaksu_c.specs.Status.{insufficient_memory};
 
 use crate::handle::Handle;
 use crate::identity_list::IdentityList;
-use crate::object::{Object, identities_of};
+use crate::object::{Object, boxed, identities_of};
 use crate::putting::put;
 use crate::settings::{ServerOptions, challenge_of};
 use crate::status::{INSUFFICIENT_MEMORY, INVALID_HANDLE, INVALID_PARAMETER};
@@ -154,8 +154,14 @@ fn made(
     ensures { MakesServer options.now key.now challenge.now (option_map (λ b. b.value) identities.now) result }
 {
     match options.mechanism {
-        0 => Ok(Object::Server(hosted(alloc, options, key, identities)?)),
-        1 => Ok(Object::PlainServer(plain_of(alloc, options, key, challenge, identities)?)),
+        0 => {
+            let end = hosted(alloc, options, key, identities)?;
+            Ok(Object::Server(boxed(alloc, end)?))
+        }
+        1 => {
+            let end = plain_of(alloc, options, key, challenge, identities)?;
+            Ok(Object::PlainServer(boxed(alloc, end)?))
+        }
         _ => Err(INVALID_PARAMETER),
     }
 }
