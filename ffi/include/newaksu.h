@@ -306,9 +306,9 @@ uint32_t newaksu_identities_add(newaksu_handle *identities, const uint8_t *name,
 
 typedef struct newaksu_client_options {
     uint32_t mechanism;
-    /* The version of CredSSP that the end speaks, usually 6. */
+    /* The version of CredSSP that the end speaks, 2 to 6 (MS-CSSP 2.2.1); usually 6. */
     uint32_t version;
-    /* The least version of a peer that it takes, usually 5; 0 takes every. */
+    /* The least version of a peer that it takes, 2 to 6; usually 5. 0 takes every. */
     uint32_t least_version;
     uint32_t delegation;
 } newaksu_client_options;

@@ -68,8 +68,8 @@ typedef struct newaksu_mechanism {
 typedef struct newaksu_client_settings {
     /* The version of CredSSP that the client speaks: 2 to 6. Usually 6. */
     uint32_t version;
-    /* The least version of a server that is taken, 0 for every. Usually 5: below it whoever relays
-     * the exchange can choose the proof (MS-CSSP 3.1.5). */
+    /* The least version of a server that is taken: 2 to 6, or 0 for every. Usually 5: below it
+     * whoever relays the exchange can choose the proof (MS-CSSP 3.1.5). */
     uint32_t least_version;
     /* NEWAKSU_WITH_CREDENTIALS, the usual, or NEWAKSU_CREDENTIAL_LESS: three empty texts are
      * delegated (restricted admin). */
@@ -92,6 +92,7 @@ typedef struct newaksu_client_settings {
 
 /* A server's settings. */
 typedef struct newaksu_server_settings {
+    /* As a client's: 2 to 6, usually 6, and the least version of a client, usually 5. */
     uint32_t version;
     uint32_t least_version;
     const uint8_t *public_key;
@@ -130,10 +131,10 @@ typedef struct newaksu_turn {
 #define NEWAKSU_UNREAD 3u
 
 /* Makes an end over a mechanism. The table is copied; the host owns `context` from then on, if the
- * answer is NEWAKSU_OK. NEWAKSU_E_INVALID_PARAMETER: a text is no UTF-8, a pointer is null that may
- * not be, or users are listed beside NEWAKSU_PEERS_ANYONE. NEWAKSU_E_UNKNOWN_CREDENTIALS: a user's
- * name mixes the forms. NEWAKSU_E_INSUFFICIENT_MEMORY. NEWAKSU_E_INTERNAL_ERROR: there was no
- * randomness. At each of these `*host` is null. */
+ * answer is NEWAKSU_OK. NEWAKSU_E_INVALID_PARAMETER: a version is none of those above, a text is no
+ * UTF-8, a pointer is null that may not be, or users are listed beside NEWAKSU_PEERS_ANYONE.
+ * NEWAKSU_E_UNKNOWN_CREDENTIALS: a user's name mixes the forms. NEWAKSU_E_INSUFFICIENT_MEMORY.
+ * NEWAKSU_E_INTERNAL_ERROR: there was no randomness. At each of these `*host` is null. */
 uint32_t newaksu_host_client(const newaksu_client_settings *options,
                              const newaksu_mechanism *mechanism, void *context,
                              newaksu_host **host);

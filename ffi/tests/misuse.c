@@ -180,6 +180,39 @@ static void every_call_with_every_kind(void) {
     (void)newaksu_release(&handle);
 }
 
+/* CredSSP has the versions 2 to 6; the least may be 0. */
+static int is_version(uint32_t number) {
+    return number >= 2 && number <= 6;
+}
+
+static void versions_of_an_end(void) {
+    static const uint32_t numbers[] = {0, 1, 2, 3, 4, 5, 6, 7, 8, 258, UINT32_MAX};
+    enum { COUNT = sizeof numbers / sizeof numbers[0] };
+    newaksu_handle known = NEWAKSU_EMPTY;
+    const uint8_t *ann = (const uint8_t *)"ann";
+    make(&known, NEWAKSU_KIND_IDENTITIES);
+    for (uint32_t mechanism = NEWAKSU_HOST; mechanism <= NEWAKSU_PLAIN_NTLM; mechanism++)
+        for (int i = 0; i < COUNT * COUNT; i++) {
+            uint32_t version = numbers[i / COUNT], least = numbers[i % COUNT];
+            newaksu_client_options client = {mechanism, version, least, NEWAKSU_WITH_CREDENTIALS};
+            newaksu_server_options server = {mechanism, version, least, NEWAKSU_PEERS_LISTED};
+            newaksu_handle handle = NEWAKSU_EMPTY;
+            int good = is_version(version) && (least == 0 || is_version(least));
+            uint32_t status = good ? NEWAKSU_OK : NEWAKSU_E_INVALID_PARAMETER;
+            CHECK_STATUS(
+                newaksu_client_new(&handle, &client, empty, 0, empty, 0, empty, 32, ann, 3, ann, 3),
+                status);
+            CHECK((handle.at != NULL) == good);
+            if (good)
+                CHECK_STATUS(newaksu_release(&handle), NEWAKSU_OK);
+            CHECK_STATUS(newaksu_server_new(&handle, &known, &server, empty, 0, empty, 8), status);
+            CHECK((handle.at != NULL) == good);
+            if (good)
+                CHECK_STATUS(newaksu_release(&handle), NEWAKSU_OK);
+        }
+    CHECK_STATUS(newaksu_release(&known), NEWAKSU_OK);
+}
+
 /* What cannot be made leaves what the handle had. */
 static void what_cannot_be_made(void) {
     newaksu_handle handle = NEWAKSU_EMPTY, known = NEWAKSU_EMPTY, nothing = NEWAKSU_EMPTY;
@@ -347,7 +380,17 @@ static void settings_of_a_host(void) {
     client.password = NULL, client.password_length = 0, client.delegation = 7;
     CHECK_STATUS(newaksu_host_client(&client, &party_mechanism, &party, &host),
                  NEWAKSU_E_INVALID_PARAMETER);
-    client.delegation = NEWAKSU_WITH_CREDENTIALS, mechanism.unseal = NULL;
+    client.delegation = NEWAKSU_WITH_CREDENTIALS, client.version = server.version = 7;
+    CHECK_STATUS(newaksu_host_client(&client, &party_mechanism, &party, &host),
+                 NEWAKSU_E_INVALID_PARAMETER);
+    CHECK_STATUS(newaksu_host_server(&server, &party_mechanism, &party, &host),
+                 NEWAKSU_E_INVALID_PARAMETER);
+    client.version = server.version = 6, client.least_version = server.least_version = 1;
+    CHECK_STATUS(newaksu_host_client(&client, &party_mechanism, &party, &host),
+                 NEWAKSU_E_INVALID_PARAMETER);
+    CHECK_STATUS(newaksu_host_server(&server, &party_mechanism, &party, &host),
+                 NEWAKSU_E_INVALID_PARAMETER);
+    client.least_version = server.least_version = 5, mechanism.unseal = NULL;
     CHECK_STATUS(newaksu_host_client(&client, &mechanism, &party, &host),
                  NEWAKSU_E_INVALID_PARAMETER);
     mechanism = party_mechanism, mechanism.peer = NULL;
@@ -366,6 +409,7 @@ static void settings_of_a_host(void) {
 
 int main(void) {
     every_call_with_every_kind();
+    versions_of_an_end();
     what_cannot_be_made();
     numbers_that_are_none();
     arguments_of_a_turn();

@@ -7,7 +7,7 @@ use Rattle.newaksu_c.specs.declared.object.Object.TheVariants.{Request, Reader, 
 use Rattle.newaksu_c.specs.declared.settings.ServerOptions.{ServerOptions}
 use Rattle.newaksu_c.specs.Held.{identities_in}
 use Rattle.newaksu_c.specs.Making.{IsNewServer}
-use Rattle.newaksu_c.specs.Settings.{challenge_of, server_settings}
+use Rattle.newaksu_c.specs.Settings.{challenge_of, check_versions, server_settings, ◌then_with◌}
 use Rattle.newaksu_c.specs.Status.{insufficient_memory, invalid_handle, invalid_parameter}
 
 -- the peers of a list need one
@@ -37,6 +37,10 @@ plain_listed (Some list) challenge = challenge
 abbrev pub plain_fault : ℕ → Option (List AuthIdentity) → Result (List ℕ) ℕ → Result (List ℕ) ℕ
 plain_fault choice list challenge = if choice == 0 then plain_listed list challenge else Err invalid_parameter
 
+-- its own version and the least of its clients'
+abbrev pub of_versions : ServerOptions → Result (Unit {0}) ℕ
+of_versions options = check_versions options.version options.least_version
+
 -- why there is none, by the number of the mechanism
 abbrev pub IsServerFault : ℕ → Result (Unit {0}) ℕ → Result (List ℕ) ℕ → ℕ → Type 0
 IsServerFault mechanism hosted plain status =
@@ -44,10 +48,11 @@ IsServerFault mechanism hosted plain status =
     × (mechanism ≢ 0 → mechanism ≢ 1 → status ≡ invalid_parameter)
 
 abbrev pub MakesServer : ServerOptions → List ℕ → List ℕ → Option Object → Result Object ℕ → Type 0
-MakesServer options key challenge known (Ok (Server end)) = (options.mechanism ≡ 0) × (hosted_peers options.peers known ≡ Ok tt) ×
+MakesServer options key challenge known (Ok (Server end)) = (options.mechanism ≡ 0) × (of_versions options ≡ Ok tt) ×
+    (hosted_peers options.peers known ≡ Ok tt) ×
     IsNewServer (server_settings options key (replicate 8 0)) (taken_peers options.peers known) end.value.server end.value.last
-MakesServer options key challenge known (Ok (PlainServer end)) = (options.mechanism ≡ 1) × (options.peers ≡ 0) ×
-    ((bytes : List ℕ) × (challenge_of challenge ≡ Ok bytes) ×
+MakesServer options key challenge known (Ok (PlainServer end)) = (options.mechanism ≡ 1) × (of_versions options ≡ Ok tt) ×
+    (options.peers ≡ 0) × ((bytes : List ℕ) × (challenge_of challenge ≡ Ok bytes) ×
     IsNewServer (server_settings options key bytes) (identities_in known) end.value.server end.value.last)
 MakesServer options key challenge known (Ok (Request r)) = ⊥
 MakesServer options key challenge known (Ok (Reader r)) = ⊥
@@ -58,5 +63,5 @@ MakesServer options key challenge known (Ok (Identities l)) = ⊥
 MakesServer options key challenge known (Ok (Client e)) = ⊥
 MakesServer options key challenge known (Ok (PlainClient e)) = ⊥
 MakesServer options key challenge known (Err status) = status ≢ insufficient_memory →
-    IsServerFault options.mechanism (hosted_peers options.peers known)
-    (plain_fault options.peers (identities_in known) (challenge_of challenge)) status
+    IsServerFault options.mechanism (of_versions options then_with λ _. hosted_peers options.peers known)
+    (of_versions options then_with λ _. plain_fault options.peers (identities_in known) (challenge_of challenge)) status

@@ -1,5 +1,5 @@
 -- What the ends are made of, as C gives it.
-use Rattle.std.specs.Prelude.{◌≡◌, ◌≢◌, ℕ, ◌==◌, List, length, replicate, Option, None, Some, Result, Ok, Err, if◌then◌else◌}
+use Rattle.std.specs.Prelude.{◌≡◌, ◌≢◌, ℕ, ◌==◌, nat_le, Bool, ◌&&◌, ◌||◌, List, length, replicate, Option, None, Some, Result, Ok, Err, if◌then◌else◌}
 use Rattle.std.specs.Str.{is_utf8}
 use Rattle.sspi_mech.specs.declared.config.NtlmConfig.{NtlmConfig}
 use Rattle.sspi_names.specs.Name.{Name, parse_name}
@@ -45,6 +45,15 @@ identity_of name password =
     text_of password then_with λ text.
     Ok (record { username = username; password = record { value = text } })
 
+-- the versions of CredSSP (MS-CSSP 2.2.1)
+abbrev pub is_version : ℕ → Bool
+is_version number = nat_le 2 number && nat_le number 6
+
+-- the version that an end speaks, and the least that it takes, where 0 takes every
+abbrev pub check_versions : ℕ → ℕ → Result (Unit {0}) ℕ
+check_versions version least =
+    if is_version version && (least == 0 || is_version least) then Ok tt else Err invalid_parameter
+
 abbrev pub delegation_of : ℕ → Result CredSspMode ℕ
 delegation_of number = if number == 0 then Ok WithCredentials else if number == 1 then Ok CredentialLess else Err invalid_parameter
 
@@ -60,6 +69,7 @@ config_with challenge = record { client_computer_name = None; challenge = challe
 -- the settings of a client, without SPNEGO
 unfoldable pub client_settings : ClientOptions → List ℕ → List ℕ → List ℕ → List ℕ → List ℕ → Result ClientSettings ℕ
 client_settings options key target nonce name password =
+    check_versions options.version options.least_version then_with λ _.
     delegation_of options.delegation then_with λ delegation.
     nonce_of nonce then_with λ nonce_bytes.
     text_of target then_with λ service.

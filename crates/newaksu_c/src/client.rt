@@ -10,7 +10,9 @@ ghost use Rattle.newaksu_c.specs.Status.{insufficient_memory};
 use crate::handle::Handle;
 use crate::object::{Object, boxed};
 use crate::putting::put;
-use crate::settings::{ClientOptions, delegation_of, identity_of, nonce_of, text_of};
+use crate::settings::{
+    ClientOptions, check_versions, delegation_of, identity_of, nonce_of, text_of,
+};
 use crate::status::{INSUFFICIENT_MEMORY, INVALID_PARAMETER};
 use sspi_credssp::{ClientMode, CredSspClient};
 use sspi_mech::{Ntlm, NtlmConfig};
@@ -44,6 +46,7 @@ fn client_of<N, K>(
     ensures cause { IfErr result (λ status. status ≢ insufficient_memory →
         client_settings options.now key.now target.now nonce.now name.now password.now ≡ Err status) }
 {
+    check_versions(options.version, options.least_version)?;
     let delegation = delegation_of(options.delegation)?;
     let nonce = nonce_of(nonce)?;
     let target = text_of(alloc, target)?;

@@ -13,7 +13,7 @@ use crate::handle::Handle;
 use crate::identity_list::IdentityList;
 use crate::object::{Object, boxed, identities_of};
 use crate::putting::put;
-use crate::settings::{ServerOptions, challenge_of};
+use crate::settings::{ServerOptions, challenge_of, check_versions};
 use crate::status::{INSUFFICIENT_MEMORY, INVALID_HANDLE, INVALID_PARAMETER};
 use sspi_credssp::{CredSspServer, ServerMode, TableProxy};
 use sspi_mech::{Ntlm, NtlmConfig};
@@ -153,6 +153,7 @@ fn made(
 ) -> Result<Object, u32>
     ensures { MakesServer options.now key.now challenge.now (option_map (λ b. b.value) identities.now) result }
 {
+    check_versions(options.version, options.least_version)?;
     match options.mechanism {
         0 => {
             let end = hosted(alloc, options, key, identities)?;

@@ -2,6 +2,7 @@
 ghost use Rattle.std.specs.Prelude.{◌≡◌, Some, None, option_copied, if◌then◌else◌};
 ghost use Rattle.std.specs.Str.{is_utf8};
 ghost use Rattle.newaksu_c.specs.Settings.{challenge_of, delegation_of, identity_of, name_of, nonce_of, text_of, OrMemory};
+ghost use Rattle.newaksu_c.specs.Settings.{check_versions, is_version};
 
 use crate::status::{INSUFFICIENT_MEMORY, INVALID_PARAMETER, kind_status};
 use sspi_credssp::CredSspMode;
@@ -15,9 +16,9 @@ use std::alloc::Global;
 pub struct ClientOptions {
     /// 0 for the host's mechanism, 1 for plain NTLM.
     pub mechanism: u32,
-    /// The version of CredSSP that it speaks.
+    /// The version of CredSSP that it speaks, 2 to 6.
     pub version: u32,
-    /// The least version of a server that it takes.
+    /// The least version of a server that it takes, 2 to 6, or 0 for every.
     pub least_version: u32,
     /// 0 where it delegates its credentials, 1 where it delegates empty ones in their place.
     pub delegation: u32,
@@ -29,12 +30,29 @@ pub struct ClientOptions {
 pub struct ServerOptions {
     /// 0 for the host's mechanism, 1 for plain NTLM.
     pub mechanism: u32,
-    /// The version of CredSSP that it speaks.
+    /// The version of CredSSP that it speaks, 2 to 6.
     pub version: u32,
-    /// The least version of a client that it takes.
+    /// The least version of a client that it takes, 2 to 6, or 0 for every.
     pub least_version: u32,
     /// Whom it takes: 0 for the listed identities alone, 1 for anyone whom the host's mechanism names.
     pub peers: u32,
+}
+
+fn is_version(number: u32) -> bool
+    ensures { result ≡ is_version number }
+{
+    2 <= number && number <= 6
+}
+
+/// Refuses versions that CredSSP does not have (MS-CSSP 2.2.1). The least may be 0, for every one.
+pub(crate) fn check_versions(version: u32, least: u32) -> Result<(), u32>
+    ensures { result ≡ check_versions version least }
+{
+    if is_version(version) && (least == 0 || is_version(least)) {
+        Ok(())
+    } else {
+        Err(INVALID_PARAMETER)
+    }
 }
 
 /// The bytes as a text, where they are UTF-8.

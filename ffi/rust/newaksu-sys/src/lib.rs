@@ -26,9 +26,9 @@ pub const NEWAKSU_EMPTY: newaksu_handle = newaksu_handle {
 pub struct newaksu_client_options {
     /// `NEWAKSU_HOST` or `NEWAKSU_PLAIN_NTLM`.
     pub mechanism: u32,
-    /// The version of CredSSP that the end speaks.
+    /// The version of CredSSP that the end speaks, 2 to 6.
     pub version: u32,
-    /// The least version of a peer that it takes.
+    /// The least version of a peer that it takes, 2 to 6, or 0 for every.
     pub least_version: u32,
     /// `NEWAKSU_WITH_CREDENTIALS` or `NEWAKSU_CREDENTIAL_LESS`.
     pub delegation: u32,
@@ -40,9 +40,9 @@ pub struct newaksu_client_options {
 pub struct newaksu_server_options {
     /// `NEWAKSU_HOST` or `NEWAKSU_PLAIN_NTLM`.
     pub mechanism: u32,
-    /// The version of CredSSP that the end speaks.
+    /// The version of CredSSP that the end speaks, 2 to 6.
     pub version: u32,
-    /// The least version of a peer that it takes.
+    /// The least version of a peer that it takes, 2 to 6, or 0 for every.
     pub least_version: u32,
     /// `NEWAKSU_PEERS_LISTED` or `NEWAKSU_PEERS_ANYONE`.
     pub peers: u32,

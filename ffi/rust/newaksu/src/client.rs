@@ -29,8 +29,8 @@ pub enum Delegation {
 pub struct ClientSettings<'a> {
     /// The version of CredSSP that it speaks: 2 to 6.
     pub version: u32,
-    /// The least version of a server that is taken, 0 for every. Below 5 whoever relays the
-    /// exchange can choose the proof.
+    /// The least version of a server that is taken: 2 to 6, or 0 for every. Below 5 whoever relays
+    /// the exchange can choose the proof.
     pub least_version: u32,
     /// What is delegated.
     pub delegation: Delegation,
@@ -90,8 +90,9 @@ pub struct Client<M> {
 }
 
 impl<M: Mechanism> Client<M> {
-    /// A client that has said nothing yet. Refused with `UNKNOWN_CREDENTIALS` where the user's name
-    /// mixes the forms; with `INTERNAL_ERROR` where there was no randomness.
+    /// A client that has said nothing yet. Refused with `INVALID_PARAMETER` where a version is none
+    /// of those of the settings; with `UNKNOWN_CREDENTIALS` where the user's name mixes the forms;
+    /// with `INTERNAL_ERROR` where there was no randomness.
     pub fn new(settings: &ClientSettings<'_>, mechanism: M) -> Result<Client<M>, Error> {
         let options = sys::newaksu_client_options {
             mechanism: sys::NEWAKSU_HOST,

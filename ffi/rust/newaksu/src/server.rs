@@ -14,8 +14,8 @@ use std::fmt;
 pub struct ServerSettings<'a> {
     /// The version of CredSSP that it speaks: 2 to 6.
     pub version: u32,
-    /// The least version of a client that is taken, 0 for every. Below 5 whoever relays the
-    /// exchange can choose the proof.
+    /// The least version of a client that is taken: 2 to 6, or 0 for every. Below 5 whoever relays
+    /// the exchange can choose the proof.
     pub least_version: u32,
     /// The SubjectPublicKey of the TLS channel's certificate (MS-CSSP 3.1.5).
     pub public_key: &'a [u8],
@@ -67,8 +67,8 @@ pub struct Server<M> {
 }
 
 impl<M: Acceptor> Server<M> {
-    /// A server that was told nothing yet. Refused with `UNKNOWN_CREDENTIALS` where a user's name
-    /// mixes the forms.
+    /// A server that was told nothing yet. Refused with `INVALID_PARAMETER` where a version is none
+    /// of those of the settings; with `UNKNOWN_CREDENTIALS` where a user's name mixes the forms.
     pub fn new(settings: &ServerSettings<'_>, mechanism: M) -> Result<Server<M>, Error> {
         let options = sys::newaksu_server_options {
             mechanism: sys::NEWAKSU_HOST,

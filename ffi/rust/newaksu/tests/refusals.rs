@@ -250,3 +250,24 @@ fn ends_that_cannot_be_made() {
     settings.users = Some(&["D\\a@b"]);
     assert_eq!(Server::new(&settings, party).err(), refused);
 }
+
+/// It has 2 to 6; the least that is taken may be 0 too.
+#[test]
+fn versions_that_credssp_does_not_have() {
+    let party = common::Party::new(false, "ann", "pw");
+    let refused = Some(Error::Refused(SecurityStatus::INVALID_PARAMETER));
+    let numbers = [0, 1, 2, 3, 4, 5, 6, 7, 8, 258, u32::MAX];
+    for (version, least) in numbers
+        .iter()
+        .flat_map(|a| numbers.iter().map(move |b| (*a, *b)))
+    {
+        let good = (2..=6).contains(&version) && (least == 0 || (2..=6).contains(&least));
+        let expected = if good { None } else { refused };
+        let mut client = ClientSettings::new(b"", "ann", "pw");
+        (client.version, client.least_version) = (version, least);
+        assert_eq!(Client::new(&client, party.clone()).err(), expected);
+        let mut server = ServerSettings::new(b"");
+        (server.version, server.least_version) = (version, least);
+        assert_eq!(Server::new(&server, party.clone()).err(), expected);
+    }
+}
