@@ -1,2 +1,3 @@
+mod Mics
 mod Reported
 mod Texts

@@ -1,6 +1,7 @@
 pub mod Ends
 pub mod Envelope
 pub mod Hosting
+pub mod Negotiated
 pub mod Outside
 pub mod OutsideLaws
 pub mod Peers

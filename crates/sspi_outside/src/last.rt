@@ -117,7 +117,7 @@ impl Last {
     }
 }
 
-fn text_of(blob: &Option<Bytes>) -> Option<&[u8]>
+pub(crate) fn text_of(blob: &Option<Bytes>) -> Option<&[u8]>
     ensures { option_copied result ≡ text_of blob.now }
 {
     match blob {

@@ -2,6 +2,7 @@
 ghost use Rattle.std.specs.Prelude.{◌≡◌, ◌++◌, ℕ, List, None, Some};
 ghost use Rattle.sspi_outside.specs.Envelope.{no_tag, text_in};
 ghost use Rattle.sspi_outside.specs.Hosting.{closed};
+ghost use Rattle.sspi_outside.specs.Negotiated.{ListToSignIsTheEnds, MicIsGoodAsReported};
 ghost use Rattle.sspi_outside.specs.Reported.{CredentialsAreAwaitedOnceProved, CredentialsFollowTheProof, IdentityIsReported};
 ghost use Rattle.sspi_outside.specs.Reported.{ServerProofFollowsTheProof};
 
@@ -34,4 +35,15 @@ pub fn server_proof_follows_the_proof<C: CredentialsProxy>()
 /// A server tells an identity only where it waited for the credentials, and of a text that the host reported in that call.
 pub fn identity_is_reported<C: CredentialsProxy>()
     ensures { IdentityIsReported C.meaning }
+{}
+
+/// A MIC that came verifies over exactly the list over which the host reported it to be good, and
+/// over none where it reported none.
+pub fn mic_is_good_as_reported()
+    ensures { MicIsGoodAsReported }
+{}
+
+/// What a negotiation signs is what the host is asked to sign.
+pub fn list_to_sign_is_the_ends()
+    ensures { ListToSignIsTheEnds }
 {}

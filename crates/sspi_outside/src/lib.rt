@@ -6,6 +6,8 @@
 //!   the request that such an end is handed, and `Last` says what the host has to seal and what is sent (`specs/Hosting.antt`).
 //! - `laws`: what was reported as opened is, and nothing else; so a client's credentials, a server's proof and the identity that it
 //!   tells each follow from what the host reported in that very call (`specs/Reported.antt`).
+//! - `handed_offer`, `handed_response`, `list_to_sign` and `signed`: the same of a token of SPNEGO and
+//!   its MIC (`specs/Negotiated.antt`).
 //! - `Peers`: the users of a list, or whoever the mechanism names.
 #![tactic(auto)]
 
@@ -13,6 +15,7 @@ pub mod client_end;
 mod envelope;
 pub mod last;
 pub mod laws;
+pub mod negotiated;
 pub mod opened;
 pub mod outside;
 pub mod peers;
@@ -20,6 +23,7 @@ pub mod server_end;
 
 pub use client_end::ClientEnd;
 pub use last::{Last, Owed};
+pub use negotiated::{handed_offer, handed_response, list_to_sign, signed};
 pub use opened::{Opened, handed};
 pub use outside::Outside;
 pub use peers::{AnyPeer, Peers};

@@ -50,7 +50,11 @@ fn close(blob: &mut Bytes)
     }
 }
 
-fn show(alloc: Global, field: &mut Option<Bytes>, text: Option<&[u8]>) -> Result<(), AllocError>
+pub(crate) fn show(
+    alloc: Global,
+    field: &mut Option<Bytes>,
+    text: Option<&[u8]>,
+) -> Result<(), AllocError>
     ensures { OnOk result (field.new ≡ shown (option_copied text.entry) field.old) }
 {
     match field {
@@ -69,7 +73,7 @@ fn show_in(alloc: Global, blob: &mut Bytes, text: Option<&[u8]>) -> Result<(), A
     Ok(())
 }
 
-fn token_of(alloc: Global, step: &[u8]) -> Result<Option<Bytes>, AllocError>
+pub(crate) fn token_of(alloc: Global, step: &[u8]) -> Result<Option<Bytes>, AllocError>
     ensures { IfOk result (λ token. token ≡ unless_empty step.now) }
 {
     if step.is_empty() {
