@@ -13,14 +13,14 @@ use std::alloc::Global;
 
 /// The host's context on one end: two steps, and then a key that both ends have. An NTLM or a Kerberos stands here.
 #[derive(Drop)]
-struct Context {
-    alloc: Global,
+pub(crate) struct Context {
+    pub(crate) alloc: Global,
     steps: u32,
     key: u8,
 }
 
 impl Context {
-    fn new(alloc: Global) -> Context {
+    pub(crate) fn new(alloc: Global) -> Context {
         Context {
             alloc,
             steps: 0,
@@ -29,14 +29,14 @@ impl Context {
     }
 
     /// A step, as the envelope says it: whether the context has ended, and the token for the peer.
-    fn step(&mut self) -> Result<Vec<u8>, Error> {
+    pub(crate) fn step(&mut self) -> Result<Vec<u8>, Error> {
         let status = if self.steps == 0 { 1 } else { 0 };
         self.steps = self.steps.saturating_add(1);
         Ok(Vec::from_slice(self.alloc, &[status, b't'])?)
     }
 
     /// The same on a server, with the name of the peer before it once the context has ended.
-    fn step_named(&mut self, name: &str) -> Result<Vec<u8>, Error> {
+    pub(crate) fn step_named(&mut self, name: &str) -> Result<Vec<u8>, Error> {
         let named = self.steps > 0;
         let step = self.step()?;
         let name = Utf16Text::from_str(self.alloc, if named { name } else { "" })?.to_bytes_le(
@@ -59,8 +59,17 @@ impl Context {
         Ok(blob)
     }
 
+    /// The MIC of a text.
+    pub(crate) fn sign(&self, text: &[u8]) -> Result<Vec<u8>, Error> {
+        let mut mic = Vec::from_slice(self.alloc, b"fedcba9876543210")?;
+        for byte in text {
+            mic.push(*byte ^ self.key)?;
+        }
+        Ok(mic)
+    }
+
     /// The text of a blob; none where the peer did not seal it.
-    fn open(&self, blob: &Option<Bytes>) -> Result<Option<Vec<u8>>, Error> {
+    pub(crate) fn open(&self, blob: &Option<Bytes>) -> Result<Option<Vec<u8>>, Error> {
         let Some(blob) = blob else {
             return Ok(None);
         };
@@ -76,7 +85,7 @@ impl Context {
 }
 
 /// What is sent of the call that was made, with the text sealed that the end made.
-fn sealed(context: &Context, last: &Last, acts: Acts) -> Result<TsRequest, Error> {
+pub(crate) fn sealed(context: &Context, last: &Last, acts: Acts) -> Result<TsRequest, Error> {
     let owed = last.owed(acts);
     let blob = match last.text(owed) {
         Some(text) => context.seal(text)?,

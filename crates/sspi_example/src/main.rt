@@ -6,6 +6,7 @@ mod delegation;
 mod hello;
 mod host;
 mod messages;
+mod negotiated;
 mod outside;
 mod part;
 mod suspended;
@@ -23,5 +24,7 @@ fn main(rt: HostRuntime) -> io::Result<()> {
     say(&rt, alloc, "outside", outside::both(alloc))?;
     say(&rt, alloc, "carrier", carrier::both::<Ntlm>(alloc))?;
     say(&rt, alloc, "suspended", suspended::both(alloc))?;
-    say(&rt, alloc, "host", host::both(alloc))
+    say(&rt, alloc, "host", host::both(alloc))?;
+    say(&rt, alloc, "negotiated", negotiated::both(alloc))?;
+    say(&rt, alloc, "a MIC was changed", negotiated::changed(alloc))
 }
