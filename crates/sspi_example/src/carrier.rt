@@ -28,6 +28,8 @@ impl Carrier for Loopback {
 
     ghost receives = { λ _ _ _ _. Unit {0} };
 
+    ghost refuses = { λ _ _ _. Unit {0} };
+
     fn send(&mut self, _from: End, sent: &[u8]) -> Result<(), LinkError> {
         self.message = Some(Vec::from_slice(self.alloc, sent)?);
         self.taken = 0;
