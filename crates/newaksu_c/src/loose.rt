@@ -1,4 +1,5 @@
-// A box as its pointer.
+//! A box as its raw pointer, which still owns what it points to.
+
 ghost use Rattle.std.specs.Prelude.{◌≡◌};
 ghost use Rattle.std_alloc.specs.Box.Ownership.{box_owns};
 

@@ -1,3 +1,5 @@
+//! The auditor of recorded turns and of the log that carried their messages.
+
 ghost use Rattle.std.specs.Prelude.{◌≡◌, ◌≤◌, ◌+◌, ◌↔◌, IsTrue, IfOk, IfErr};
 ghost use Rattle.sspi_audit.specs.Standings.{sealing_after};
 ghost use Rattle.sspi_audit.specs.Verdicts.{Judges};

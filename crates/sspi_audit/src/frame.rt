@@ -1,3 +1,5 @@
+//! What an auditor knows of an end at one turn, from the turns before it.
+
 use sspi_credssp::CredSspState;
 use std::marker::Model;
 

@@ -1,3 +1,5 @@
+//! What an audit answers: yes, or the first turn at fault.
+
 /// What an auditor finds of recorded turns and their log.
 #[derive(Clone, Copy, Debug, PartialEq, Eq)]
 pub enum Verdict {

@@ -1,3 +1,5 @@
+//! Audits of recorded exchanges, and of the same records with one change each.
+
 mod limits;
 mod negotiated;
 mod negotiated_changes;

@@ -1,3 +1,5 @@
+//! The benchmark of a desk: calls on many server sessions.
+
 ghost use Rattle.std.specs.Prelude.{◌<◌};
 
 use crate::sums::{given_up, sum_of_text};

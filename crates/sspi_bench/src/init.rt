@@ -1,3 +1,5 @@
+//! The benchmark of NegTokenInit: decoding and encoding.
+
 use crate::sums::{len_of, sum_of_text};
 use crate::work::Work;
 use sspi_tokens::NegTokenInit;

@@ -1,3 +1,5 @@
+//! The benchmark of TSRequest: decoding, encoding and reading in pieces.
+
 ghost use Rattle.std.specs.Prelude.{◌<◌};
 
 use crate::sums::{given_up, len_of, sum_of_text};

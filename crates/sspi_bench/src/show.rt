@@ -1,4 +1,4 @@
-// What is read of requests, a line for each, so that the answers of another program can be laid beside them.
+//! Shows a decoded TSRequest in hex, so that other readers can be compared with this one.
 
 use anyhow::Result;
 use sspi_ber::{VecSink, WireKind};

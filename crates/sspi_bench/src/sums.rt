@@ -1,3 +1,5 @@
+//! Sums that use what was decoded or encoded, so that no compiler drops the work.
+
 ghost use Rattle.std.specs.Prelude.{◌≡◌, None, IfSome, length};
 
 use sspi_types::Bytes;

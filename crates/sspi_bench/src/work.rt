@@ -1,3 +1,5 @@
+//! What the benchmark is asked to do: the work, the message and how often.
+
 /// What is done so many times.
 #[derive(Clone, Copy)]
 pub enum Work {

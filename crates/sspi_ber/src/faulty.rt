@@ -1,3 +1,5 @@
+//! A source and a sink that fail at a chosen call, for tests.
+
 ghost use Rattle.std.specs.Prelude.{◌≡◌, ◌↔◌, ◌<◌, ◌≤◌, [], length, IfOk, IsErrOf};
 ghost use Rattle.std.specs.Io.KnownBytes.{ReadConsumes, WriteAppends};
 ghost use Rattle.sspi_types.specs.Counting.{Counts};

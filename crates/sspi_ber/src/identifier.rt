@@ -1,3 +1,5 @@
+//! Identifier octets of BER (X.690 8.1.2): classes, tag numbers, primitive or constructed.
+
 ghost use Rattle.std.specs.Prelude.{◌≡◌};
 ghost use Rattle.sspi_ber.specs.Identifier.{universal_identifier, contextual_identifier};
 

@@ -1,3 +1,5 @@
+//! Reads identifiers, lengths, integers and octet strings from any source (X.690 8.1 to 8.7).
+
 ghost use Rattle.std.specs.Prelude.{◌≡◌, ◌≤◌, IfOk, IsTrue};
 ghost use Rattle.sspi_ber.specs.Forms.{is_integer_size};
 ghost use Rattle.sspi_ber.specs.Identifier.{contextual_identifier};

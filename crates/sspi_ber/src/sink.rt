@@ -1,3 +1,5 @@
+//! The trait of what takes bytes, with a count of its faults.
+
 ghost use Rattle.std.specs.Prelude.{◌<◌, ◌≤◌, IfOk, length};
 ghost use Rattle.std.specs.Io.KnownBytes.{WriteAppends};
 ghost use Rattle.sspi_ber.specs.Outside.{SinkCause};

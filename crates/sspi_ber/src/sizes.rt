@@ -1,3 +1,5 @@
+//! How many bytes lengths, headers and elements take in their shortest form.
+
 ghost use Rattle.std.specs.Prelude.{◌≡◌, ◌+◌, ◌≤◌, nat_le, length, IsTrue};
 ghost use Rattle.sspi_ber.specs.Forms.{max_content};
 ghost use Rattle.sspi_ber.specs.Short.{IsSizeIf, len_short, element_size, int_short};

@@ -1,3 +1,5 @@
+//! Reads optional fields and elements of bytes in memory, without a copy.
+
 ghost use Rattle.sspi_ber.specs.Identifier.{contextual_identifier};
 ghost use Rattle.sspi_ber.specs.Outside.{Gives, NeedsNoMemory};
 ghost use Rattle.sspi_ber.specs.Pieces.{element_at, tag_or_absent_at};

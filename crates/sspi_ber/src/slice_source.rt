@@ -1,3 +1,5 @@
+//! A source over bytes in memory, which never fails.
+
 ghost use Rattle.std.specs.Prelude.{◌≡◌, ◌∷◌, length, IfOk, OnErr, MatchBool};
 ghost use Rattle.sspi_ber.specs.Forms.{IsNotNext};
 ghost use Rattle.sspi_ber.specs.Outside.{Gives, NeedsNoMemory};

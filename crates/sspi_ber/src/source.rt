@@ -1,3 +1,5 @@
+//! The trait of what gives bytes, with a count of its faults.
+
 ghost use Rattle.std.specs.Prelude.{◌≤◌, IfOk, length};
 ghost use Rattle.std.specs.Io.KnownBytes.{ReadConsumes};
 ghost use Rattle.sspi_ber.specs.Outside.{SourceCause, NextConsumes};

@@ -1,3 +1,5 @@
+//! A sink that keeps what is written in memory.
+
 ghost use Rattle.std.specs.Prelude.{◌≡◌, [], IfOk};
 
 use crate::sink::{Sink, SinkError};

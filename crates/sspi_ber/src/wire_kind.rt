@@ -1,3 +1,5 @@
+//! Why bytes were not read or written.
+
 ghost use Rattle.std.specs.Prelude.{◌≡◌};
 
 use crate::sink::SinkError;

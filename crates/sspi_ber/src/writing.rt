@@ -1,3 +1,5 @@
+//! Writes lengths, headers, integers and octet strings in their shortest form (X.690 8.1 to 8.7).
+
 ghost use Rattle.std.specs.Prelude.{◌≡◌, ◌≤◌, nat_le, [], ◌∷◌, length, IfOk};
 ghost use Rattle.sspi_ber.specs.Identifier.{universal_identifier, contextual_identifier};
 ghost use Rattle.sspi_ber.specs.Forms.{max_content};

@@ -1,3 +1,5 @@
+//! What an end over a channel answers.
+
 ghost use Rattle.std.specs.Prelude.{◌≡◌};
 ghost use Rattle.sspi_channel.specs.Statuses;
 

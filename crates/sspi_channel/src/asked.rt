@@ -1,3 +1,5 @@
+//! Which end the words of the program ask for, and the file of its scenario.
+
 ghost use Rattle.std.specs.Prelude.{◌≡◌, option_map};
 ghost use Rattle.sspi_channel.specs.Asked.{end_in, end_named};
 

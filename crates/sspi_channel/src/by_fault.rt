@@ -1,3 +1,5 @@
+//! Tells a channel that failed in a write from one that failed in a read.
+
 ghost use Rattle.std.specs.Prelude.{◌≡◌};
 ghost use Rattle.sspi_channel.specs.Delegating;
 ghost use Rattle.sspi_channel.specs.Delegating.{error_by};

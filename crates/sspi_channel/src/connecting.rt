@@ -1,3 +1,5 @@
+//! The client of a scenario over a channel to its server.
+
 ghost use Rattle.std.specs.Prelude.{ℕ, List, Option};
 ghost use Rattle.sspi_channel.specs.Answers.{ConnectsAs, ConnectsText, HearsBehind};
 ghost use Rattle.sspi_channel.specs.Delegating.{Delegates, IsConnected, counted_channel, source_channel};

@@ -1,3 +1,5 @@
+//! A source and a sink that count the calls that failed.
+
 ghost use Rattle.std.specs.Prelude.{◌≡◌};
 
 use sspi_ber::{Sink, SinkError, Source, SourceError};

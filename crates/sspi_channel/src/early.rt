@@ -1,3 +1,5 @@
+//! The early user authorization result behind a delegation over a channel (MS-RDPBCGR 2.2.10.2).
+
 ghost use Rattle.std.specs.Prelude.{◌≡◌, IfOk};
 ghost use Rattle.sspi_channel.specs.Early.{Hears, HearsIfAsked, Tells, TellsIfAsked, told_by};
 

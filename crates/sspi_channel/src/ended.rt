@@ -1,3 +1,5 @@
+//! Runs one end of a scenario over a channel, and tells what it came to.
+
 ghost use Rattle.sspi_channel.specs.Ended.{EndsAs, Says, SaysMade};
 ghost use Rattle.sspi_channel.specs.Delegating.{counted_channel};
 ghost use Rattle.sspi_channel.specs.Texts.{error_text};

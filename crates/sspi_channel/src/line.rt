@@ -1,3 +1,5 @@
+//! The line that says what an end over a channel came to.
+
 ghost use Rattle.std.specs.Prelude.{◌≡◌, ◌<◌, ◌++◌, IfOk, OnOk};
 ghost use Rattle.sspi_channel.specs.Texts;
 ghost use Rattle.sspi_channel.specs.Texts.{digit, early_part, error_text, head, shown, shown_octet};

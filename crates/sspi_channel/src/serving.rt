@@ -1,3 +1,5 @@
+//! The server of a scenario over a channel to its client.
+
 ghost use Rattle.std.specs.Prelude.{ℕ, List, Option};
 ghost use Rattle.sspi_channel.specs.Answers.{ServesAs, ServesText, TellsBehind};
 ghost use Rattle.sspi_channel.specs.Delegating.{Delegates, IsServed, counted_channel, sink_channel};

@@ -1,3 +1,5 @@
+//! `delegate` between ends of the plain mechanisms, with what matching ends come to.
+
 ghost use Rattle.std.specs.Prelude.{◌≤◌, [], IfOk};
 ghost use Rattle.sspi_credssp.specs.Context.{either};
 ghost use Rattle.sspi_delegate.specs.Headline.{around_by, parties, Delegates, Accounts, Stays};

@@ -1,3 +1,5 @@
+//! What one call of an end did with its security context.
+
 ghost use Rattle.std.specs.Prelude.{◌≡◌};
 ghost use Rattle.sspi_credssp.specs.Acts.{no_acts};
 

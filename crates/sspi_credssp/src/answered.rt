@@ -1,4 +1,5 @@
-// A refusal becomes an error where a caller is answered, and nowhere else.
+//! Turns a refusal into an error, where a caller is answered and nowhere else.
+
 ghost use Rattle.std.specs.Prelude.{◌≡◌};
 ghost use Rattle.sspi_mech.specs.Answered.{answered};
 

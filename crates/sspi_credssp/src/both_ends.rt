@@ -1,4 +1,5 @@
-// What both ends do in one way, whatever they do it for.
+//! What both ends do alike: adopt acquired credentials, and forget a context.
+
 ghost use Rattle.std.specs.Prelude.{◌≡◌, ◌≢◌, [], OnOk, OnErr, IfErr};
 ghost use Rattle.std.specs.Option.{option_copied};
 ghost use Rattle.sspi_mech.specs.Calls.{ToAcquire};

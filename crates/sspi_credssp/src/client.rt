@@ -1,3 +1,5 @@
+//! The CredSSP client (MS-CSSP 3.1.5.1): `process` and `resume`.
+
 ghost use Rattle.std.specs.Prelude.{◌≡◌, [], None, Some, false, IsSome, IfErr, OnOk, OnErr};
 ghost use Rattle.std.specs.Prelude.{length, string_bytes};
 ghost use Rattle.sspi_types.specs.declared.credential_use.CredentialUse.TheVariants as purposes;

@@ -1,4 +1,5 @@
-// The client's last turn (AuthInfo): the server's proof is checked, and only then are the credentials sealed.
+//! The client's last turn: it checks the server's proof, and only then seals its credentials.
+
 ghost use Rattle.std.specs.Prelude.{◌≡◌, ◌≢◌, [], false, None, IsSome, IfOk, IfErr, OnErr};
 ghost use Rattle.sspi_credssp.specs.Acts.{no_acts};
 ghost use Rattle.sspi_credssp.specs.ClientCause.{DeliverCause, DeliverExact};

@@ -1,4 +1,5 @@
-// The client's turns of the authentication (NegoToken).
+//! The client's authentication: the steps of its context, and the proof of the key at their end.
+
 ghost use Rattle.std.specs.Prelude.{◌≡◌, ◌≢◌, ◌<◌, ◌+◌, ℕ, List, [], ◌∷◌, None, Some, true, false, IsSome, OnErr, IfErr};
 ghost use Rattle.sspi_names.specs.declared.network.NetworkRequest.{NetworkRequest};
 ghost use Rattle.sspi_mech.specs.Answers.{answer_of, OnAsk};

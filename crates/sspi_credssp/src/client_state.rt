@@ -1,3 +1,5 @@
+//! What a client's turn ends in: a message, the last message, or a question for a KDC.
+
 use sspi_names::NetworkRequest;
 use sspi_tsreq::TsRequest;
 

@@ -1,3 +1,5 @@
+//! A security context: one of two mechanisms, or a SPNEGO negotiation of one.
+
 ghost use Rattle.std.specs.Prelude.{List, [], ◌∷◌, Option, ◌≡◌, ◌≢◌, ◌-◌, true, false, IsTrue, IsErr, IfOk, IfErr, OnOk, OnErr};
 ghost use Rattle.std.specs.Prelude.{option_copied};
 ghost use Rattle.sspi_mech.specs.Calls.{step_args, accept_args, no_counts, one_sealing, one_unsealing};

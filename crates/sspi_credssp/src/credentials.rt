@@ -1,4 +1,5 @@
-// The credentials inside authInfo (TSCredentials, MS-CSSP 2.2.1.2).
+//! TSCredentials as an end seals and opens them (MS-CSSP 2.2.1.2).
+
 ghost use Rattle.std.specs.Prelude.{◌≡◌, ◌≢◌, Ok, Err, IfOk, IfErr};
 ghost use Rattle.sspi_credssp.specs.Exchange.{delegated_text, delegated_identity};
 ghost use Rattle.sspi_mech.specs.Refusals.{error_of};

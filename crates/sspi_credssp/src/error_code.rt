@@ -1,3 +1,5 @@
+//! The NTSTATUS code by which a server tells its client of a refusal (MS-CSSP 2.2.1).
+
 ghost use Rattle.std.specs.Prelude.{◌≡◌, ◌≢◌};
 ghost use Rattle.sspi_types.specs.declared.error_kind.ErrorKind.{ErrorKind};
 ghost use Rattle.sspi_credssp.specs.Requests.{error_code_of};

@@ -1,3 +1,5 @@
+//! A proxy whose look-ups all fail.
+
 ghost use Rattle.std.specs.Prelude.{◌≡◌, Err};
 ghost use Rattle.sspi_types.specs.Counting.{counted_on};
 ghost use Rattle.sspi_credssp.specs.Proxy.{IsList, HasAnswered};

@@ -1,3 +1,5 @@
+//! Which security context an end authenticates by.
+
 use sspi_mech::NtlmConfig;
 use sspi_negotiate::NegotiateConfig;
 

@@ -1,4 +1,5 @@
-// The version that an end notes of its peer. Both ends look at a version here, and nowhere else.
+//! The version that an end pins of its peer. Both ends look at a version here, and nowhere else.
+
 ghost use Rattle.std.specs.Prelude.{◌≡◌, None, Some, false, OnOk, OnErr, IfErr};
 ghost use Rattle.sspi_credssp.specs.Noted.{differs, is_old, noted_with, VersionStops};
 

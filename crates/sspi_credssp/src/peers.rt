@@ -1,4 +1,5 @@
-// The identities that a negotiating server is made with.
+//! Which identities a server that negotiates hands to its context.
+
 ghost use Rattle.std.specs.Prelude.{◌≡◌, ◌≢◌, ◌≤◌, IfOk, IfErr, OnOk};
 ghost use Rattle.sspi_credssp.specs.Proxy.{list_calls, IsTold, IsAsked, HasAsked};
 ghost use Rattle.sspi_credssp.specs.ServerStage.{IsListed};

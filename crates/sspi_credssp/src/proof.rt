@@ -1,4 +1,5 @@
-// Proofs of the channel's key: the blob that holds the peer's, what it opens to, and the sealing of one's own.
+//! Sealing, opening and comparing proofs of the public key (pubKeyAuth, MS-CSSP 3.1.5).
+
 ghost use Rattle.std.specs.Prelude.{◌≡◌, ◌≢◌, ◌-◌, None, Some, true, length, nat_lt, IfOk, IfErr, OnErr, OnOk};
 ghost use Rattle.sspi_mech.specs.Answered.{IsRefusedAs};
 ghost use Rattle.sspi_mech.specs.Calls.{one_sealing, ToSeal, ToUnseal};

@@ -1,3 +1,5 @@
+//! The trait by which a server looks up its users.
+
 ghost use Rattle.std.specs.Prelude.{IfOk};
 ghost use Rattle.sspi_credssp.specs.Proxy.{ProxyMeaning, IsEntry, IsTold, AreFound, IsList, HasAnswered};
 

@@ -1,3 +1,5 @@
+//! What the proof of a public key is made of, by version (MS-CSSP 3.1.5).
+
 ghost use Rattle.std.specs.Prelude.{◌≡◌, ◌≢◌, ◌<◌, ◌++◌, ℕ, List, All, IfOk, IsTrue, false};
 ghost use Rattle.sha2.specs.Sha256.{sha256};
 ghost use Rattle.sspi_credssp.specs.Exchange.{magic, echo, incremented, decremented, prescribed};

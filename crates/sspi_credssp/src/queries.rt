@@ -1,4 +1,5 @@
-// What a context tells of itself: what the mechanism or the negotiation in hand tells.
+//! QueryContextAttributes of a security context.
+
 ghost use Rattle.std.specs.Prelude.{◌≡◌, Some, None, IfOk};
 ghost use Rattle.sspi_mech.specs.Calls.{ToDescribe, ToShowKey};
 ghost use Rattle.sspi_messages.specs.Unsupported.{unsupported};

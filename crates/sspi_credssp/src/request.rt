@@ -1,5 +1,5 @@
-// How a request becomes the reply to it: it is changed in place, so each field that nobody sets is sent back unaltered and
-// uncopied.
+//! How a request becomes the reply to it: it is changed in place, and nothing is copied.
+
 ghost use Rattle.std.specs.Prelude.{◌≡◌, Some, None};
 
 use sspi_tsreq::TsRequest;

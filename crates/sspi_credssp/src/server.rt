@@ -1,3 +1,5 @@
+//! The CredSSP server (MS-CSSP 3.1.5.2): `process`.
+
 ghost use Rattle.std.specs.Prelude.{◌≡◌, ◌≢◌, [], None, true, false, IsSome, IfErr, OnOk, OnErr};
 ghost use Rattle.sspi_types.specs.declared.credential_use.CredentialUse.TheVariants as purposes;
 ghost use Rattle.sspi_credssp.specs.Acts.{no_acts};

@@ -1,4 +1,5 @@
-// The server's turns past the authentication: the exchange of proofs, and the credentials.
+//! The server past its authentication: the exchange of proofs, and the credentials.
+
 ghost use Rattle.std.specs.Prelude.{◌≡◌, ◌≢◌, ◌-◌, [], None, Some, true, false, nat_lt, IsSome, OnOk, OnErr, IfOk, IfErr};
 ghost use Rattle.sspi_mech.specs.Calls.{ToSeal};
 ghost use Rattle.sspi_credssp.specs.Acts.{no_acts};

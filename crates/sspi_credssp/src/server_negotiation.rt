@@ -1,4 +1,5 @@
-// The server's turns of the authentication (NegoToken).
+//! The server's authentication: the steps of its context, and the look-up of its peer.
+
 ghost use Rattle.std.specs.Prelude.{ℕ, List, Option, Result, Ok, ◌≡◌, ◌≢◌, [], map, None, Some, true, false, IsTrue, OnOk};
 ghost use Rattle.std.specs.Prelude.{OnErr, IfOk, IfErr};
 ghost use Rattle.sspi_names.specs.declared.credentials.Credentials.TheVariants as credentials;

@@ -1,4 +1,5 @@
-// What a server's refusal hands back.
+//! The request that tells a client of its server's refusal.
+
 ghost use Rattle.std.specs.Prelude.{◌≡◌, Some};
 ghost use Rattle.sspi_mech.specs.Refusals.{error_of};
 ghost use Rattle.sspi_credssp.specs.Requests.{error_request};

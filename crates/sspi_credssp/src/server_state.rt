@@ -1,3 +1,5 @@
+//! What a server's turn ends in: a message, the identity, or a refusal.
+
 use sspi_names::AuthIdentity;
 use sspi_tsreq::TsRequest;
 use sspi_types::Error;

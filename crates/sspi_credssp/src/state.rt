@@ -1,3 +1,5 @@
+//! What an end waits for.
+
 /// What an end of CredSSP waits for (MS-CSSP 3.1.5).
 #[derive(Clone, Copy, Debug, PartialEq, Eq)]
 pub enum CredSspState {

@@ -1,3 +1,5 @@
+//! A proxy over a list of identities.
+
 ghost use Rattle.std.specs.Prelude.{◌≡◌, ◌≤◌, false, IsTrue, IfOk, Some, option_copied};
 ghost use Rattle.sspi_types.specs.Counting.{counted_on};
 ghost use Rattle.sspi_credssp.specs.Proxy.{fails_at, candidates_of, entry_of};

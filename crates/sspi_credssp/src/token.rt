@@ -1,4 +1,5 @@
-// The tokens of the authentication, in and out of a request.
+//! The tokens of the authentication, in and out of a request.
+
 ghost use Rattle.std.specs.Prelude.{◌≡◌, IfOk};
 ghost use Rattle.sspi_credssp.specs.Requests.{token_of, unless_empty};
 

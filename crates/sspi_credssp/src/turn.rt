@@ -1,3 +1,5 @@
+//! One recorded turn of an end: what it was given, what it did, what came of it.
+
 ghost use Rattle.std.specs.Prelude.{◌≡◌};
 ghost use Rattle.std.specs.Option.{option_copied};
 

@@ -1,4 +1,4 @@
-// The versions of CredSSP at which an end does something else (MS-CSSP 2.2.1).
+//! The versions of CredSSP, and what changes from which one on (MS-CSSP 2.2.1).
 
 // What an end speaks that is told no other version.
 pub const DEFAULT_VERSION: u32 = 6;

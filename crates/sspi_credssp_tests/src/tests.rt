@@ -1,3 +1,5 @@
+//! Calls of both ends, one after another, with what each has to answer.
+
 mod asks;
 mod client_refusals;
 mod delegation;

@@ -1,3 +1,5 @@
+//! What an exchange answers: the delegation, or why there is none.
+
 use sspi_ber::WireKind;
 use sspi_credssp::End;
 use sspi_names::AuthIdentity;

@@ -1,3 +1,5 @@
+//! One entry of a link's log: what was sent, and what was delivered of it.
+
 use sspi_credssp::End;
 use sspi_types::Bytes;
 

@@ -1,3 +1,5 @@
+//! Changes that a link in memory makes to what it delivers.
+
 ghost use Rattle.std.specs.Prelude.{◌≡◌, ℕ, List, Some, IfOk, false, length, slice_set};
 ghost use Rattle.sspi_delegate.specs.Edits.{fails, gives_whole, is_fail, is_failing};
 ghost use Rattle.sspi_delegate.specs.Link.{edited_once, edited, sent_texts, text_at};

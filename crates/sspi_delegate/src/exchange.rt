@@ -1,3 +1,5 @@
+//! `delegate`: both ends, turn by turn, over a link that may do anything.
+
 ghost use Rattle.std.specs.Prelude.{◌≡◌, ℕ, ◌+◌, ◌≤◌, List, [], Err, IfOk, IfErr, OnOk, OnErr};
 ghost use Rattle.sspi_credssp.specs.Ends.{ClientView, ServerView};
 ghost use Rattle.sspi_credssp.specs.Context.{either};

@@ -1,3 +1,5 @@
+//! A link over a carrier of the caller's that keeps a log of its own.
+
 ghost use Rattle.std.specs.Prelude.{◌≡◌, ◌≤◌, [], length, reverse, IfOk};
 
 use crate::carried::Carried;

@@ -1,3 +1,5 @@
+//! The trait of what carries messages between the ends.
+
 use sspi_credssp::End;
 use std::alloc::{AllocError, AllocFailed};
 

@@ -1,3 +1,5 @@
+//! The log of a link in memory.
+
 ghost use Rattle.std.specs.Prelude.{◌≡◌, ◌<◌, ◌≤◌, [], ◌∷◌, length, reverse, true, IfOk, IfErr, OnOk, OnErr};
 ghost use Rattle.sspi_delegate.specs.Link.{DidOrKept, IsReceived, IsReceivedOf, LinkCause, PieceGives, Delivers};
 ghost use Rattle.sspi_delegate.specs.LogKeeping.{NewestDelivers};

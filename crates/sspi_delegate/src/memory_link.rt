@@ -1,3 +1,5 @@
+//! A link in memory, which delivers what was sent but for its edits.
+
 ghost use Rattle.std.specs.Prelude.{◌≡◌, ◌<◌, [], None, Some, IfSome, max, reverse};
 
 use crate::carried::Carried;

@@ -1,3 +1,5 @@
+//! Encodes a message for the link, and decodes what the link delivers.
+
 ghost use Rattle.std.specs.Prelude.{◌+◌, ◌<◌, ◌≤◌};
 ghost use Rattle.sspi_delegate.specs.Log.{IsUnread};
 ghost use Rattle.sspi_delegate.specs.Readers.{TakesIn};

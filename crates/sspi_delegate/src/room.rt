@@ -1,4 +1,5 @@
-// Room in the lists that an exchange fills.
+//! Room for one more element, taken before anything else changes.
+
 ghost use Rattle.std.specs.Prelude.{◌≡◌, ◌<◌, ◌-◌, vec_len, vec_capacity, OnOk};
 
 use std::alloc::AllocError;

@@ -1,3 +1,5 @@
+//! The recorded turns of an exchange.
+
 ghost use Rattle.std.specs.Prelude.{◌≡◌, ◌<◌, [], ◌∷◌, reverse, slice_get, OnOk};
 ghost use Rattle.std.specs.Option.{option_copied};
 ghost use Rattle.sspi_delegate.specs.LogKeeping.{recorded};

@@ -1,3 +1,5 @@
+//! Serves a list of calls, one answer each.
+
 ghost use Rattle.std.specs.Prelude.{◌≡◌, IfErr, IfOk, OnErr};
 ghost use Rattle.sspi_credssp.specs.Context.{either};
 ghost use Rattle.sspi_desk.specs.All.{ServesAll};

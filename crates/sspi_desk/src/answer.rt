@@ -1,3 +1,5 @@
+//! What a session comes to in one call.
+
 use sspi_ber::WireKind;
 use sspi_credssp::CredSspServer;
 use sspi_names::AuthIdentity;

@@ -1,3 +1,5 @@
+//! One call on one server: decode, process, encode.
+
 ghost use Rattle.sspi_credssp.specs.Context.{either};
 ghost use Rattle.sspi_desk.specs.Call.{IsServed};
 ghost use Rattle.sspi_desk.specs.Refusing.{Tells};

@@ -1,3 +1,5 @@
+//! Many server sessions under numbers, each as if it were alone.
+
 ghost use Rattle.std.specs.Prelude.{◌≡◌, ◌==◌, ℕ, ◌+◌, ◌^◌, ◌<◌, ◌≤◌, [], length, IsSome, MatchResult};
 ghost use Rattle.sspi_credssp.specs.Context.{either};
 ghost use Rattle.sspi_desk.specs.Desk.{session, IsAdmitted, IsRefusedFor, IsClosed, Serves};

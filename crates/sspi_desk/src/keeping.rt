@@ -1,3 +1,5 @@
+//! Puts a session under a number that no other one has.
+
 ghost use Rattle.std.specs.Prelude.{◌≡◌, ℕ, ◌+◌, None, Some, cond, length, nat_eq, IfErr, OnOk};
 ghost use Rattle.std.specs.Map.{lookup};
 

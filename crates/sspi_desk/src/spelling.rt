@@ -1,3 +1,5 @@
+//! Encodes the answer of a session.
+
 ghost use Rattle.sspi_desk.specs.Call.{Spells};
 
 use sspi_ber::WireKind;

@@ -1,3 +1,5 @@
+//! Sessions of a desk, alone, interleaved and refused.
+
 mod interleaved;
 mod messages;
 mod sessions;

@@ -1,3 +1,5 @@
+//! What a delegation with an early user authorization result answers.
+
 use sspi_ber::WireKind;
 use sspi_delegate::{DelegateError, Delegation};
 use sspi_tsreq::EarlyUserAuthResult;

@@ -1,3 +1,5 @@
+//! The server asks its policy and tells the client (MS-RDPBCGR 2.2.10.2).
+
 ghost use Rattle.std.specs.Prelude.{◌≡◌, Err};
 ghost use Rattle.sspi_delegate.specs.Log.{IsUnread};
 ghost use Rattle.sspi_early.specs.Authorizes.{Authorizes, Carries, link_at, told_of};

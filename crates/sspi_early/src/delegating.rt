@@ -1,3 +1,5 @@
+//! A delegation, and behind it the early user authorization result.
+
 ghost use Rattle.std.specs.Prelude.{◌≡◌, [], Err};
 ghost use Rattle.sspi_completeness.specs.Matching.{AreMatching, IsCalm, NothingDisturbs, messages_in};
 ghost use Rattle.sspi_credssp.specs.Exchange.{delegated_as};

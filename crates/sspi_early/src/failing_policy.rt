@@ -1,3 +1,5 @@
+//! A policy that always fails.
+
 ghost use Rattle.std.specs.Prelude.{◌≡◌, Err};
 ghost use Rattle.sspi_types.specs.Counting.{counted_on};
 ghost use Rattle.sspi_early.specs.Policy.{HasDecided};

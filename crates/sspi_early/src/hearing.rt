@@ -1,3 +1,5 @@
+//! The client reads the early user authorization result.
+
 ghost use Rattle.sspi_delegate.specs.Log.{IsUnread};
 ghost use Rattle.sspi_delegate.specs.Link.{LinkCause, NeverFails, StaysTold};
 ghost use Rattle.sspi_early.specs.Hearing.{IsResultIn, Takes};

@@ -1,3 +1,5 @@
+//! A policy by a list of names.
+
 ghost use Rattle.std.specs.Prelude.{◌≡◌, Ok};
 ghost use Rattle.sspi_early.specs.Policy.{HasDecided, is_listed};
 

@@ -1,3 +1,5 @@
+//! The trait that decides whether a user may log on.
+
 use sspi_names::AuthIdentity;
 
 /// Why a policy made no decision.

@@ -1,3 +1,5 @@
+//! The header that bounds a request: its tag and its length.
+
 ghost use Rattle.std.specs.Prelude.{◌≡◌, []};
 ghost use Rattle.sspi_ber.specs.Outside.{CopyCause};
 ghost use Rattle.sspi_framing.specs.Parts.{Announces, TakesHeader};

@@ -1,3 +1,5 @@
+//! The next request of a stream, decoded.
+
 ghost use Rattle.sspi_ber.specs.Outside.{CopyCause};
 ghost use Rattle.sspi_framing.specs.Taking.{GivesNext, IsWhole};
 ghost use Rattle.sspi_framing.specs.Parts.{IsReadAs};

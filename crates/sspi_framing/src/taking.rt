@@ -1,3 +1,5 @@
+//! The bytes of the next request of a stream, and no byte behind them.
+
 ghost use Rattle.sspi_ber.specs.Outside.{CopyCause};
 ghost use Rattle.sspi_framing.specs.Parts.{TakesBody};
 ghost use Rattle.sspi_framing.specs.Taking.{TakesRequest};

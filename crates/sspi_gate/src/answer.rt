@@ -1,3 +1,5 @@
+//! What a relay answers: how many requests it passed, and why no more.
+
 use sspi_ber::WireKind;
 use sspi_credssp::End;
 use sspi_types::NStatusCode;

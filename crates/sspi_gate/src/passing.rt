@@ -1,3 +1,5 @@
+//! What a relay asks of one request before it passes it on.
+
 ghost use Rattle.std.specs.Prelude.{◌≡◌, MatchBool};
 ghost use Rattle.sspi_gate.specs.Front.{MaySend, refusing_code};
 ghost use Rattle.sspi_framing.specs.Taking.{IsWhole};

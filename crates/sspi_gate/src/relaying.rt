@@ -1,3 +1,5 @@
+//! The relay between a client and a server.
+
 ghost use Rattle.sspi_gate.specs.Relay.{IsRelay};
 ghost use Rattle.sspi_gate.specs.Way.{way};
 

@@ -1,3 +1,5 @@
+//! Relays between recorded streams, whole, damaged and failing.
+
 mod damages;
 mod faults;
 mod rows;

@@ -1,3 +1,5 @@
+//! Which answers of an end are refusals.
+
 ghost use Rattle.sspi_live.specs.Steps.{AnswersTold, refusal_by};
 ghost use Rattle.sspi_delegate.specs.Halves.{IsAnswerTo};
 

@@ -1,3 +1,5 @@
+//! `connect`: a client over a channel to its server.
+
 ghost use Rattle.std.specs.Prelude.{◌≡◌, ℕ, ◌+◌, ◌<◌, ◌≤◌, length, OnOk};
 ghost use Rattle.sspi_credssp.specs.declared.turn.End.{End};
 ghost use Rattle.sspi_credssp.specs.Context.{either};

@@ -1,3 +1,5 @@
+//! Reads the next request of the channel.
+
 ghost use Rattle.sspi_live.specs.Reading.{Reads};
 
 use sspi_ber::{Source, WireKind};

@@ -1,3 +1,5 @@
+//! `serve`: a server over a channel to its client.
+
 ghost use Rattle.std.specs.Prelude.{◌≡◌, ℕ, ◌+◌, ◌<◌, ◌≤◌, length, OnOk};
 ghost use Rattle.sspi_credssp.specs.declared.turn.End.{End};
 ghost use Rattle.sspi_credssp.specs.Context.{either};

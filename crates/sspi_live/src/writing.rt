@@ -1,3 +1,5 @@
+//! Writes a message to the channel, in one piece.
+
 ghost use Rattle.sspi_ber.specs.Outside.{WriteCause, WritesIf};
 ghost use Rattle.sspi_tsreq.specs.Spelling.{fits, spelled};
 ghost use Rattle.sspi_delegate.specs.Link.{newest_message};

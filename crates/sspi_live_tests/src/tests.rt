@@ -1,3 +1,5 @@
+//! Ends over channels: recorded peers, pieces, pipes and failing channels.
+
 mod connecting;
 mod pieces;
 mod pipes;

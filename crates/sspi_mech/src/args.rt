@@ -1,3 +1,5 @@
+//! What a step of a mechanism is given.
+
 use sspi_names::CredentialsBuffers;
 use sspi_types::{ClientRequestFlags, DataRepresentation, ServerRequestFlags};
 

@@ -1,3 +1,5 @@
+//! What a mechanism is made of.
+
 ghost use Rattle.std.specs.Prelude.{◌≡◌, Some, IfOk, replicate};
 
 use sspi_names::KdcTable;

@@ -1,3 +1,5 @@
+//! The trait of what answers a mechanism's questions for a KDC.
+
 ghost use Rattle.std.specs.Prelude.{◌≡◌};
 ghost use Rattle.sspi_types.specs.Counting.{counted_on};
 ghost use Rattle.sspi_mech.specs.Asking.{AskCause, IsTold};

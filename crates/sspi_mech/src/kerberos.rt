@@ -1,3 +1,5 @@
+//! Plain Kerberos, a stand-in: anyone can read, forge and replay its messages.
+
 ghost use Rattle.std.specs.Prelude.{◌≡◌, IfErr, option_copied};
 ghost use Rattle.sspi_mech.specs.declared.step.Progressing.TheVariants as progress;
 ghost use Rattle.sspi_mech.specs.Answers.{answer_of};

@@ -1,3 +1,5 @@
+//! The trait `Mechanism`, with its laws.
+
 ghost use Rattle.std.specs.Prelude.{◌≡◌, ◌≢◌, ◌<◌, Some, IsTrue, IfOk, IfErr, OnOk, OnErr, option_copied};
 ghost use Rattle.sspi_types.specs.Errors.{memory_error};
 ghost use Rattle.sspi_mech.specs.Calls.{step_args, accept_args, no_counts, one_sealing, one_unsealing, one_signing, one_verification};

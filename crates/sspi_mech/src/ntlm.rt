@@ -1,3 +1,5 @@
+//! Plain NTLM, a stand-in: anyone can read, forge and replay its messages.
+
 ghost use Rattle.std.specs.Prelude.{option_copied};
 
 mod acquire;

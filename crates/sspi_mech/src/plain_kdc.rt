@@ -1,3 +1,5 @@
+//! A KDC for plain Kerberos, a stand-in: anyone can read, forge and replay its messages.
+
 ghost use Rattle.std.specs.Prelude.{◌≡◌, ◌++◌, IfOk, option_copied};
 ghost use Rattle.std.specs.List.{slice_get};
 ghost use Rattle.sha2.specs.Sha256.{sha256};

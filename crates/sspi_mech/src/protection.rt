@@ -1,3 +1,5 @@
+//! How the plain mechanisms tag messages and MICs, by direction and number.
+
 ghost use Rattle.std.specs.Prelude.{◌≡◌, ◌+◌, ◌-◌, ◌^◌, ◌==◌, false, true, None, Some, IfOk, OnOk, OnErr, IfErr};
 ghost use Rattle.sspi_mech.specs.Protection.{direction_byte, tag_of, seal_tag, mic_of, SealsBy, OpensBy, SignsBy, VerifiesBy};
 ghost use Rattle.sspi_mech.specs.Protection.{making_refusal, unseal_refusal, verify_refusal, no_protection};

@@ -1,3 +1,5 @@
+//! A refusal without a code of the peer: a kind and a reason.
+
 ghost use Rattle.std.specs.Prelude.{◌≡◌};
 ghost use Rattle.sspi_types.specs.Errors.{memory_error};
 ghost use Rattle.sspi_names.specs.Utf16.{utf16_refusal};

@@ -1,3 +1,5 @@
+//! What a step answers: a status and a token, or a question for a KDC.
+
 ghost use Rattle.std.specs.Prelude.{◌≡◌};
 
 use sspi_names::NetworkRequest;

@@ -1,3 +1,5 @@
+//! Scripts of calls on the plain mechanisms, with what each has to answer.
+
 mod asks;
 mod came;
 mod checks;

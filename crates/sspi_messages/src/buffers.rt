@@ -1,4 +1,5 @@
-// The buffers that a call takes: the first of their types without flags.
+//! Finds the buffers that a message call reads and writes.
+
 ghost use Rattle.std.specs.Prelude.{◌≡◌, ◌≢◌, option_map, position};
 ghost use Rattle.std.specs.Borrow.{sem};
 ghost use Rattle.sspi_types.specs.BufferTypes.{buffer_type_number};

@@ -1,3 +1,5 @@
+//! The trait of a context that seals and signs messages.
+
 ghost use Rattle.std.specs.Prelude.{◌≡◌, ◌≢◌, ◌≤◌, None, length, IfOk, IfErr, OnOk, OnErr};
 ghost use Rattle.sspi_mech.specs.Calls.{one_sealing, one_unsealing, one_signing, one_verification, ToSeal, ToUnseal, ToSign, ToVerify};
 ghost use Rattle.sspi_mech.specs.Answered.{IsRefusedAs};

@@ -1,3 +1,5 @@
+//! The answer to queries that a package does not have.
+
 ghost use Rattle.std.specs.Prelude.{◌≡◌};
 ghost use Rattle.sspi_messages.specs.Unsupported.{unsupported};
 

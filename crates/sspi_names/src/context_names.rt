@@ -1,3 +1,5 @@
+//! The name of a context's user (SecPkgContext_Names).
+
 ghost use Rattle.std.specs.Prelude.{◌≡◌, IfOk};
 
 use crate::username::Username;

@@ -1,3 +1,5 @@
+//! Identities as buffers of UTF-16, and back.
+
 ghost use Rattle.std.specs.Prelude.{◌≡◌, Some, IfOk, is_none};
 ghost use Rattle.sspi_names.specs.Identity.{AreBuffers, buffers_of, identity_of, user_text, domain_text, IsIdentified};
 ghost use Rattle.sspi_names.specs.Splits.{IsNameOfParts};

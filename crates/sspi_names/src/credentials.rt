@@ -1,3 +1,5 @@
+//! What a client authenticates by: a password or a key table.
+
 ghost use Rattle.std.specs.Prelude.{◌≡◌, IfOk, option_copied};
 
 use crate::identity::{AuthIdentity, AuthIdentityBuffers, KeytabIdentity};

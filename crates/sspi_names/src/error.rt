@@ -1,3 +1,5 @@
+//! Why a text is no user name, or bytes are no UTF-16.
+
 use sspi_types::{Error, ErrorKind, Reason};
 use std::alloc::{AllocError, AllocFailed};
 

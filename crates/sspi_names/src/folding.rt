@@ -1,3 +1,5 @@
+//! Equality of texts but for the case of ASCII letters.
+
 ghost use Rattle.std.specs.Prelude.{◌≡◌};
 ghost use Rattle.sspi_names.specs.Name.{same_text};
 

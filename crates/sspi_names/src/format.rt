@@ -1,3 +1,5 @@
+//! The two forms of a user name.
+
 ghost use Rattle.std.specs.Prelude.{◌≡◌};
 
 /// The two forms of a user name.

@@ -1,3 +1,5 @@
+//! A user name with its password, as text and as UTF-16.
+
 ghost use Rattle.std.specs.Prelude.{◌≡◌, IfOk};
 
 use crate::username::Username;

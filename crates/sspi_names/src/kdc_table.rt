@@ -1,3 +1,5 @@
+//! Which KDC serves which realm.
+
 ghost use Rattle.std.specs.Prelude.{◌≡◌, ◌∷◌, ◌++◌, [], OnOk, OnErr, IfOk, IfErr, option_copied};
 ghost use Rattle.sspi_names.specs.Kdcs.{first_entry};
 

@@ -1,3 +1,5 @@
+//! What a mechanism asks of a KDC: transport, URL and bytes.
+
 ghost use Rattle.std.specs.Prelude.{◌≡◌, IfOk};
 
 use sspi_types::{Bytes, Text};

@@ -1,3 +1,5 @@
+//! Reads and makes user names (MS-ADTS 5.1.1.1).
+
 ghost use Rattle.std.specs.Prelude.{[], length, ◌<◌, option_copied, unwrap_or};
 ghost use Rattle.sspi_names.specs.Name.{parse_name, new_name};
 ghost use Rattle.sspi_names.specs.Named.{IsNamed};

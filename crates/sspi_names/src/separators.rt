@@ -1,3 +1,5 @@
+//! Finds the separators of a user name.
+
 ghost use Rattle.std.specs.Prelude.{◌≡◌, ◌+◌, ◌<◌, false, take, drop, length, slice_index, MatchOption};
 ghost use Rattle.sspi_names.specs.Places.{IsFirst, IsLast};
 ghost use Rattle.sspi_names.specs.Name.{at_sign, backslash, has_at_sign, has_backslash, has_separator};

@@ -1,3 +1,5 @@
+//! Where the separator of a user name is.
+
 ghost use Rattle.std.specs.Prelude.{◌≡◌, ◌<◌, false, None, Some, MatchOption};
 
 use crate::separators::{after, contains_backslash, first_backslash, last_at_sign};

@@ -1,3 +1,5 @@
+//! User names: user principal names and down-level logon names.
+
 ghost use Rattle.std.specs.Prelude.{◌≡◌, ◌<◌, false, length, IfOk, option_copied};
 
 use crate::folding::is_same;

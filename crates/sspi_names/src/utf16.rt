@@ -1,3 +1,5 @@
+//! Well-formed texts of UTF-16.
+
 ghost use Rattle.std.specs.Prelude.{◌≡◌, ◌==◌, ◌≤◌, ◌∷◌, count_by, length, true, not, IfOk, IfSome, MatchOption, string_bytes};
 ghost use Rattle.std.specs.Char.Utf16.{has_unpaired_surrogate};
 ghost use Rattle.std.specs.Result.{is_ok};

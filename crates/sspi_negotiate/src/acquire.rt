@@ -1,3 +1,5 @@
+//! AcquireCredentialsHandle of a negotiation.
+
 ghost use Rattle.std.specs.Prelude.{◌≡◌, ◌≢◌, ◌&&◌, None, Some, true, false, IfOk, IfErr, IfSome, OnOk, OnErr};
 ghost use Rattle.std.specs.Prelude.{option_map, option_copied};
 ghost use Rattle.sspi_names.specs.Identity.{credentials_buffers_of};

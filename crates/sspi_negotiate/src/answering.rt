@@ -1,4 +1,5 @@
-// A client's later steps (states InProgress and VerifyMic), and `resume`.
+//! A client's later steps: it reads the server's token and answers it.
+
 ghost use Rattle.std.specs.Prelude.{◌≡◌, ◌<◌, [], false, true, not, None, Some, IfErr, OnErr, option_and_then, option_map, option_copied};
 ghost use Rattle.sspi_mech.specs.Answers.{answer_of, IfRefused, OnAsk};
 ghost use Rattle.sspi_mech.specs.Calls.{step_args};

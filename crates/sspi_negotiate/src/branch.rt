@@ -1,3 +1,5 @@
+//! Which step of a client waits for a KDC, with what the rest of that step needs.
+
 ghost use Rattle.std.specs.Prelude.{◌≡◌, IfOk};
 ghost use Rattle.sspi_mech.specs.Calls.{step_args};
 ghost use Rattle.sspi_negotiate.specs.Client.{first_step_of};

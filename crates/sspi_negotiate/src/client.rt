@@ -1,4 +1,5 @@
-// What comes before each step of a client, and the states.
+//! InitializeSecurityContext of a negotiation, and `resume`.
+
 ghost use Rattle.std.specs.Prelude.{◌≡◌, ◌≢◌, ◌&&◌, false, true, None, Some, IfErr, OnErr};
 ghost use Rattle.sspi_names.specs.Identity.{identity_of, buffers_of};
 ghost use Rattle.sspi_names.specs.declared.credentials.CredentialsBuffers.TheVariants as buffered;

@@ -1,4 +1,5 @@
-// What a negotiation is as a security context: the mechanism in hand, once it has authenticated.
+//! What a negotiation passes on to its selected mechanism: identities, names, completion.
+
 ghost use Rattle.std.specs.Prelude.{◌≡◌, ◌≢◌, ◌-◌, [], ◌∷◌, None, true, false, IsTrue, IsErr, IfOk, IfErr, OnOk, OnErr};
 ghost use Rattle.sspi_mech.specs.Calls.{one_sealing, one_unsealing, ToName, ToIdentify, ToComplete, ToSeal, ToUnseal};
 ghost use Rattle.sspi_mech.specs.Answered.{IsRefusedAs};

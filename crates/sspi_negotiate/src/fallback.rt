@@ -1,3 +1,5 @@
+//! After which refusals of Kerberos a client goes on with NTLM.
+
 ghost use Rattle.std.specs.Prelude.{◌≡◌};
 ghost use Rattle.sspi_negotiate.specs.Fallback.{is_fallback};
 

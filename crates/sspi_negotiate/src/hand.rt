@@ -1,4 +1,5 @@
-// The calls of the mechanism in hand.
+//! The selected mechanism: its calls, and how one takes the place of another.
+
 ghost use Rattle.std.specs.Prelude.{◌≡◌, ◌≢◌, ◌<◌, [], ◌∷◌, true, false, IsTrue, IsErr, IfOk, IfErr};
 ghost use Rattle.std.specs.Prelude.{OnOk, OnErr, Some, None, option_copied};
 ghost use Rattle.sspi_types.specs.Errors.{memory_error};

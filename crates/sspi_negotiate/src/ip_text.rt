@@ -1,3 +1,5 @@
+//! Which texts are IP addresses (RFC 3986 3.2.2, RFC 4291 2.2).
+
 ghost use Rattle.std.specs.Prelude.{◌↔◌, IsTrue};
 ghost use Rattle.sspi_negotiate.specs.IpText.{IsIpText};
 

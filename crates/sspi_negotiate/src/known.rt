@@ -1,3 +1,5 @@
+//! Finds identities by name.
+
 ghost use Rattle.std.specs.Prelude.{◌≡◌, IfOk, map};
 ghost use Rattle.std.specs.List.{list_any};
 ghost use Rattle.sspi_names.specs.declared.credentials.Credentials.TheVariants as credentials;

@@ -1,4 +1,5 @@
-// What a negotiation does with messages: what the mechanism in hand does.
+//! EncryptMessage, DecryptMessage, MakeSignature and VerifySignature of a negotiation.
+
 ghost use Rattle.std.specs.Prelude.{◌≡◌, IfOk, IfErr, OnErr, IsSome};
 ghost use Rattle.sspi_messages.specs.Messages.{to_encrypt, to_decrypt, to_sign, to_verify};
 ghost use Rattle.sspi_messages.specs.Messages.{Encrypts, Decrypts, Signs, Verifies, Refuses, IsRefusal, IsJudged};

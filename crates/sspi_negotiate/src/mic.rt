@@ -1,4 +1,5 @@
-// The MICs over the mechanism list (RFC 4178, section 5).
+//! Makes and verifies MICs over the mechanism list (RFC 4178 5).
+
 ghost use Rattle.std.specs.Prelude.{◌≡◌, ◌≢◌, false, None, Some, IfOk, IfErr, OnOk, OnErr, map};
 ghost use Rattle.std.specs.List.{list_any};
 ghost use Rattle.sspi_mech.specs.Calls.{one_signing, one_verification, ToSign, ToVerify};

@@ -1,3 +1,5 @@
+//! One end of a SPNEGO negotiation (RFC 4178, MS-SPNG).
+
 ghost use Rattle.std.specs.Prelude.{◌≡◌, [], true, None, OnErr};
 ghost use Rattle.sspi_mech.specs.Answered.{answered};
 ghost use Rattle.sspi_negotiate.specs.Does.{Does, Stays, StaysPicked, StaysConfigured};

@@ -1,3 +1,5 @@
+//! The configuration of one end of a negotiation.
+
 ghost use Rattle.std.specs.Prelude.{◌≡◌, None, IfOk};
 
 use crate::protocol_config::ProtocolConfig;

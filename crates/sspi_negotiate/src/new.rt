@@ -1,4 +1,5 @@
-// How the ends of a negotiation begin.
+//! Makes a negotiation of its configuration.
+
 ghost use Rattle.std.specs.Prelude.{◌≡◌, ◌≢◌, None, IfOk, IfErr};
 ghost use Rattle.sspi_mech.specs.Calls.{no_counts};
 ghost use Rattle.sspi_negotiate.specs.Hand.{hand};

@@ -1,4 +1,5 @@
-// A client's first step, and what comes of it where it is refused (state Initial).
+//! A client's first step: it chooses a mechanism, steps it and makes NegTokenInit.
+
 ghost use Rattle.std.specs.Prelude.{◌≡◌, ◌≢◌, ◌&&◌, false, true, not, None, Some, OnErr};
 ghost use Rattle.std.specs.Prelude.{option_copied};
 ghost use Rattle.sspi_mech.specs.Answers.{answer_of, IfRefused};

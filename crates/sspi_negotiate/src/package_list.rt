@@ -1,3 +1,5 @@
+//! Which packages a negotiation may use, as a list of names.
+
 ghost use Rattle.std.specs.Prelude.{◌≡◌, not, if◌then◌else◌};
 ghost use Rattle.std.specs.Option.{option_copied};
 ghost use Rattle.sspi_negotiate.specs.PackageList.{packages_of, is_marked, is_name_of};

@@ -1,3 +1,5 @@
+//! Which mechanism a server picks of a client's list.
+
 ghost use Rattle.std.specs.Prelude.{◌≡◌, IfOk};
 ghost use Rattle.sspi_negotiate.specs.Pick.{oid_of, is_kind, place_of, found_or, picked_or, pick, offered};
 

@@ -1,3 +1,5 @@
+//! The selected mechanism of a negotiation.
+
 ghost use Rattle.std.specs.Prelude.{◌≡◌};
 ghost use Rattle.sspi_negotiate.specs.Hand.{hand_of, is_kerberos_hand};
 ghost use Rattle.sspi_negotiate.specs.Protocol.{is_kerberos, is_ntlm, protocol_name};

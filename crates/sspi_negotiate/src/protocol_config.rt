@@ -1,3 +1,5 @@
+//! The mechanism that a negotiation begins with.
+
 ghost use Rattle.std.specs.Prelude.{◌≡◌, IfOk, IfErr};
 ghost use Rattle.sspi_types.specs.Errors.{memory_error};
 ghost use Rattle.sspi_mech.specs.Calls.{no_counts};

@@ -1,4 +1,5 @@
-// What a negotiation tells of itself: what the mechanism in hand tells, but for the entry of its own package.
+//! QueryContextAttributes of a negotiation.
+
 ghost use Rattle.std.specs.Prelude.{◌≡◌, ◌≢◌, Some, None, IfOk, IfErr};
 ghost use Rattle.sspi_types.specs.Errors.{memory_error};
 ghost use Rattle.sspi_types.specs.Packages.{negotiate_entry};

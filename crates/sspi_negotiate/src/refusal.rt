@@ -1,3 +1,5 @@
+//! The refusal of a token that may not come here.
+
 ghost use Rattle.std.specs.Prelude.{◌≡◌};
 
 use sspi_mech::Refusal;

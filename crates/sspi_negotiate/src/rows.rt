@@ -1,4 +1,5 @@
-// What the steps of both ends look at.
+//! Tests that both ends make at each step.
+
 ghost use Rattle.std.specs.Prelude.{◌≡◌, IfOk, option_copied};
 ghost use Rattle.sspi_negotiate.specs.Client.{is_guest, is_ok, has_begun, passwords, handle_for};
 ghost use Rattle.sspi_negotiate.specs.Rows.{client_wants_mic, server_wants_mic, is_over, is_complete, is_guest_text, if_some};

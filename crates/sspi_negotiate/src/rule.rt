@@ -1,3 +1,5 @@
+//! Which Kerberos takes the place of NTLM, where a KDC serves the name's domain.
+
 ghost use Rattle.std.specs.Prelude.{◌≡◌, None, IfOk, IfErr, IfSome, OnOk, OnErr, option_copied};
 ghost use Rattle.std.specs.Option.{unwrap_or};
 ghost use Rattle.sspi_mech.specs.Calls.{no_counts};

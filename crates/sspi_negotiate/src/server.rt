@@ -1,4 +1,5 @@
-// The steps of a server, and its first one: the offer is read and a mechanism is picked, in the order of `specs/Server.antt`.
+//! AcceptSecurityContext of a negotiation.
+
 ghost use Rattle.std.specs.Prelude.{◌≡◌, ◌≢◌, [], true, None, Some, IfOk, IfErr, OnErr};
 ghost use Rattle.sspi_mech.specs.Calls.{accept_args};
 ghost use Rattle.sspi_mech.specs.Context.{NeitherSealsNorOpens};

@@ -1,4 +1,5 @@
-// The later steps of a server: the mechanism authenticates, and the MICs protect the list.
+//! How a server ends a step: the identities, the MICs and the last token.
+
 ghost use Rattle.std.specs.Prelude.{◌≡◌, [], not, None, Some, OnErr};
 ghost use Rattle.sspi_names.specs.Name.{inner_of};
 ghost use Rattle.sspi_mech.specs.Calls.{accept_args};

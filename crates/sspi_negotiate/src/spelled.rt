@@ -1,3 +1,5 @@
+//! Encodes tokens and the mechanism list that MICs are over.
+
 ghost use Rattle.sspi_mech.specs.Answered.{answered};
 ghost use Rattle.sspi_tokens.specs.Spelling.{spelled_init, spelled_list, spelled_targ};
 ghost use Rattle.sspi_negotiate.specs.Spelled.{IsSpelled};

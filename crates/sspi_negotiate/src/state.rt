@@ -1,3 +1,5 @@
+//! How far a negotiation has come, and by that which end it is.
+
 /// How far a negotiation came.
 #[derive(Clone, Copy, Debug, PartialEq, Eq)]
 pub enum NegotiateState {

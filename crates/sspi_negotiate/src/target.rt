@@ -1,3 +1,5 @@
+//! Which targets are named by an IP address.
+
 ghost use Rattle.std.specs.Prelude.{◌≡◌, ◌↔◌, ◌+◌, ◌<◌, false, IsTrue, MatchOption, length, drop, slice_index, option_copied};
 ghost use Rattle.std.specs.List.{list_any};
 ghost use Rattle.sspi_names.specs.Places.{IsLast};

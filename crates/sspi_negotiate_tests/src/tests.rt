@@ -1,3 +1,5 @@
+//! Scripts of tokens for both ends, with what each step has to answer.
+
 mod addresses;
 mod came;
 mod checks;

@@ -1,4 +1,5 @@
-// What an envelope says.
+//! Reads what a host reports in the place of a token or a blob.
+
 ghost use Rattle.std.specs.Prelude.{◌≡◌, option_copied, option_map};
 ghost use Rattle.sspi_outside.specs.Envelope.{denied_by, introduced, said, text_in};
 ghost use Rattle.sspi_outside.specs.Seen.{seen};

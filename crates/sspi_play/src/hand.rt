@@ -1,3 +1,5 @@
+//! Hands one delivery to its end.
+
 ghost use Rattle.std.specs.Prelude.{◌≡◌, List, ◌∷◌, OnOk, OnErr, IfErr};
 ghost use Rattle.sspi_credssp.specs.Ends.{ClientView, ServerView};
 ghost use Rattle.sspi_credssp.specs.Context.{either};

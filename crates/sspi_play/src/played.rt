@@ -1,3 +1,5 @@
+//! What a play is given and what it answers.
+
 use sspi_ber::WireKind;
 use sspi_delegate::End;
 use sspi_names::AuthIdentity;

@@ -1,3 +1,5 @@
+//! `play`: an attacker's deliveries, each to its end, in order.
+
 ghost use Rattle.std.specs.Prelude.{◌≡◌, [], IfErr};
 ghost use Rattle.sspi_credssp.specs.Context.{either};
 ghost use Rattle.sspi_delegate.specs.Chain.{kdc_calls};

@@ -1,3 +1,5 @@
+//! The ends of a scenario.
+
 ghost use Rattle.std.specs.Prelude.{◌≡◌, IfOk, IsErr, OnErr, Ok};
 ghost use Rattle.sspi_credssp.specs.Ends.{IsFreshClient, IsFreshServer};
 ghost use Rattle.sspi_program.specs.Ends.{credentials_in, IsClientOf, IsServerOf, link_in, kdc_in};

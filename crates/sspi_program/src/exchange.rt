@@ -1,3 +1,5 @@
+//! The exchange of a scenario's ends over its link.
+
 ghost use Rattle.std.specs.Prelude.{◌≡◌, IfOk};
 ghost use Rattle.sspi_program.specs.Delegate.{HasExchange};
 ghost use Rattle.sspi_program.specs.Ends.{link_in};

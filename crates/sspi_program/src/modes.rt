@@ -1,3 +1,5 @@
+//! How the ends of a scenario authenticate.
+
 ghost use Rattle.std.specs.Prelude.{◌≡◌, IfOk};
 ghost use Rattle.sspi_program.specs.Ends.{
   client_mode_in,

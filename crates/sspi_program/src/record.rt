@@ -1,3 +1,5 @@
+//! What is kept of a run, with its exit status.
+
 ghost use Rattle.std.specs.Prelude.{◌≡◌};
 ghost use Rattle.sspi_program.specs.Kept;
 ghost use Rattle.sspi_program.specs.Kept.{keeping, seating, tallying};

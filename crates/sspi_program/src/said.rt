@@ -1,3 +1,5 @@
+//! What a run comes to, before it is written.
+
 ghost use Rattle.std.specs.Prelude.{◌≡◌, ◌++◌, IfOk};
 ghost use Rattle.sspi_program.specs.Said.{delegated_status, early_status, heard_status, report_of, status_of};
 ghost use Rattle.sspi_program.specs.Telling.{IsDoneWith, SaysOf, SaysWith};

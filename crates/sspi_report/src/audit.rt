@@ -1,3 +1,5 @@
+//! The line of an audit.
+
 ghost use Rattle.std.specs.Prelude.{◌≡◌, string_bytes, IfOk};
 ghost use Rattle.sspi_report.specs.Audit.{audit_line};
 

@@ -1,3 +1,5 @@
+//! The report of an exchange.
+
 ghost use Rattle.std.specs.Prelude.{◌≡◌, IfOk};
 ghost use Rattle.sspi_report.specs.Report.{report_text};
 

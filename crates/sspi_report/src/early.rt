@@ -1,3 +1,5 @@
+//! The lines of an early user authorization result.
+
 ghost use Rattle.std.specs.Prelude.{◌≡◌, string_bytes, option_map, IfOk};
 ghost use Rattle.sspi_report.specs.Early.{early_line, early_text, heard_line, result_name};
 

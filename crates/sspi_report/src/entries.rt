@@ -1,3 +1,5 @@
+//! The lines of a log's entries.
+
 ghost use Rattle.std.specs.Prelude.{◌≡◌, ◌++◌, string_bytes, OnOk};
 ghost use Rattle.hex.specs.Hex.{encode_lower};
 ghost use Rattle.sspi_report.specs.Entries.{entry_text, line, mark};

@@ -1,3 +1,5 @@
+//! The line of a relay.
+
 ghost use Rattle.std.specs.Prelude.{◌≡◌, string_bytes, option_map, IfOk};
 ghost use Rattle.sspi_report.specs.Gate.{close_text, gate_line, passed_line, stop_text};
 

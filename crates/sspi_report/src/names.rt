@@ -1,3 +1,5 @@
+//! How reports name ends and faults.
+
 ghost use Rattle.std.specs.Prelude.{◌≡◌};
 ghost use Rattle.sspi_report.specs.Names.{end_name, fault_name};
 

@@ -1,3 +1,5 @@
+//! The line of an exchange's outcome.
+
 ghost use Rattle.std.specs.Prelude.{◌≡◌, ◌++◌, string_bytes, option_map, codes, IfOk};
 ghost use Rattle.sspi_report.specs.Outcome.{delegated_text, error_line, outcome_line, read_text, refusal_text, write_text};
 ghost use Rattle.sspi_report.specs.Entries.{line};

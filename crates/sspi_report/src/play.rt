@@ -1,3 +1,5 @@
+//! The report of a play.
+
 ghost use Rattle.std.specs.Prelude.{◌≡◌, ◌++◌, codes, string_bytes, IfOk, OnOk};
 ghost use Rattle.sspi_report.specs.Entries.{line};
 ghost use Rattle.sspi_report.specs.Play.{ending_text, identity_text, message_text, play_text, standing_line, turn_text};

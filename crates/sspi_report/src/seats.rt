@@ -1,3 +1,5 @@
+//! The lines of a table's seats.
+
 ghost use Rattle.std.specs.Prelude.{◌≡◌, ◌++◌, string_bytes, IfOk, OnOk};
 ghost use Rattle.sspi_report.specs.Entries.{line};
 ghost use Rattle.sspi_report.specs.Seats.{seat_line, seat_text, seats_text};

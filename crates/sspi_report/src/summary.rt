@@ -1,3 +1,5 @@
+//! The summary of many exchanges.
+
 ghost use Rattle.std.specs.Prelude.{◌≡◌, ◌++◌, string_bytes, IfOk, OnOk};
 ghost use Rattle.sspi_report.specs.Summary.{count_line, is_of, is_same, place, summary_text};
 

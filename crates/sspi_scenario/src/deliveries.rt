@@ -1,3 +1,5 @@
+//! Reads a delivery of a scenario's schedule.
+
 ghost use Rattle.sspi_scenario.specs.Deliveries.{delivery_of};
 ghost use Rattle.sspi_scenario.specs.Reads.{Reads};
 

@@ -1,3 +1,5 @@
+//! What the lines read so far tell.
+
 ghost use Rattle.std.specs.Prelude.{◌≡◌, [], IfOk, OnOk};
 ghost use Rattle.sspi_scenario.specs.Drafts.{draft_of, Takes, Completes, draft_completed, noted};
 

@@ -1,3 +1,5 @@
+//! Reads an edit of a scenario's link.
+
 ghost use Rattle.std.specs.Prelude.{◌≡◌};
 ghost use Rattle.sspi_scenario.specs.Edits;
 ghost use Rattle.sspi_scenario.specs.Edits.{edit_of, kind_of, set_of};

@@ -1,3 +1,5 @@
+//! Why a line or a value is none of a scenario.
+
 use hex::FromHexError;
 use std::alloc::AllocError;
 

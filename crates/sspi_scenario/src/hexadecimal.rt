@@ -1,3 +1,5 @@
+//! Reads values in hex.
+
 ghost use Rattle.std.specs.Prelude.{◌≡◌};
 ghost use Rattle.sspi_scenario.specs.Hex.{hex_of, hex_byte_of, hex_of_size};
 ghost use Rattle.sspi_scenario.specs.Reads.{Reads};

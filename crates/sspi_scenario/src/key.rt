@@ -1,3 +1,5 @@
+//! The keys of a scenario.
+
 ghost use Rattle.std.specs.Prelude.{◌≡◌};
 ghost use Rattle.sspi_scenario.specs.Keys;
 ghost use Rattle.sspi_scenario.specs.Keys.{key_named};

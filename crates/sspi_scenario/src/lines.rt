@@ -1,3 +1,5 @@
+//! Splits a text into lines, and a line at its first separator.
+
 ghost use Rattle.std.specs.Prelude.{◌≡◌, ◌<◌, ◌∷◌, length, Some, None, MatchOption, IfSome, option_copied};
 ghost use Rattle.sspi_scenario.specs.Lines;
 ghost use Rattle.sspi_scenario.specs.Lines.{lines_of, before_space, after_space};

@@ -1,3 +1,5 @@
+//! Reads decimal numbers.
+
 ghost use Rattle.std.specs.Prelude.{◌≡◌};
 ghost use Rattle.sspi_scenario.specs.Numbers.{number_of};
 

@@ -1,3 +1,5 @@
+//! What a scenario is for, and so which keys it may have.
+
 ghost use Rattle.std.specs.Prelude.{◌≡◌};
 ghost use Rattle.sspi_scenario.specs.Purposes;
 ghost use Rattle.sspi_scenario.specs.Purposes.{key_for};

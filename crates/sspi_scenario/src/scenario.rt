@@ -1,3 +1,5 @@
+//! A scenario, and how a text is read as one.
+
 ghost use Rattle.std.specs.Prelude.{◌≡◌, ◌≤◌, true, false, length, IfOk, IfErr};
 ghost use Rattle.sspi_scenario.specs.declared.scenario.ScenarioError.TheVariants.{Line};
 ghost use Rattle.sspi_scenario.specs.Scenario.{Parses, is_readable};

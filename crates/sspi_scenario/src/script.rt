@@ -1,3 +1,5 @@
+//! Reads the script of a KDC.
+
 ghost use Rattle.std.specs.Prelude.{◌≡◌};
 ghost use Rattle.sspi_scenario.specs.Scripts.{scripted_of, code_of, code_in, numbered_code};
 

@@ -1,3 +1,5 @@
+//! The values of a scenario, with defaults for the keys that it lacks.
+
 ghost use Rattle.std.specs.Prelude.{◌≡◌, Some, Err, IfOk, IfErr, OnOk};
 ghost use Rattle.sspi_names.specs.Name.{parse_name};
 ghost use Rattle.sspi_scenario.specs.Accounts.{account_of};

@@ -1,3 +1,5 @@
+//! Reads values that are words.
+
 ghost use Rattle.std.specs.Prelude.{◌≡◌};
 ghost use Rattle.sspi_scenario.specs.Words.{mode_of, package_of, delegation_of, accounts_of, end_of};
 

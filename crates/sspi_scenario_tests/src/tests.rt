@@ -1,3 +1,5 @@
+//! Texts of scenarios, read, refused and taken from failing sources.
+
 mod checks;
 mod faults;
 mod numbered;

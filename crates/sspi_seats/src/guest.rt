@@ -1,3 +1,5 @@
+//! A client that has a session, and its turns there.
+
 ghost use Rattle.std.specs.Prelude.{◌≡◌, ◌+◌, ◌++◌, ℕ, [], ◌∷◌, None, Some, Err, OnOk, is_some};
 ghost use Rattle.sspi_credssp.specs.Context.{either};
 ghost use Rattle.sspi_credssp.specs.declared.context.SspiContext.{SspiContext};

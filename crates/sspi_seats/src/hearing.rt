@@ -1,3 +1,5 @@
+//! What an answer of the desk means for its client.
+
 ghost use Rattle.std.specs.Prelude.{◌≡◌, IfOk, OnErr, MatchResult};
 ghost use Rattle.sspi_seats.specs.Hearing.{IsHeard, IsReadAs, IsRefusal, MayLack, Speaks};
 

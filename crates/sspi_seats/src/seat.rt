@@ -1,3 +1,5 @@
+//! A client and its server, as their session left them.
+
 use sspi_ber::WireKind;
 use sspi_credssp::{CredSspClient, CredSspServer, End, Turn};
 use sspi_desk::{DeskError, Served};

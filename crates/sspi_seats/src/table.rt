@@ -1,3 +1,5 @@
+//! A table: clients join it, and are served in rounds until all have ended.
+
 ghost use Rattle.std.specs.Prelude.{◌≡◌, ◌==◌, ◌<◌, [], length, IfErr, IfOk, OnErr, OnOk};
 ghost use Rattle.sspi_credssp.specs.Context.{either};
 ghost use Rattle.sspi_delegate.specs.Chain.{kdc_calls};

@@ -1,3 +1,5 @@
+//! Mechanism lists (MechTypeList, RFC 4178 4.1).
+
 ghost use Rattle.std.specs.Prelude.{◌≡◌, ◌≤◌, length, IfOk};
 ghost use Rattle.sspi_ber.specs.Forms.{max_content};
 ghost use Rattle.sspi_ber.specs.Short.{element};

@@ -1,3 +1,5 @@
+//! The state of a negotiation in a token (negState, RFC 4178 4.2.2).
+
 ghost use Rattle.std.specs.Prelude.{◌≡◌};
 ghost use Rattle.sspi_tokens.specs.Grammar.{result_of};
 ghost use Rattle.sspi_tokens.specs.Spelling.{result_code};

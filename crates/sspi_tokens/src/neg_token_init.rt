@@ -1,3 +1,5 @@
+//! A client's first token (NegTokenInit, RFC 4178 4.2.1; MS-SPNG 2.2.1).
+
 ghost use Rattle.std.specs.Prelude.{◌≡◌, IfOk};
 ghost use Rattle.sspi_tokens.specs.Answers.{ReadsAs, WritesAs};
 ghost use Rattle.sspi_ber.specs.Short.{element};

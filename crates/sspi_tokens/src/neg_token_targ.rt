@@ -1,3 +1,5 @@
+//! Every later token (NegTokenResp, RFC 4178 4.2.2).
+
 ghost use Rattle.std.specs.Prelude.{◌≡◌, ◌≤◌, length, IfOk};
 ghost use Rattle.sspi_tokens.specs.Answers.{ReadsAs, WritesAs};
 ghost use Rattle.sspi_ber.specs.Forms.{max_content};

@@ -1,3 +1,5 @@
+//! Object identifiers of mechanisms (X.690 8.19).
+
 ghost use Rattle.std.specs.Prelude.{◌≡◌, IfOk};
 ghost use Rattle.sspi_tokens.specs.Oids.{spnego, ms_krb5, krb5, ntlm_ssp, kind_of, identifier_of};
 

@@ -1,3 +1,5 @@
+//! The fields of a token, where they are in its bytes.
+
 use crate::neg_result::NegResult;
 
 /// The fields of a `NegTokenInit`, where they stand in its bytes.

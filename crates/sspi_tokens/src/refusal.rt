@@ -1,3 +1,5 @@
+//! The refusals of `decode` and `encode`.
+
 ghost use Rattle.std.specs.Prelude.{◌≡◌};
 ghost use Rattle.sspi_tokens.specs.Answers.{malformed, too_long};
 

@@ -1,3 +1,5 @@
+//! How many bytes the parts of a token take.
+
 ghost use Rattle.std.specs.Prelude.{◌≡◌, ℕ, ◌<◌, ◌≤◌, length, MatchOption};
 ghost use Rattle.std.specs.Option.{option_map, SomeIff};
 ghost use Rattle.sspi_ber.specs.Forms.{max_content};

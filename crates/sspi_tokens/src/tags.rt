@@ -1,3 +1,5 @@
+//! The identifier octets of SPNEGO's fields.
+
 pub(crate) use sspi_ber::identifier::{OCTET_STRING, SEQUENCE};
 
 /// The identifier octet of an OBJECT IDENTIFIER.

@@ -1,3 +1,5 @@
+//! Writes the parts of a token.
+
 ghost use Rattle.std.specs.Prelude.{◌≡◌, ◌≤◌, length};
 ghost use Rattle.std.specs.Option.{option_map};
 ghost use Rattle.sspi_ber.specs.Forms.{max_content};

@@ -1,3 +1,5 @@
+//! Tokens of SPNEGO, decoded, encoded and refused.
+
 use crate::tests::checks::{given, holds, is, refusal};
 use sspi_tokens::{NegTokenInit, NegTokenTarg};
 use sspi_types::{Bytes, Error, ErrorKind, Reason};

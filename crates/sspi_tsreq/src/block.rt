@@ -1,3 +1,5 @@
+//! Reads a content in blocks, so that memory is taken only for bytes that came.
+
 ghost use Rattle.std.specs.Prelude.{◌<◌, ◌≤◌, ◌+◌, length};
 ghost use Rattle.sspi_ber.specs.Outside.{CopyCause, LeavesRest, ReadCause, Reads};
 ghost use Rattle.sspi_ber.specs.Pieces.{bytes_at};

@@ -1,3 +1,5 @@
+//! Decodes TSCredentials with a password (MS-CSSP 2.2.1.2).
+
 ghost use Rattle.std.specs.Prelude.{◌≡◌, Ok, Err, IfErr, IfSome, IsOk};
 ghost use Rattle.sspi_ber.specs.Outside.{Gives, LeavesRest, NeedsNoMemory};
 ghost use Rattle.sspi_names.specs.Utf16.{decode_le, bad_text};

@@ -1,3 +1,5 @@
+//! Encodes TSCredentials with a password (MS-CSSP 2.2.1.2).
+
 ghost use Rattle.std.specs.Prelude.{◌≡◌, ◌+◌, ◌*◌, ◌≤◌, Ok, IfOk, IfErr, IsOk, length};
 ghost use Rattle.sspi_types.specs.Errors.{memory_error};
 ghost use Rattle.sspi_ber.specs.Forms.{max_content};

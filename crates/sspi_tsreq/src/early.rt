@@ -1,3 +1,5 @@
+//! The Early User Authorization Result PDU (MS-RDPBCGR 2.2.10.2).
+
 ghost use Rattle.std.specs.Prelude.{◌≡◌};
 ghost use Rattle.sspi_ber.specs.Outside.{LeavesRest, Reads, ReadCause, Writes, WriteCause};
 

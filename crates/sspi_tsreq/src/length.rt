@@ -1,3 +1,5 @@
+//! The octets of a length, one at a time.
+
 ghost use Rattle.std.specs.Prelude.{◌≡◌, ◌∷◌, ℕ, List};
 ghost use Rattle.sspi_ber.specs.Forms.{is_integer_size};
 ghost use Rattle.sspi_tsreq.specs.Places.{length_rest};

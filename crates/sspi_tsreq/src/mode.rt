@@ -1,3 +1,5 @@
+//! Whether a client delegates its credentials.
+
 /// Whether the client delegates its credentials, or an empty identity in their place.
 #[derive(Clone, Copy, Debug, PartialEq, Eq)]
 pub enum CredSspMode {

@@ -1,3 +1,5 @@
+//! TSRequest, the message of CredSSP (MS-CSSP 2.2.1).
+
 ghost use Rattle.std.specs.Prelude.{◌≡◌, ℕ, length, IfOk};
 ghost use Rattle.sspi_ber.specs.Outside.{Reads, ReadCause, LeavesRest, WritesIf, WriteCause};
 ghost use Rattle.sspi_ber.specs.Short.{IsSizeIf};

@@ -1,3 +1,5 @@
+//! How many bytes the fields of TSRequest and TSCredentials take.
+
 ghost use Rattle.std.specs.Prelude.{◌≡◌, ℕ, ◌+◌, ◌≤◌, length, Option};
 ghost use Rattle.sspi_ber.specs.Forms.{max_content};
 ghost use Rattle.sspi_ber.specs.Short.{element_size};

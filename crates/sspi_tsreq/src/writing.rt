@@ -1,3 +1,5 @@
+//! Writes the fields of TSRequest.
+
 ghost use Rattle.std.specs.Prelude.{◌≡◌, ◌≤◌, length};
 ghost use Rattle.sspi_ber.specs.Forms.{max_content};
 ghost use Rattle.sspi_ber.specs.Short.{element, int_short};

@@ -1,3 +1,5 @@
+//! Requests and credentials, decoded, encoded, refused and read in pieces.
+
 use sspi_ber::{VecSink, WireKind};
 use sspi_tsreq::{TsReader, TsRequest};
 use std::alloc::Global;

@@ -1,3 +1,5 @@
+//! The trait of values that are texts.
+
 /// A value that is a text, borrowed as one.
 pub trait AsStr {
     ghost use Rattle.std.specs.Prelude.{◌≡◌, ℕ, List};

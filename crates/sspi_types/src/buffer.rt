@@ -1,3 +1,5 @@
+//! Security buffers (SecBuffer).
+
 ghost use Rattle.std.specs.Prelude.{◌≡◌, Some, None, find, option_map, position, IfOk, IfErr};
 ghost use Rattle.std.specs.Borrow.{sem};
 ghost use Rattle.sspi_types.specs.Buffers.{has_type, no_buffer, unflagged_buffer, LendsFirst, LendsFound};

@@ -1,3 +1,5 @@
+//! The flags of a security buffer.
+
 ghost use Rattle.std.specs.Prelude.{⊤, ◌≡◌};
 ghost use Rattle.std.specs.Int.RustNames.{bit_or};
 ghost use Rattle.sspi_types.specs.BufferFlags.{security_buffer_flags};

@@ -1,3 +1,5 @@
+//! What a security buffer holds.
+
 ghost use Rattle.std.specs.Prelude.{◌≡◌};
 ghost use Rattle.sspi_types.specs.BufferTypes.{buffer_type_number};
 ghost use Rattle.sspi_types.specs.Numbers.{ReadsNumber};

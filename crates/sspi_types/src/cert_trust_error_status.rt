@@ -1,3 +1,5 @@
+//! Why a certificate chain is not trusted.
+
 ghost use Rattle.std.specs.Prelude.{⊤, ◌≡◌};
 ghost use Rattle.std.specs.Int.RustNames.{bit_or};
 ghost use Rattle.sspi_types.specs.CertTrustFlags.{cert_trust_error_flags};

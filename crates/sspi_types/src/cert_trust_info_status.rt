@@ -1,3 +1,5 @@
+//! What is known of a certificate chain.
+
 ghost use Rattle.std.specs.Prelude.{⊤, ◌≡◌};
 ghost use Rattle.std.specs.Int.RustNames.{bit_or};
 ghost use Rattle.sspi_types.specs.CertTrustFlags.{cert_trust_info_flags};

@@ -1,3 +1,5 @@
+//! How certificates are encoded, and what is known of their chain.
+
 ghost use Rattle.std.specs.Prelude.{◌≡◌};
 ghost use Rattle.sspi_types.specs.Certificates.{cert_encoding_type_number};
 ghost use Rattle.sspi_types.specs.Numbers.{ReadsNumber};

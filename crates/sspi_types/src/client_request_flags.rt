@@ -1,3 +1,5 @@
+//! The context attributes that a client asks for.
+
 ghost use Rattle.std.specs.Prelude.{⊤, ◌≡◌};
 ghost use Rattle.std.specs.Int.RustNames.{bit_or};
 ghost use Rattle.sspi_types.specs.RequestFlags.{client_request_flags};

@@ -1,3 +1,5 @@
+//! The attributes of a client's context.
+
 ghost use Rattle.std.specs.Prelude.{⊤, ◌≡◌};
 ghost use Rattle.std.specs.Int.RustNames.{bit_or};
 ghost use Rattle.sspi_types.specs.ResponseFlags.{client_response_flags};

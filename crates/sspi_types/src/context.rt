@@ -1,3 +1,5 @@
+//! Sizes and session keys of a context, as its queries answer them.
+
 ghost use Rattle.std.specs.Prelude.{◌≡◌, IfOk};
 
 use crate::bytes::Bytes;

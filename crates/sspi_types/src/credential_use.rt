@@ -1,3 +1,5 @@
+//! What acquired credentials are used for.
+
 ghost use Rattle.std.specs.Prelude.{◌≡◌};
 ghost use Rattle.sspi_types.specs.CredentialUses.{credential_use_number};
 ghost use Rattle.sspi_types.specs.Numbers.{ReadsNumber};

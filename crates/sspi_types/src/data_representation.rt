@@ -1,3 +1,5 @@
+//! The data representation of a target.
+
 ghost use Rattle.std.specs.Prelude.{◌≡◌};
 ghost use Rattle.sspi_types.specs.DataRepresentations.{data_representation_number};
 ghost use Rattle.sspi_types.specs.Numbers.{ReadsNumber};

@@ -1,3 +1,5 @@
+//! Refusals as public calls answer them: kind, reason and NTSTATUS code.
+
 ghost use Rattle.std.specs.Prelude.{◌≡◌, None, Some};
 ghost use Rattle.sspi_types.specs.declared.reason.Reason.TheVariants as reason;
 ghost use Rattle.sspi_types.specs.Errors.{error_text, internal_error};

@@ -1,3 +1,5 @@
+//! The kinds of refusals, with their codes of winerror.h.
+
 ghost use Rattle.std.specs.Prelude.{◌≡◌};
 ghost use Rattle.sspi_types.specs.Errors.{error_kind_name, error_kind_number};
 ghost use Rattle.sspi_types.specs.Numbers.{ReadsNumber};

@@ -1,3 +1,5 @@
+//! NTSTATUS codes, with their names of ntstatus.h.
+
 ghost use Rattle.std.specs.Prelude.{◌≡◌, Some, option_map};
 ghost use Rattle.sspi_types.specs.StatusCodes.{status_name, status_text, status_debug_text};
 

@@ -1,3 +1,5 @@
+//! Security packages: their names and entries (SecPkgInfo).
+
 ghost use Rattle.std.specs.Prelude.{◌≡◌, [], ◌∷◌, Some, None, IsSome, IsOk, IfOk, IfErr};
 ghost use Rattle.sspi_types.specs.Errors.{memory_error};
 ghost use Rattle.sspi_types.specs.Packages.{kerberos_entry, negotiate_entry, ntlm_entry, package_entry, unknown_package};

@@ -1,3 +1,5 @@
+//! What a security package can do.
+
 ghost use Rattle.std.specs.Prelude.{⊤, ◌≡◌};
 ghost use Rattle.std.specs.Int.RustNames.{bit_or};
 ghost use Rattle.sspi_types.specs.Capabilities.{package_capabilities};

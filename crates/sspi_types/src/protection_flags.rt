@@ -1,3 +1,5 @@
+//! How a message is sealed or opened.
+
 ghost use Rattle.std.specs.Prelude.{⊤, ◌≡◌};
 ghost use Rattle.std.specs.Int.RustNames.{bit_or};
 ghost use Rattle.sspi_types.specs.ProtectionFlags.{encryption_flags, decryption_flags};

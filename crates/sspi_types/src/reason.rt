@@ -1,3 +1,5 @@
+//! Why a call refused, in fixed words.
+
 ghost use Rattle.std.specs.Prelude.{◌≡◌};
 ghost use Rattle.sspi_types.specs.Reasons.{reason_text};
 

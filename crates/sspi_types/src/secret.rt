@@ -1,3 +1,5 @@
+//! A wrapper for values that are secret. Nothing erases their memory.
+
 ghost use Rattle.std.specs.Prelude.{◌≡◌};
 ghost use Rattle.std.specs.Borrow.{sem};
 ghost use Rattle.sspi_types.specs.Secrets.{LendsValue};

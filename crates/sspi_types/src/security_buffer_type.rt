@@ -1,3 +1,5 @@
+//! The type and flags of a security buffer, as one number.
+
 ghost use Rattle.std.specs.Prelude.{◌≡◌};
 ghost use Rattle.sspi_types.specs.SecurityBufferTypes.{ReadsBufferType, packed_buffer_type};
 

@@ -1,3 +1,5 @@
+//! How a successful step left its context.
+
 ghost use Rattle.std.specs.Prelude.{◌≡◌};
 ghost use Rattle.sspi_types.specs.SecurityStatuses.{security_status_number};
 ghost use Rattle.sspi_types.specs.Numbers.{ReadsNumber};

@@ -1,3 +1,5 @@
+//! The context attributes that a server asks for.
+
 ghost use Rattle.std.specs.Prelude.{⊤, ◌≡◌};
 ghost use Rattle.std.specs.Int.RustNames.{bit_or};
 ghost use Rattle.sspi_types.specs.RequestFlags.{server_request_flags};

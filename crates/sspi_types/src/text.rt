@@ -1,3 +1,5 @@
+//! Texts of UTF-8.
+
 ghost use Rattle.std.specs.Prelude.{◌≡◌, ◌↔◌, [], length, string_bytes, IsTrue, IfOk};
 
 use std::alloc::{AllocError, Global};

@@ -1,3 +1,5 @@
+//! How much of a delivery and of a message an audit reads.
+
 use crate::tests::ntlm::EXCHANGE;
 use crate::tests::records::are_judged;
 

@@ -1,3 +1,5 @@
+//! Records of a SPNEGO negotiation of NTLM, at version 6 and at version 4.
+
 use crate::tests::records::are_judged;
 
 /// The same, negotiated (RFC 4178): NTLM alone is offered and picked, and both ends show a MIC.

@@ -1,3 +1,5 @@
+//! A record of plain NTLM, whole and with one part changed.
+
 use crate::tests::records::are_judged;
 
 /// DOM\ann with the password pw over the channel of the key 010203, both ends at version 6, nonce and challenge of zeros:

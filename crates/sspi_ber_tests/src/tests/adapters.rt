@@ -1,3 +1,5 @@
+//! Sources and sinks over readers and writers of std, whole and failing.
+
 use crate::tests::checks::{holds, is};
 use sspi_ber::{
     Sink, SinkError, Source, SourceError, StdSink, StdSource, WireKind, read_integer, read_length,

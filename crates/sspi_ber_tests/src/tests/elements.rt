@@ -1,3 +1,5 @@
+//! Elements with their octets, written and read.
+
 use crate::tests::checks::{holds, is};
 use sspi_ber::{
     Pc, SliceSource, Tag, VecSink, WireKind, read_contextual_tag, read_contextual_tag_or_absent,

@@ -1,3 +1,5 @@
+//! A source and a sink that fail at each call in turn.
+
 use crate::tests::checks::{holds, is};
 use sspi_ber::{
     FaultySink, FaultySource, WireKind, read_length, read_sequence_tag, write_length,

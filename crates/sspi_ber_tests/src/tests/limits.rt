@@ -1,3 +1,5 @@
+//! Sizes and headers where the form of a length changes, and at the limit.
+
 use crate::tests::checks::{gives, halves, holds, is};
 use sspi_ber::{
     VecSink, WireKind, sizeof_contextual_tag, sizeof_octet_string, sizeof_sequence,

@@ -1,3 +1,5 @@
+//! Lengths and integers with their octets, at the ends of each form.
+
 use crate::tests::checks::{given, gives, halves, holds};
 use sspi_ber::{
     SliceSource, VecSink, WireKind, read_integer, read_length, read_sequence_tag, sizeof_integer,

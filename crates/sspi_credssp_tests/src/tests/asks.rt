@@ -1,3 +1,5 @@
+//! A mechanism that asks a KDC a chosen number of times and protects nothing.
+
 ghost use Rattle.std.specs.Prelude.{◌≡◌, ◌<◌, ◌≤◌, ◌-◌, None, Some, false, true, refl, length, drop, IfErr, OnOk, OnErr};
 ghost use Rattle.std.proofs.Common.{ap, arith};
 ghost use Rattle.sspi_types.specs.Packages.{ntlm_entry};

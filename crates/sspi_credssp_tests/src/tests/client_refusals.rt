@@ -1,3 +1,5 @@
+//! Each refusal of a client, with its kind and reason.
+
 use crate::tests::asks::Asks;
 use crate::tests::stage::plays;
 use sspi_mech::Ntlm;

@@ -1,3 +1,5 @@
+//! Whole delegations, message by message.
+
 use crate::tests::stage::plays;
 use sspi_mech::Ntlm;
 

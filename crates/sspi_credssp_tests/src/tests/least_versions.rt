@@ -1,3 +1,5 @@
+//! Peers below and at the least version that an end accepts.
+
 use crate::tests::stage::plays;
 use sspi_mech::Ntlm;
 

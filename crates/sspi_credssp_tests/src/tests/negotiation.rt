@@ -1,3 +1,5 @@
+//! Delegations behind a SPNEGO negotiation.
+
 use crate::tests::stage::plays;
 use sspi_mech::Ntlm;
 

@@ -1,3 +1,5 @@
+//! Whom a server knows, and what it answers where the look-up finds none.
+
 use crate::tests::asks::Asks;
 use crate::tests::stage::plays;
 use sspi_mech::Ntlm;

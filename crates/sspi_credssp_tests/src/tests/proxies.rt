@@ -1,3 +1,5 @@
+//! The proxy over a list of identities, and the one that fails.
+
 use crate::tests::ends::{name, proxy};
 use crate::tests::words::Test;
 use sspi_credssp::{

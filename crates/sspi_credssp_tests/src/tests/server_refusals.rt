@@ -1,3 +1,5 @@
+//! Each refusal of a server, with its kind, its reason and the request that tells it.
+
 use crate::tests::asks::Asks;
 use crate::tests::stage::plays;
 use sspi_mech::Ntlm;

@@ -1,3 +1,5 @@
+//! Turns that wait for a KDC, and go on with `resume`.
+
 use crate::tests::asks::Asks;
 use crate::tests::stage::plays;
 

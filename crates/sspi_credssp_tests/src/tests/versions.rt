@@ -1,3 +1,5 @@
+//! Proofs of the key by version, and ends on both sides of version 5.
+
 use crate::tests::stage::plays;
 use sspi_mech::Ntlm;
 

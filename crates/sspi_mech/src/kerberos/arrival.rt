@@ -1,3 +1,5 @@
+//! What a server reads of a client's AP request.
+
 ghost use Rattle.std.specs.Prelude.{◌≡◌, IfErr, IsOk};
 ghost use Rattle.sspi_mech.specs.KerberosSteps.{arrival_of};
 ghost use Rattle.sspi_mech.specs.Answered.{Gives};

@@ -1,3 +1,5 @@
+//! The messages of plain Kerberos.
+
 ghost use Rattle.std.specs.Prelude.{◌≡◌, ◌<◌, ◌^◌, length, option_map, option_copied, IfOk};
 ghost use Rattle.sspi_mech.specs.KerberosMessages.{reply_proof, ticket_reply, ap_request, ap_reply, is_ticket_request, read_ticket};
 ghost use Rattle.sspi_mech.specs.KerberosMessages.{read_ap_request, read_ap_reply, as_request, tgs_request};

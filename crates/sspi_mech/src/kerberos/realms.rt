@@ -1,3 +1,5 @@
+//! Which KDC serves a realm.
+
 ghost use Rattle.std.specs.Prelude.{◌≡◌, option_copied, IfErr, IsOk};
 ghost use Rattle.sspi_mech.specs.KerberosLogon.{url_by, kdc_of};
 ghost use Rattle.sspi_mech.specs.Answered.{Gives};

@@ -1,3 +1,5 @@
+//! How far a Kerberos context has come.
+
 ghost use Rattle.std.specs.Prelude.{◌≡◌, option_copied};
 ghost use Rattle.sspi_mech.specs.KerberosStage.{own_direction, peer_direction, name_at, waits_at, left_at, pairs_at};
 ghost use Rattle.sspi_mech.specs.Advanced.{advanced};

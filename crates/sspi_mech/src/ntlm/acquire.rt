@@ -1,3 +1,5 @@
+//! The credentials that an NTLM client acquires.
+
 ghost use Rattle.std.specs.Prelude.{option_copied};
 ghost use Rattle.sspi_mech.specs.NtlmAcquire.{acquired};
 ghost use Rattle.sspi_mech.specs.Answered.{Gives};

@@ -1,3 +1,5 @@
+//! Who an NTLM client says it is, and the password that proves it.
+
 ghost use Rattle.std.specs.Prelude.{◌≡◌, find, option_copied, IfErr, IsOk};
 ghost use Rattle.std.specs.List.{list_any};
 ghost use Rattle.sspi_mech.specs.NtlmClaims.{claim_of};

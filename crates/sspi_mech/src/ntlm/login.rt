@@ -1,3 +1,5 @@
+//! As whom an NTLM client logs on.
+
 ghost use Rattle.std.specs.Prelude.{◌≡◌, ◌≤◌, length, IfOk, IfErr, option_copied};
 ghost use Rattle.sspi_names.specs.Name.{inner_of};
 ghost use Rattle.sspi_mech.specs.NtlmSteps.{login_of, MayWantLogin};

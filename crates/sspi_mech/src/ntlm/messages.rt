@@ -1,3 +1,5 @@
+//! The messages of plain NTLM.
+
 ghost use Rattle.std.specs.Prelude.{◌≡◌, ◌<◌, ◌^◌, ◌++◌, length, option_map, option_copied, IfOk};
 ghost use Rattle.sspi_mech.specs.NtlmMessages.{proof_of, key_of, challenge_message, authenticate_message, is_negotiate};
 ghost use Rattle.sspi_mech.specs.NtlmMessages.{read_challenge, read_authenticate};

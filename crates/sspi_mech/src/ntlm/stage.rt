@@ -1,3 +1,5 @@
+//! How far an NTLM context has come.
+
 ghost use Rattle.std.specs.Prelude.{◌≡◌};
 ghost use Rattle.sspi_mech.specs.NtlmStage.{own_direction, peer_direction};
 

@@ -1,3 +1,5 @@
+//! A mechanism that asks a KDC a chosen number of times.
+
 ghost use Rattle.std.specs.Prelude.{◌≡◌, ◌<◌, ◌≤◌, None, false, true, refl, length, drop, IfOk, IfErr, OnErr, IsErr, MatchOption};
 ghost use Rattle.std.proofs.Common.{ap, arith};
 ghost use Rattle.sspi_types.specs.Packages.{ntlm_entry};

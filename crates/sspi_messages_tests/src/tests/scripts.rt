@@ -1,3 +1,5 @@
+//! Scripts of message calls on every context.
+
 use crate::tests::ends::{Ends, Test, by_ntlm, negotiating};
 use crate::tests::lines::go;
 

@@ -1,3 +1,5 @@
+//! Which credentials have a password, and which a key table.
+
 use crate::tests::checks::{compares, equals, given, holds, is, is_none, told};
 use crate::tests::identities::{buffers, identity};
 use sspi_names::{

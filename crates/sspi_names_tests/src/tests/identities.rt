@@ -1,3 +1,5 @@
+//! Identities as buffers and back.
+
 use crate::tests::checks::{compares, given, holds, is, refusal};
 use crate::tests::names::field;
 use sspi_names::{AuthIdentity, AuthIdentityBuffers, Username, Utf16Text};

@@ -1,3 +1,5 @@
+//! User names, read, made and refused.
+
 use crate::tests::checks::{compares, given, holds, is, refusal};
 use sspi_names::{UserNameFormat, Username, UsernameError};
 use std::alloc::Global;

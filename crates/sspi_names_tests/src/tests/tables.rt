@@ -1,3 +1,5 @@
+//! Tables of KDCs.
+
 use crate::tests::checks::{compares, given, holds};
 use sspi_names::KdcTable;
 use std::alloc::Global;

@@ -1,3 +1,5 @@
+//! Texts with their UTF-16, and bytes that are none.
+
 use crate::tests::checks::{given, holds, is, refusal};
 use crate::tests::names::field;
 use sspi_names::{Utf16Error, Utf16Text};

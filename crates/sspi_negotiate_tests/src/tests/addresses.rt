@@ -1,3 +1,5 @@
+//! Texts that are IP addresses, and texts that are none.
+
 use crate::tests::checks::{Test, holds};
 use sspi_negotiate::is_ip_text;
 

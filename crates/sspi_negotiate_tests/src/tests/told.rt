@@ -1,3 +1,5 @@
+//! A mechanism that does as its token tells.
+
 ghost use Rattle.std.specs.Prelude.{◌≡◌, ◌<◌, ◌≤◌, ◌-◌, None, false, true, refl, length, drop, IfOk, IfErr, OnOk, OnErr};
 ghost use Rattle.std.proofs.Common.{ap, arith};
 ghost use Rattle.sspi_types.specs.Packages.{ntlm_entry};

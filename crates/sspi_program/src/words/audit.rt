@@ -1,3 +1,5 @@
+//! The word `audit`: an exchange whose turns and log are judged.
+
 ghost use Rattle.std.specs.Prelude.{IfOk};
 ghost use Rattle.sspi_program.specs.Audit.{IsJudged};
 ghost use Rattle.sspi_program.specs.Telling.{Conducts};

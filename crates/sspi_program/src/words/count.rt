@@ -1,3 +1,5 @@
+//! What the exchanges of `gen` come to, counted.
+
 ghost use Rattle.std.specs.Prelude.{◌≡◌, length, sum_by};
 ghost use Rattle.sspi_program.specs.Generate.{came_to, how_many, summary_of};
 

@@ -1,3 +1,5 @@
+//! The word `delegate`: an exchange and its report.
+
 ghost use Rattle.sspi_program.specs.Telling.{Conducts};
 ghost use Rattle.sspi_scenario.specs.Held.{HoldsValues};
 

@@ -1,3 +1,5 @@
+//! The word `desk`: clients of a scenario with a session each at one desk.
+
 ghost use Rattle.std.specs.Prelude.{◌≡◌, ℕ, [], length, IfErr, MatchResult, OnOk};
 ghost use Rattle.std.specs.List.{list_all};
 ghost use Rattle.sspi_program.specs.Desk.{is_ok, place_in, places_in, seats_status};

@@ -1,3 +1,5 @@
+//! The word `early`: an exchange, and the early user authorization result.
+
 ghost use Rattle.std.specs.Prelude.{◌≡◌, ◌++◌, Some, IfOk, drop, reverse};
 ghost use Rattle.std.specs.Result.{IsOkAnd};
 ghost use Rattle.sspi_program.specs.Delegate.{HasExchange};

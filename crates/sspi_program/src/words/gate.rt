@@ -1,3 +1,5 @@
+//! The word `gate`: an exchange whose deliveries pass a relay.
+
 ghost use Rattle.std.specs.Prelude.{◌≡◌, IfOk};
 ghost use Rattle.sspi_program.specs.Gate.{IsGated, Relays, delivered_from, relayed_status, stream_of};
 ghost use Rattle.sspi_program.specs.Telling.{Conducts};

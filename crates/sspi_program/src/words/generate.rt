@@ -1,3 +1,5 @@
+//! The word `gen`: exchanges of scenarios that are made of their numbers.
+
 ghost use Rattle.std.specs.Prelude.{◌≡◌, ◌+◌, IfOk, OnOk};
 ghost use Rattle.sspi_program.specs.Delegate.{HasExchange};
 ghost use Rattle.sspi_program.specs.Generate.{AreNumbered};

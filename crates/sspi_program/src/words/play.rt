@@ -1,3 +1,5 @@
+//! The word `play`: the deliveries of a scenario's schedule.
+
 ghost use Rattle.std.specs.Prelude.{◌≡◌, IfOk};
 ghost use Rattle.sspi_program.specs.Making.{AreEndsOf};
 ghost use Rattle.sspi_program.specs.Play.{HasPlay};

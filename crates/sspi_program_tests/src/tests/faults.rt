@@ -1,3 +1,5 @@
+//! Words and texts that are refused, and sources and sinks that fail.
+
 use crate::tests::{ORDINARY, no_memory, run_on, words_of};
 use sspi_ber::{FaultySink, FaultySource, Sink, SliceSource, Source, VecSink};
 use sspi_program::run::exit_status;

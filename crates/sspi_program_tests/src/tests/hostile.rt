@@ -1,3 +1,5 @@
+//! Exchanges that an attacker disturbs, with how both ends end.
+
 use crate::tests::{ORDINARY, has_parts, no_memory, parted, stretched, words_of};
 use sspi_ber::{FaultySink, FaultySource, Sink, SliceSource, Source, VecSink};
 use sspi_delegate::End;

@@ -1,3 +1,5 @@
+//! Exchanges of numbered scenarios.
+
 use crate::tests::{no_memory, reports_whole, words_of};
 use sspi_ber::{FaultySink, FaultySource, VecSink};
 use sspi_program::run::exit_status;

@@ -1,3 +1,5 @@
+//! Scenarios with their status and output, worked by hand.
+
 use crate::tests::{ORDINARY, reports_long, shows_all};
 
 const TURNS_AND_CREDENTIALS: &str =

@@ -1,3 +1,5 @@
+//! Sessions of a desk through the program.
+
 use crate::tests::{ORDINARY, reports, reports_whole, shows_all};
 
 /// Each of three clients makes the three messages of an ordinary exchange.

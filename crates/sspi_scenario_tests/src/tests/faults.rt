@@ -1,3 +1,5 @@
+//! Texts that are no scenario, each with its first faulty line.
+
 use crate::tests::checks::holds;
 use sspi_scenario::{Purpose, Scenario, ScenarioError};
 use std::alloc::Global;

@@ -1,3 +1,5 @@
+//! Scenarios that are made of a number.
+
 use crate::tests::checks::{given, holds, lend, parsed};
 use sspi_delegate::{Edit, EditKind};
 use sspi_names::AuthIdentity;

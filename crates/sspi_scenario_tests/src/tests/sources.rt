@@ -1,3 +1,5 @@
+//! Texts from sources of every length, and from one that fails.
+
 use crate::tests::checks::given;
 use sspi_ber::{FaultySource, SliceSource, Source};
 use sspi_scenario::{TEXT_LIMIT, TextError, read_text};

@@ -1,3 +1,5 @@
+//! Texts of scenarios with what they tell.
+
 use crate::tests::checks::{lend, parsed};
 use sspi_delegate::End;
 use sspi_mech::Scripted;

@@ -1,3 +1,5 @@
+//! Tokens with every choice of fields.
+
 use crate::tests::checks::{equals, given, holds};
 use crate::tests::is_spelled;
 use sspi_tokens::{NegResult, NegTokenTarg, Oid};

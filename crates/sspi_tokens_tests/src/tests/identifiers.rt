@@ -1,3 +1,5 @@
+//! Identifiers with the mechanisms that they name.
+
 use crate::tests::checks::{differ, equals, given, holds, is};
 use crate::tests::{KRB5, MS_KRB5, NTLM};
 use sspi_tokens::{MechKind, Oid};

@@ -1,3 +1,5 @@
+//! Tokens in forms that a reader takes and no writer makes.
+
 use crate::tests::checks::{given, holds, is};
 use crate::tests::{NTLM, lists, same};
 use sspi_tokens::{MechKind, NegResult, NegTokenInit, NegTokenTarg};

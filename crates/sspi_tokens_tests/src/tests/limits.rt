@@ -1,3 +1,5 @@
+//! The longest tokens, and longer ones.
+
 use crate::tests::checks::{equals, given, is};
 use crate::tests::{empty_targ, is_too_long};
 use sspi_tokens::{MechTypeList, NegTokenInit, NegTokenTarg, Oid, encode_mech_types};

@@ -1,3 +1,5 @@
+//! Bytes that are no token.
+
 use crate::tests::checks::{given, is, refusal};
 use crate::tests::{OFFER, is_codeless};
 use sspi_tokens::{NegTokenInit, NegTokenTarg};

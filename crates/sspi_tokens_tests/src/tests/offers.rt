@@ -1,3 +1,5 @@
+//! First tokens of other implementations, decoded and encoded again.
+
 use crate::tests::checks::{differ, equals, given, holds};
 use crate::tests::{HTTP_OFFER, KRB5, MS_KRB5, NTLM, OFFER, SMB_HINTS, is_spelled, lists, same};
 use sspi_tokens::{MechTypeList, NegTokenInit, Oid, encode_mech_types};

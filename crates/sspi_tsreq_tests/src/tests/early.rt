@@ -1,3 +1,5 @@
+//! The early user authorization result, written and read.
+
 use sspi_ber::{FaultySink, FaultySource, SliceSource, VecSink, WireKind};
 use sspi_tsreq::{EARLY_USER_AUTH_RESULT_PDU_SIZE, EarlyUserAuthResult};
 use std::alloc::Global;

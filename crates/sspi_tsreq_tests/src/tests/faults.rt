@@ -1,3 +1,5 @@
+//! Bytes that are no request, each with its kind of fault.
+
 use crate::damages::{CODE_AND_NONCE, OCTETS, OUTER, TOKEN, VERSION};
 use crate::tests::octets::{FIRST, SECOND, octets};
 use crate::tests::{framed, given, holds, refuses};

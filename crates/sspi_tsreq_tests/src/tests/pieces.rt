@@ -1,3 +1,5 @@
+//! Requests read in pieces, with faults that wait for the rest.
+
 use crate::tests::{fails, fed, finished, gives, refuses};
 use sspi_ber::WireKind;
 use sspi_tsreq::{TsReader, TsRequest};

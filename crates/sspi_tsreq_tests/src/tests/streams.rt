@@ -1,3 +1,5 @@
+//! Requests from sources and to sinks that fail.
+
 use crate::tests::octets::{SECOND, octets};
 use crate::tests::{fails, given, gives, holds, reads};
 use sspi_ber::{FaultySink, FaultySource, SliceSource, WireKind};

@@ -1,3 +1,5 @@
+//! Types of buffers, and the search for one.
+
 use crate::tests::checks::{given, holds, refusal, told};
 use sspi_types::{
     BufferType, ErrorKind, Reason, SecurityBuffer, SecurityBufferFlags, SecurityBufferType,

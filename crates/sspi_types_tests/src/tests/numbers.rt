@@ -1,3 +1,5 @@
+//! Numbers of the headers, under their names.
+
 use bitflags::Flags;
 use sspi_types::{
     BufferType, CertEncodingType, CertTrustErrorStatus, CertTrustInfoStatus, ClientRequestFlags,

@@ -1,3 +1,5 @@
+//! Packages by name, with their entries.
+
 use crate::tests::checks::{given, holds, is, refusal, told};
 use bitflags::Flags;
 use sspi_types::{

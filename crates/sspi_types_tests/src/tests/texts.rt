@@ -1,3 +1,5 @@
+//! How statuses and refusals are displayed.
+
 use sspi_types::{Error, ErrorKind, NStatusCode, Reason, SecurityPackageType};
 use std::alloc::AllocError;
 use std::process::Abort;

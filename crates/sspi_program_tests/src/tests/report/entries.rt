@@ -1,3 +1,5 @@
+//! Reports of logs.
+
 use super::{given, reports, with_status};
 use sspi_delegate::{Carried, DelegateError, End};
 use sspi_types::{Bytes, ErrorKind};

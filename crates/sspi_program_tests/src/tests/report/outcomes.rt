@@ -1,3 +1,5 @@
+//! Reports of outcomes.
+
 use super::{given, reports, with_status};
 use sspi_ber::WireKind;
 use sspi_delegate::{DelegateError, Delegation, End};

@@ -1,3 +1,5 @@
+//! Reports of a table's seats.
+
 use super::{given, identity, with_status};
 use sspi_ber::WireKind;
 use sspi_delegate::End;

@@ -1,3 +1,5 @@
+//! A table of two clients for reports.
+
 use super::{given, identity};
 use sspi_credssp::{ClientMode, CredSspClient, CredSspMode, CredSspServer, ServerMode, TableProxy};
 use sspi_mech::{FailingKdc, Kerberos, Ntlm, NtlmConfig};

@@ -1,3 +1,5 @@
+//! Messages with their lengths in every form.
+
 use crate::tests::lengths::{Kind, again, unmade};
 use std::alloc::Global;
 use std::process::Abort;

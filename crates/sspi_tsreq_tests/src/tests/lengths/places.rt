@@ -1,3 +1,5 @@
+//! Every length of a message, at the ends of each form.
+
 use crate::tests::lengths::{Kind, again, unmade};
 use std::alloc::{AllocError, Global};
 use std::process::Abort;
