@@ -28,12 +28,12 @@ text_in which None = Err invalid_handle
 text_in which (Some (AuthIdentity buffers)) = text_at which buffers
 text_in which (Some (Keytab identity)) = Err absent
 
--- this answer, or want of memory
+-- this answer, or out of memory
 abbrev pub OrMemory : Result (List ℕ) ℕ → Result (List ℕ) ℕ → Type 0
 OrMemory (Ok bytes) answer = answer ≡ Ok bytes
 OrMemory (Err status) answer = status ≢ insufficient_memory → answer ≡ Err status
 
--- the credentials spelled
+-- the credentials encoded
 abbrev pub IsWritten : Option CredentialsBuffers → Result (List ℕ) ℕ → Type 0
 IsWritten None answer = answer ≡ Err invalid_handle
 IsWritten (Some buffers) answer =

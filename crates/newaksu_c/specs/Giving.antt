@@ -17,7 +17,7 @@ abbrev pub items_of : Result (Vec ℕ) ℕ → Result (List ℕ) ℕ
 items_of (Ok bytes) = Ok bytes.items
 items_of (Err status) = Err status
 
--- by whether the buffer is too small: the bytes at its front, or nothing
+-- by whether the buffer is too small: the bytes at its prefix, or nothing
 abbrev pub Fills : Bool → List ℕ → List ℕ → List ℕ → ℕ → Type 0
 Fills true bytes before after status = (status ≡ buffer_too_small) × (after ≡ before)
 Fills false bytes before after status = (status ≡ ok) × (after ≡ bytes ++ drop (length bytes) before)

@@ -12,7 +12,7 @@ use Rattle.newaksu_c.specs.declared.object.Object.{Object}
 use Rattle.newaksu_c.specs.declared.object.Object.TheVariants.{Reader, Request}
 use Rattle.newaksu_c.specs.Status.{ok, invalid_handle, insufficient_memory, wire_status}
 
--- a reader that was fed a piece, or is as it was for want of memory; where no byte was the identifier octet of an OCTET
+-- a reader that was fed a piece, or is as it was when out of memory; where no byte was the identifier octet of an OCTET
 -- STRING, and where nothing more is looked at, no memory is wanted
 pub record Feeds (before : TsReader) (piece : List ℕ) (after : TsReader) (status : ℕ) : Type 0 where
   pub fed : (bytes : List ℕ) → Stands before bytes → status ≡ ok → Stands after (bytes ++ piece)

@@ -53,7 +53,7 @@ abbrev pub request_made : Result TsRequest WireKind → Result Object ℕ
 request_made (Ok r) = Ok (Request r)
 request_made (Err kind) = Err (wire_status kind)
 
--- the request spelled, or why not: its content is too long, or there was no memory
+-- the request encoded, or why not: its content is too long, or there was no memory
 abbrev pub IsEncoded : Option TsRequest → Result (List ℕ) ℕ → Type 0
 IsEncoded None (Ok bytes) = ⊥
 IsEncoded None (Err status) = status ≡ invalid_handle

@@ -1,4 +1,4 @@
--- The message that is sent, spelled.
+-- The message that is sent, encoded.
 use Rattle.std.specs.Prelude.{◌≡◌, ℕ, List, Some, Result, Ok, Err}
 use Rattle.sspi_tsreq.specs.declared.request.TsRequest.{TsRequest}
 use Rattle.newaksu_c.specs.Requests.{IsEncoded}

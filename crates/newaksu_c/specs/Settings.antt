@@ -18,7 +18,7 @@ use Rattle.newaksu_c.specs.Status.{invalid_parameter, insufficient_memory}
 abbrev pub unknown_credentials : ℕ
 unknown_credentials = 0x8009030d
 
--- this value or this refusal, or want of memory
+-- this value or this refusal, or out of memory
 abbrev pub OrMemory : {X : Type 0} → Result X ℕ → Result X ℕ → Type 0
 OrMemory (Ok x) answer = answer ≡ Ok x
 OrMemory (Err status) answer = status ≢ insufficient_memory → answer ≡ Err status

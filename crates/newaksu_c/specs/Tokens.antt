@@ -14,7 +14,7 @@ use Rattle.newaksu_c.specs.Putting.{spelled}
 use Rattle.newaksu_c.specs.Requests.{present}
 use Rattle.newaksu_c.specs.Status.{absent, invalid_handle, invalid_parameter}
 
--- the spelling of what stands behind the handle
+-- the encoding of what stands behind the handle
 abbrev pub IsSpelled : {X : Type 0} → (X → Option (List ℕ)) → Result X ℕ → Result (List ℕ) ℕ → Type 0
 IsSpelled spelling (Err status) answer = answer ≡ Err status
 IsSpelled spelling (Ok x) answer = (text : Result (Vec ℕ) Error) × WritesAs (spelling x) text × (answer ≡ spelled text)

@@ -94,7 +94,7 @@ fn written(alloc: Global, object: &Option<Box<Object>>) -> Result<Vec<u8>, u32>
     }
 }
 
-/// TSCredentials with these texts, in their shortest spelling.
+/// TSCredentials with these texts, in their shortest encoding.
 #[unsafe(no_mangle)]
 pub extern "C" fn newaksu_credentials_encode(
     alloc: Global,

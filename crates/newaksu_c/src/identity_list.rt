@@ -30,7 +30,7 @@ impl IdentityList {
         }
     }
 
-    /// Puts an identity at the end, or leaves the list as it was where memory is wanting.
+    /// Puts an identity at the end, or leaves the list as it was where there is no memory.
     pub(crate) fn push(&mut self, identity: AuthIdentity) -> Result<(), AllocError>
         ensures ok { OnOk result (self.new ≡ self.old ++ identity ∷ []) }
         ensures err { OnErr result (self.new ≡ self.old) }

@@ -121,7 +121,7 @@ fn encoded_request(alloc: Global, request: &TsRequest, size: usize) -> Result<Ve
     }
 }
 
-/// The request in its shortest spelling.
+/// The request in its shortest encoding.
 #[unsafe(no_mangle)]
 pub extern "C" fn newaksu_request_encode(
     alloc: Global,

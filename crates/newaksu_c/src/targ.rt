@@ -61,7 +61,7 @@ fn encoded(alloc: Global, object: &Option<Box<Object>>) -> Result<Vec<u8>, u32>
     }
 }
 
-/// The token in its shortest spelling.
+/// The token in its shortest encoding.
 #[unsafe(no_mangle)]
 pub extern "C" fn newaksu_targ_encode(
     alloc: Global,

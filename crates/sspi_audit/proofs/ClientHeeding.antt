@@ -54,7 +54,7 @@ pub blob_on : (blob : Option (List ℕ)) (kind : ErrorKind) (A B : List ℕ → 
 blob_on None kind A B on is = is
 blob_on (Some bytes) kind A B on is = stops_on (nat_lt (length bytes) 16) InvalidToken kind (A bytes) (B bytes) (λ long. on bytes) is
 
--- ---- the version that is noted whatever the least is
+-- ---- the version that is pinned whatever the least is
 
 pub at_some : (noted : Option ℕ) (P : ℕ → Type 0) → AtNoted noted P → (version : ℕ) × (noted ≡ Some version)
 at_some None P at = absurd at
@@ -118,7 +118,7 @@ module _ {C : Type 0} (c : Meaning ContextSetting C) where
   if_same true x = refl
   if_same false x = refl
 
-  -- in a turn before which there was no context no version is noted
+  -- in a turn before which there was no context no version is pinned
   unnoted : (old mid : ClientView C) (d : TsRequest) → old.context ≡ None → old.noted ≡ None → mid.noted ≡ noted_after c old d →
       mid.noted ≡ None
   unnoted old mid d none noted is = is ∙ rw none (if_same (is_code d.error_code) old.noted) ∙ noted

@@ -10,7 +10,7 @@ use Rattle.sspi_delegate.specs.Turns.{client_state, client_noted, has_turn, serv
 use Rattle.sspi_audit.specs.Frames.{client_before, client_frame, own_version, server_before, server_frame, server_note, told_by}
 use Rattle.sspi_audit.specs.Standings.{client_note}
 
--- every version is noted
+-- every version is pinned
 any_noted : (version : ℕ) → noted_with 0 None version ≡ Some version
 any_noted version = rw (le-ltb version 0 (omega arith)) refl
 

@@ -35,7 +35,7 @@ use Rattle.sspi_audit.specs.Shown.{ShowsTurn, HasLongBlobs, EachShown}
 use Rattle.sspi_audit.proofs.Logs.{EachHasEntries, entered}
 use Rattle.sspi_audit.proofs.Weaker.{Knows, client_by, server_by}
 
--- ---- the version that is noted whatever the least is
+-- ---- the version that is pinned whatever the least is
 
 pub noted_by : (low : Bool) (version noted : ℕ) → (if low then None else Some version) ≡ Some noted → Some version ≡ Some noted
 noted_by true version noted is = absurd (cc (is))

@@ -55,7 +55,7 @@ unless_on (outcome.Final reply) P goes p = p
 unless_on outcome.Finished P goes p = p
 unless_on (outcome.Refused kind reply) P goes p = absurd goes
 
--- the nonce that a proof is opened with, by what was noted before the turn
+-- the nonce that a proof is opened with, by what was pinned before the turn
 noted_next : (least version : ℕ) (before : Option ℕ) (noted : ℕ) → noted_with least before version ≡ Some noted →
     server_note before version ≡ Some noted
 noted_next least version None noted is = noted_by (nat_lt version least) version noted is
@@ -76,7 +76,7 @@ proof_stops true kind is = is
 proof_stops false kind is = is
 
 module _ {C : Type 0} (c : Meaning ContextSetting C) where
-  -- a server that has made a turn has noted a version, whatever the least is
+  -- a server that has made a turn has pinned a version, whatever the least is
   noted_same : (e : ServerEnd C) (t : Turn) (past : List Turn) → EachServerTurn c e (t ∷ past) → NoneRefused (t ∷ past) →
       (version : ℕ) × (server_noted e.settings.least (t ∷ past) ≡ Some version) × (server_noted 0 (t ∷ past) ≡ Some version)
   noted_same e t past each none =

@@ -12,7 +12,7 @@ use Rattle.sspi_credssp.specs.Turn.{ShownFrame, IsOwn, IsVersionBack, ShowsToken
 use Rattle.sspi_credssp.specs.Turn.{ShowsTokenBack, ShowsProofBack, ShowsOver, ShowsNegoBack, ShowsStateBack, ShowsAnswer, ShowsServer}
 use Rattle.sspi_credssp.specs.Turn.{UnlessRefused, AtNoted, FitsNoted}
 
--- the second frame knows what the first does, or less of its end's own version; it may have noted a version where the first has none
+-- the second frame knows what the first does, or less of its end's own version; it may have pinned a version where the first has none
 pub record Knows (f g : ShownFrame) : Type 0 where
   pub state : g.state ≡ f.state
   pub looks : g.looks ≡ f.looks

@@ -1,4 +1,4 @@
--- What recorded turns tell of an end: its state, the version that it noted of its peer, and its own version. Turns are lists, the
+-- What recorded turns tell of an end: its state, the version that it pinned of its peer, and its own version. Turns are lists, the
 -- newest first, and each list has the turns of one end.
 use Rattle.std.specs.Prelude.{ℕ, List, [], ◌∷◌, Option, None, Some, true}
 use Rattle.sspi_credssp.specs.declared.turn.Outcome.{Outcome}
@@ -53,7 +53,7 @@ server_before past = record {
   version = own_version past;
 }
 
--- the version that a server has noted once it was given one more request
+-- the version that a server has pinned once it was given one more request
 abbrev pub server_note : Option ℕ → ℕ → Option ℕ
 server_note None version = Some version
 server_note (Some noted) version = Some noted

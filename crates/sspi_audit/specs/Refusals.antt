@@ -21,7 +21,7 @@ use Rattle.sspi_credssp.specs.ServerCause.{lacks_nonce}
 use Rattle.sspi_credssp.specs.Turn.{ShownFrame}
 
 -- f: what is known of the end before the turn. A client looks at versions from its second turn on,
--- and a server has noted one from then.
+-- and a server has pinned one from then.
 
 -- ---- a client (MS-CSSP 3.1.5.1)
 
@@ -35,7 +35,7 @@ pub record FindsOldServer (f : ShownFrame) (t : Turn) (kind : ErrorKind) : Type 
 
 -- in the authentication: the step was refused, or in the first turn no context was made; or the
 -- client was authenticated, and its proof was not made, which in the first turn is for want of a
--- noted version
+-- pinned version
 abbrev pub TokenRefused : ShownFrame → Acts → Option SecurityStatus → ErrorKind → Type 0
 TokenRefused f acts None kind = acts.negotiated ≡ false → f.looks ≡ false
 TokenRefused f acts (Some statuses.Ok) kind = f.looks ≡ false → kind ≡ InternalError

@@ -30,7 +30,7 @@ IfRefused (outcome.Refused kind reply) P = P kind
 
 -- f: what is known of the end before the turn
 
--- told an error, or another version than the noted one, a client does nothing; and a step without
+-- told an error, or another version than the pinned one, a client does nothing; and a step without
 -- an answer gives no token
 pub record ClientHeeds (f : ShownFrame) (t : Turn) : Type 0 where
   pub told : is_code t.delivered.error_code ≡ true → t.acts ≡ no_acts
@@ -39,7 +39,7 @@ pub record ClientHeeds (f : ShownFrame) (t : Turn) : Type 0 where
   pub refused : IfRefused t.outcome (ClientRefuses f t)
 
 -- the version of an error request of a server whose own version is known: the delivered one where
--- it is not the noted one
+-- it is not the pinned one
 abbrev pub TellsVersion : Option ℕ → Option ℕ → ℕ → ℕ → Type 0
 TellsVersion None noted delivered version = Unit {0}
 TellsVersion (Some own) noted delivered version = version ≡ (if differs noted delivered then delivered else own)
@@ -48,7 +48,7 @@ abbrev pub ErrorTells : ShownFrame → TsRequest → Outcome → Type 0
 ErrorTells f d (outcome.Refused kind (Some reply)) = TellsVersion f.version f.noted d.version reply.version
 ErrorTells f d other = Unit {0}
 
--- told another version than the noted one, a server does nothing; from version 5 on it opens no
+-- told another version than the pinned one, a server does nothing; from version 5 on it opens no
 -- proof without a nonce
 pub record ServerHeeds (f : ShownFrame) (t : Turn) : Type 0 where
   pub altered : differs f.noted t.delivered.version ≡ true → t.acts ≡ no_acts

@@ -1,4 +1,4 @@
-//! Whether a turn may have done what it did, and gone on, by its end's state and the noted version.
+//! Whether a turn may have done what it did, and gone on, by its end's state and the pinned version.
 ghost use Rattle.std.specs.Prelude.{◌≡◌, ◌↔◌, Some, true, false, length, IsTrue, IsSome, nat_lt};
 ghost use Rattle.sspi_types.specs.declared.security_status.SecurityStatus.TheVariants as statuses;
 ghost use Rattle.sspi_credssp.specs.declared.state.CredSspState.TheVariants.{AuthInfo, NegoToken};
@@ -97,7 +97,7 @@ fn steps_in_time(state: CredSspState, acts: Acts) -> bool
     }
 }
 
-/// A client proves once its authentication has ended and it has noted a version.
+/// A client proves once its authentication has ended and it has pinned a version.
 fn may_prove(noted: Option<u32>, acts: Acts) -> bool
     ensures { IsTrue result ↔ (acts.proved ≡ true → (acts.status ≡ Some statuses.Ok) × IsSome noted) }
 {

@@ -45,7 +45,7 @@ pub(crate) fn gives(alloc: Global, entry: &Carried, request: &TsRequest) -> Resu
     is_read(alloc, entry.delivered.as_slice(), request)
 }
 
-/// The message fits, and these octets are its spelling.
+/// The message fits, and these octets are its encoding.
 fn is_sent(alloc: Global, message: &TsRequest, sent: &[u8]) -> Result<bool, Error>
     ensures sent { IfOk result (λ same. IsTrue same ↔ IsSent (Some message.now) sent.now) }
     ensures only { IfErr result (λ error. error ≡ memory_error) }

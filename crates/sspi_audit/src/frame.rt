@@ -10,7 +10,7 @@ pub(crate) struct Frame {
     pub state: CredSspState,
     /// Whether it looks at the delivered version.
     pub looks: bool,
-    /// The version of its peer that is noted once the turn is over.
+    /// The version of its peer that is pinned once the turn is over.
     pub noted: Option<u32>,
     /// Its own version, where that is known.
     pub version: Option<u32>,

@@ -14,7 +14,7 @@ use crate::refusals::{are_none, client_refuses, differs, server_refuses};
 use crate::standing::server_note;
 use sspi_credssp::{Outcome, Turn};
 
-/// Told another version than the noted one, an end does nothing.
+/// Told another version than the pinned one, an end does nothing.
 fn heeds_version(frame: &Frame, turn: &Turn) -> bool
     ensures { IsTrue result ↔ (differs frame.now.noted turn.now.delivered.version ≡ true → turn.now.acts ≡ no_acts) }
 {

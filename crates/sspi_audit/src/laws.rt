@@ -19,7 +19,7 @@ use sspi_delegate::Link;
 use sspi_mech::{Kdc, Mechanism};
 
 /// A run of two ends is shown right: of what `delegate` leaves of two fresh ends, its turns and the
-/// entries that it added to the log, `audit` says yes, or memory was wanting.
+/// entries that it added to the log, `audit` says yes, or there was no memory.
 pub fn delegation_is_shown<N: Mechanism, K: Mechanism, C: CredentialsProxy>()
     ensures { (client client2 : ClientView (SspiContext N K)) (server server2 : ServerView (SspiContext N K) C) (base log : List Carried)
         (turns : List Turn) → IsRun (either N.REQUESTS N.meaning K.meaning) client client2 server server2 base log turns →
@@ -29,7 +29,7 @@ pub fn delegation_is_shown<N: Mechanism, K: Mechanism, C: CredentialsProxy>()
 }
 
 /// What `delegate` promises of two fresh ends, whatever its answer, is shown as a run: of its turns
-/// and the entries that it added to the log, `audit_run` says yes, or memory was wanting.
+/// and the entries that it added to the log, `audit_run` says yes, or there was no memory.
 pub fn delegation_is_a_shown_run<N: Mechanism, K: Mechanism, C: CredentialsProxy, L: Link, D: Kdc>()
     ensures { (old new : Parties (SspiContext N K) C L D) (limit : ℕ) (result : Result Delegation DelegateError) →
         IsFresh old.client old.server → Delegates (either N.REQUESTS N.meaning K.meaning)

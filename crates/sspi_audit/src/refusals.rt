@@ -13,7 +13,7 @@ use sspi_credssp::{Acts, CredSspState, Turn};
 use sspi_tsreq::TsRequest;
 use sspi_types::{Bytes, ErrorKind, SecurityStatus};
 
-/// Another version than the noted one.
+/// Another version than the pinned one.
 pub(crate) fn differs(noted: Option<u32>, version: u32) -> bool
     ensures { result ≡ differs noted version }
 {

@@ -20,7 +20,7 @@ use std::alloc::Global;
 /// `Yes` exactly where they have all that recorded bytes can show of a run (`specs/Run.antt`).
 /// Beside what `audit` asks:
 ///
-/// - A turn that was told an error or another version than the noted one did nothing, and was
+/// - A turn that was told an error or another version than the pinned one did nothing, and was
 ///   refused for that.
 /// - A refused turn has a kind with which a turn of its acts can end. It is none in which a client
 ///   sealed its credentials, or a server its proof.

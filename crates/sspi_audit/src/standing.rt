@@ -58,7 +58,7 @@ fn before(looks: bool) -> Frame
     }
 }
 
-/// A client as its next turn finds it, which notes the version of its second request.
+/// A client as its next turn finds it, which pins the version of its second request.
 fn client_at(before: &Frame, turn: &Turn) -> Frame
     ensures { (past : List Turn) → before.now ≡ client_before past → result ≡ client_frame past turn.now }
 {
@@ -80,7 +80,7 @@ fn client_note(looks: bool, noted: Option<u32>, version: u32) -> Option<u32>
     }
 }
 
-/// A server as its next turn finds it, which notes the version of its first request.
+/// A server as its next turn finds it, which pins the version of its first request.
 fn server_at(before: &Frame, turn: &Turn) -> Frame
     ensures { (past : List Turn) → before.now ≡ server_before past → result ≡ server_frame past turn.now }
 {

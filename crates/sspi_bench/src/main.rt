@@ -91,7 +91,7 @@ fn messages_of(alloc: Global, words: &[String]) -> Result<Vec<Message>> {
     Ok(messages)
 }
 
-/// The bytes that the next line of standard input spells in hex.
+/// The bytes that the next line of standard input encodes in hex.
 fn next_message(rt: &HostRuntime) -> Result<Vec<u8>> {
     let mut line = String::new(rt.alloc());
     let _ = rt.read_line(&mut line)?;

@@ -64,7 +64,7 @@ fn name_of(kind: WireKind) -> &'static str {
     }
 }
 
-/// A line of these bytes: version, `negoTokens`, `authInfo`, `pubKeyAuth`, code, nonce and the shortest spelling of the
+/// A line of these bytes: version, `negoTokens`, `authInfo`, `pubKeyAuth`, code, nonce and the shortest encoding of the
 /// request that they begin with, or the fault.
 pub(crate) fn show(rt: &HostRuntime, bytes: &[u8]) -> Result<()> {
     match TsRequest::from_buffer(rt.alloc(), bytes) {

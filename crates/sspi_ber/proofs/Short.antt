@@ -1,4 +1,4 @@
--- The shortest spelling of each piece is one of its forms.
+-- The shortest encoding of each piece is one of its forms.
 use Rattle.std.proofs.Common.{◌≡◌, ℕ, ◌+◌, ◌/◌, ◌%◌, ◌<◌, ◌≤◌, true, List, [], ◌∷◌, ◌++◌, length, refl, sym, ap, ◌∙◌, subst, arith, inl, inr}
 use Rattle.std.proofs.lemmas.Bool.{cases_lt, lt-ltb, le-ltb}
 use Rattle.sspi_ber.specs.Forms.{max_content, IsLength, IsElement, IsTagged, IsInteger, big_endian, is_integer_size}

@@ -1,4 +1,4 @@
--- What more bytes change in what a reader says: nothing where it read or met a piece that is not spelled; and enough zero
+-- What more bytes change in what a reader says: nothing where it read or met a piece that is malformed; and enough zero
 -- bytes settle what ended too early.
 use Rattle.std.proofs.Common.{◌≡◌, ℕ, ◌≤◌, Bool, true, false, cond, eqb, ltb, leb, List, [], ◌∷◌, ◌++◌, length, take, drop}
 use Rattle.std.proofs.Common.{Option, None, Some, Ok, Err, refl, sym, ap, ◌∙◌, append_assoc, arith, ◌+◌, ◌-◌, inl, inr}

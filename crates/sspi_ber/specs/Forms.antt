@@ -72,7 +72,7 @@ IsNotNext tag (byte ∷ rest) = byte ≡ tag → ⊥
 abbrev pub IsWrapped : {A : Type 0} → ℕ → (List ℕ → A → Type 0) → List ℕ → A → Type 0
 IsWrapped tag Inner text x = (inner : List ℕ) × IsTagged tag text inner × Inner inner x
 
--- An optional field, with what follows it. A field that is absent spells nothing, and its tag does not come next.
+-- An optional field, with what follows it. A field that is absent encodes nothing, and its tag does not come next.
 abbrev pub IsField : {A : Type 0} → ℕ → (List ℕ → A → Type 0) → List ℕ → Option A → List ℕ → Type 0
 IsField tag Inner text None following = (text ≡ []) × IsNotNext tag following
 IsField tag Inner text (Some x) following = IsWrapped tag Inner text x

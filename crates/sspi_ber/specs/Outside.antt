@@ -73,7 +73,7 @@ abbrev pub Reads : {X A : Type 0} → (X → A) → Option (List ℕ) → Option
 Reads view None after result read = Unit {0}
 Reads view (Some bytes) after result read = Answers view after result (read bytes)
 
--- the same over a slice, where no fault of the outside comes; want of memory is free, for readers that copy
+-- the same over a slice, where no fault of the outside comes; out of memory is free, for readers that copy
 abbrev pub Gives : {X A : Type 0} → (X → A) → List ℕ → Result X WireKind → Read A → Type 0
 Gives view after (Ok x) read = read ≡ Ok (view x, after)
 Gives view after (Err UnexpectedEof) read = read ≡ Err Ended
@@ -82,7 +82,7 @@ Gives view after (Err ReadFault) read = ⊥
 Gives view after (Err WriteFault) read = ⊥
 Gives view after (Err InsufficientMemory) read = Unit {0}
 
--- no want of memory: what a reader that copies nothing says besides
+-- no out of memory: what a reader that copies nothing says besides
 abbrev pub NeedsNoMemory : {X : Type 0} → Result X WireKind → Type 0
 NeedsNoMemory (Ok x) = Unit {0}
 NeedsNoMemory (Err UnexpectedEof) = Unit {0}
@@ -97,7 +97,7 @@ NeedsNoMemory (Err InsufficientMemory) = ⊥
 pub record Wrote (before after : Option (List ℕ)) (text : List ℕ) : Type 0 where
   pub appended : Appends before after text
 
--- a proper front of the text was written: not all of it, so there was a text
+-- a proper prefix of the text was written: not all of it, so there was a text
 pub record WroteFront (before after : Option (List ℕ)) (text : List ℕ) : Type 0 where
   pub front : List ℕ
   pub rest : List ℕ
@@ -120,7 +120,7 @@ WritesIf true written old new result text = Writes (written old) (written new) r
 WritesIf false written old new result text = (result ≡ Err InvalidData) × (new ≡ old)
 
 -- What a writer says of the sink's count: `WriteFault` only where it rose, and after a fault of the sink, which moves the
--- count below its last value, no other answer: want of memory does not stand in its place.
+-- count below its last value, no other answer: out of memory does not stand in its place.
 abbrev pub WriteCause : {X : Type 0} → ℕ → ℕ → Result X WireKind → Type 0
 WriteCause before now (Ok x) = now ≡ before
 WriteCause before now (Err UnexpectedEof) = now ≡ before

@@ -4,7 +4,7 @@ use Rattle.std.specs.Prelude.{ℕ, List, Result, Ok, Err, replicate, Option, Non
 use Rattle.std.specs.Prelude.{length, take, drop, if◌then◌else◌}
 use Rattle.sspi_ber.specs.Forms.{max_content, max_length_octets, big_endian, is_integer_size}
 
--- the first fault: the bytes end before the piece does, or the piece is not spelled as it must be
+-- the first fault: the bytes end before the piece does, or the piece is malformed
 pub data Fault : Type 0 where
   Ended Invalid : Fault
 

@@ -12,7 +12,7 @@ pub enum Pc {
     Construct = 0x20,
 }
 
-/// The tag numbers of the universal class that are spelled here.
+/// The tag numbers of the universal class that are encoded here.
 #[derive(Clone, Copy, Debug, PartialEq, Eq)]
 pub enum Tag {
     /// BOOLEAN (X.690 8.2).

@@ -33,7 +33,7 @@ pub fn elements_agree()
         element_at tag (text ++ rest) ≡ Ok (content, rest) }
 {}
 
-/// What is spelled shortest is read again, whatever follows it.
+/// What is encoded shortest is read again, whatever follows it.
 #[tactic(auto, using(crate::proofs::Agreement::agreement))]
 pub fn shortest_is_read()
     ensures length { (n : ℕ) (more : List ℕ) → n ≤ max_content → length_at (len_short n ++ more) ≡ Ok (n, more) }
@@ -67,7 +67,7 @@ pub fn constants_have_their_numbers()
     ensures octet_string { OCTET_STRING ≡ 0x04 }
 {}
 
-/// The sizes are the lengths of the spellings.
+/// The sizes are the lengths of the encodings.
 #[tactic(auto, using(crate::proofs::Written::lengths))]
 pub fn sizes_are_lengths()
     ensures { (tag : ℕ) (content : List ℕ) → length (element tag content) ≡ element_size (length content) }

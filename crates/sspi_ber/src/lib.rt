@@ -1,7 +1,7 @@
-//! The pieces of BER (X.690) that CredSSP and SPNEGO are spelled in: tags, lengths, integers and octet strings.
+//! The pieces of BER (X.690) that CredSSP and SPNEGO are encoded in: tags, lengths, integers and octet strings.
 //!
 //! What is written has its lengths and integers in their shortest form, and a content past the limit is refused with nothing
-//! written; each `sizeof_*` says beforehand how many bytes come. A writer that is refused later has written a proper front of
+//! written; each `sizeof_*` says beforehand how many bytes come. A writer that is refused later has written a proper prefix of
 //! its bytes: never all of them, which is success. What is read may have a length in a longer form than it
 //! needs. A reader goes from left to right and refuses at the first fault: the bytes end (`UnexpectedEof`), or a tag or a
 //! length is not as it must be (`InvalidData`).

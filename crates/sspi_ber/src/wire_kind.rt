@@ -65,7 +65,7 @@ impl<T: Drop> From<AllocFailed<T>> for WireKind {
     }
 }
 
-/// `InternalError` with the reason `Io`; want of memory stays `InsufficientMemory`.
+/// `InternalError` with the reason `Io`; out of memory stays `InsufficientMemory`.
 impl From<WireKind> for Error {
     ghost use Rattle.sspi_ber.specs.Kinds.{error_of};
 

@@ -15,7 +15,7 @@ use crate::sizes::{fits_in_element, length_size, size_of_element, sizeof_integer
 use crate::wire_kind::WireKind;
 
 /// All of `piece`, in as many writes as the sink needs. `WriteFault` and `InsufficientMemory` only where not all of it was written: a
-/// proper front of it was, and of an empty piece nothing is refused.
+/// proper prefix of it was, and of an empty piece nothing is refused.
 pub fn write_all<W: Sink>(sink: &mut W, piece: &[u8]) -> Result<(), WireKind>
     ensures wrote { Writes (W.written sink.old) (W.written sink.new) result piece.now }
     ensures cause { WriteCause (W.faults sink.old) (W.faults sink.new) result }
@@ -234,7 +234,7 @@ fn write_short_integer<W: Sink>(sink: &mut W, value: u32) -> Result<(), WireKind
     }
 }
 
-/// An INTEGER in its shortest spelling of at most four content bytes, and how many bytes it took: 3 to 6.
+/// An INTEGER in its shortest encoding of at most four content bytes, and how many bytes it took: 3 to 6.
 pub fn write_integer<W: Sink>(sink: &mut W, value: u32) -> Result<usize, WireKind>
     ensures wrote { Writes (W.written sink.old) (W.written sink.new) result (int_short value) }
     ensures count { IfOk result (λ count. count ≡ length (int_short value)) }

@@ -28,7 +28,7 @@ told_as told (Ok done) = Ok (Some told)
 told_as told (Err kinds.InsufficientMemory) = Err channel.InsufficientMemory
 told_as told (Err kind) = Err channel.WriteFault
 
--- The four octets of this result were written, or a front of them; what was written, and the counts of the sink's faults.
+-- The four octets of this result were written, or a prefix of them; what was written, and the counts of the sink's faults.
 pub record Tells (told : EarlyUserAuthResult) (before after : Option (List ℕ)) (faults faults2 : ℕ)
     (result : Result (Option EarlyUserAuthResult) ChannelError) : Type 0 where
   pub wire : Result (Unit {0}) WireKind

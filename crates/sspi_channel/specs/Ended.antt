@@ -12,7 +12,7 @@ use Rattle.sspi_channel.specs.Answers.{ConnectsText, ServesText}
 use Rattle.sspi_channel.specs.Statuses.{connect_status, serve_status}
 use Rattle.sspi_channel.specs.Texts.{connect_line, serve_line}
 
--- the line was written, or a front of it, and nothing else
+-- the line was written, or a prefix of it, and nothing else
 abbrev pub Says : List ℕ → Option (List ℕ) → Option (List ℕ) → Type 0
 Says line before after = Wrote before after line ⊎ (WroteFront before after line ⊎ (after ≡ before))
 

@@ -31,7 +31,7 @@ pub enum ChannelError {
     /// The text is no scenario for this end. The number is that of its first faulty line, as in
     /// `ScenarioError`.
     Scenario(usize),
-    /// The delegation ended for this reason, which is neither a failed channel nor want of memory.
+    /// The delegation ended for this reason, which is neither a failed channel nor out of memory.
     Delegate(DelegateError),
     /// What came behind the delegation is no early result: `UnexpectedEof` where the source ended
     /// before its fourth octet, and else `InvalidData`.

@@ -28,7 +28,7 @@ use std::alloc::Global;
 ///   request, a message is too long, or the turns are spent.
 /// - `Early`: what came behind the delegation is no early result.
 /// - `ReadFault`, `WriteFault`: the source or the sink failed, in the delegation or behind it. Of
-///   what was due a front was written.
+///   what was due a prefix was written.
 /// - `InsufficientMemory`: that of the client or of the KDC among it.
 ///
 /// A failed channel failed in a write exactly where the count of `sink` moved.

@@ -21,7 +21,7 @@ use std::alloc::{AllocError, Global};
 ///
 /// The status is 0 where the delegation came to its end, and the user may log on if that was told
 /// or heard; 2 where the text is no scenario for this end, 3 where `source` failed, 4 where `sink`
-/// failed, 5 where memory was wanting, and else 1. Nothing of the line goes to `sink`; a line that
+/// failed, 5 where there was no memory, and else 1. Nothing of the line goes to `sink`; a line that
 /// cannot be written changes no status.
 pub fn end_scenario<S: Source, W: Sink, T: Sink>(
     alloc: Global,

@@ -14,7 +14,7 @@ use std::alloc::{AllocError, Global};
 
 /// The line that says what a server came to, ended by LF. It has the name of the user and no
 /// password; a control character of the name, which is the client's, is told by its number, so that
-/// no name makes a line of its own. Fails only for want of memory.
+/// no name makes a line of its own. Fails only when out of memory.
 pub fn serve_line(
     alloc: Global,
     answer: &Result<Served, ChannelError>,
@@ -43,7 +43,7 @@ fn head(alloc: Global, rounds: u32) -> Result<Vec<u8>, AllocError>
     Ok(text.into_bytes())
 }
 
-/// The line that says what a client came to, ended by LF. Fails only for want of memory.
+/// The line that says what a client came to, ended by LF. Fails only when out of memory.
 pub fn connect_line(
     alloc: Global,
     answer: &Result<Connected, ChannelError>,

@@ -27,7 +27,7 @@ use std::alloc::Global;
 /// - `Delegate`: the delegation ended as `serve` says: the server refused, what came is no request,
 ///   an answer is too long, or the turns are spent.
 /// - `ReadFault`, `WriteFault`: the source or the sink failed, in the delegation or behind it. Of
-///   what was due a front was written.
+///   what was due a prefix was written.
 /// - `InsufficientMemory`: that of the server among it.
 ///
 /// `Early` does not come. A failed channel failed in a write exactly where the count of `sink`

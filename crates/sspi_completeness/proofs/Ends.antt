@@ -19,7 +19,7 @@ use Rattle.sspi_credssp.specs.Noted.{differs, is_altered_in, is_old, is_old_in, 
 use Rattle.sspi_credssp.specs.declared.turn.Outcome.{Outcome}
 use Rattle.sspi_credssp.specs.declared.turn.Outcome.TheVariants.{Reply, Final, Finished, Refused}
 
--- an undisturbed turn has a message, of which this is so; or it was refused for want of memory
+-- an undisturbed turn has a message, of which this is so; or it was refused when out of memory
 abbrev pub Comes : Outcome → (TsRequest → Type 0) → Type 0
 Comes (Reply r) Q = Q r
 Comes (Final r) Q = Q r
@@ -60,7 +60,7 @@ sealed_few acts = let p = count_few acts.proved in let s = count_few acts.sealed
 pub differs_never : (w : ℕ) → differs (Some w) w ≡ false
 differs_never w = rw (eq-eqb w w refl) refl
 
--- which version a client has noted once a turn is over: none after its first
+-- which version a client has pinned once a turn is over: none after its first
 abbrev pub noted_at : Bool → ℕ → Option ℕ
 noted_at true w = None
 noted_at false w = Some w
@@ -133,13 +133,13 @@ module _ {C : Type 0} (c : Meaning ContextSetting C) where
     unsealed_is = rw fresh.context refl;
   }
 
-  -- what a client does that is given this version next: it does not refuse it, and has it noted then
+  -- what a client does that is given this version next: it does not refuse it, and has it pinned then
   pub record Takes (v : ClientView C) (w : ℕ) : Type 0 where
     pub fits : is_altered_in v.context v.noted w ≡ false
     pub young : is_old_in v.context v.settings.least v.noted w ≡ false
     pub notes : noted_in v.context v.settings.least v.noted w ≡ Some w
 
-  -- it is the noted version
+  -- it is the pinned version
   pub takes_noted : (v : ClientView C) (m : C) (w : ℕ) → v.context ≡ Some m → v.noted ≡ Some w → Takes v w
   takes_noted v m w there noted = record {
     fits = rw (there, noted) (differs_never w);
@@ -147,7 +147,7 @@ module _ {C : Type 0} (c : Meaning ContextSetting C) where
     notes = rw (there, noted) refl;
   }
 
-  -- or none is noted yet, and this one is not below the least
+  -- or none is pinned yet, and this one is not below the least
   takes_first : (v : ClientView C) (m : C) (w : ℕ) → nat_lt w v.settings.least ≡ false → v.context ≡ Some m → v.noted ≡ None → Takes v w
   takes_first v m w takes there none = record {
     fits = rw (there, none) refl;

@@ -175,7 +175,7 @@ never_served (Some domain) =
     ap (λ (url : Option (List ℕ)). begins_with false (record { ntlm = true; kerberos = true }) protocols.Ntlm url)
     (sym (none_served domain))
 
--- ends that have these in hand and begin with this, where the server picks this and what they need is there
+-- ends that have these selected and begin with this, where the server picks this and what they need is there
 abbrev pub negotiating : {told : Option (ℕ → NetworkRequest → Reply)} {call : ℕ} {client server : NegotiateConfig}
     {identity : AuthIdentity} →
     (hand hand2 : Origin) (begins : Protocol) (picked : Picked) → first_in_hand Client client ≡ Ok hand →

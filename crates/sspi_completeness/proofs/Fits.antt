@@ -84,7 +84,7 @@ code_value : (code : Option NStatusCode) → code ≡ None → IfSome code (λ c
 code_value None none = tt
 code_value (Some code) none = absurd cc
 
--- a message that is spelled
+-- a message that is encoded
 pub record IsMessage (r : TsRequest) : Type 0 where
   pub value : IsRequestValue r
   pub fit : fits r ≡ true

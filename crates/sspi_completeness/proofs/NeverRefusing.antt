@@ -206,7 +206,7 @@ ntlm_never = record {
 
 -- ---- what chooses among contexts
 
--- by the one in hand
+-- by the one selected
 in_hand_never : {A B : Type 0} (P : A → Type 0) (Q : B → Type 0) → ((x : A) → P x → ⊥) → ((y : B) → Q y → ⊥) → (m : A ⊎ B) →
     in_hand P Q m → ⊥
 in_hand_never P Q first second (inl x) h = first x h

@@ -360,7 +360,7 @@ module _ (config : NegotiateConfig) (entries : List AuthIdentity) where
         ∙ ap (λ (o : Option (List ℕ)). runs (written o working working statuses.ContinueNeeded) (challenged i challenge))
         (targ_spelled (challenge_token None challenge) (challenge_little challenge eight))
 
--- its first step, by what it has in hand at first
+-- its first step, by what it has selected at first
 module _ (config : NegotiateConfig) (entries : List AuthIdentity) (i : AuthIdentity) (o : Origin) (eight : length (challenge_of o) ≡ 8)
   where
     -- it picks the mechanism that the client began with

@@ -162,7 +162,7 @@ runs (Verifies mic text v p) m =
 
 -- ---- it is what comes of the plan
 
--- want of memory may come in place of each answer
+-- out of memory may come in place of each answer
 abbrev pub IsDecided : Answer → Type 0
 IsDecided r = (error : Error) → r ≡ Refused error → error.error_type ≢ InsufficientMemory
 

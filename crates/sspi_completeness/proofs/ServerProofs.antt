@@ -207,7 +207,7 @@ module _ {C P : Type 0} (c : Meaning ContextSetting C) (laws : IsContext c) (p :
           after,
         )
 
-    -- behind a reply its context is left so, and the version stays noted
+    -- behind a reply its context is left so, and the version stays pinned
     replied : (mid : View) (r : TsRequest) → ServerMakes c p old d (outcome.Reply r) mid →
         Holds c mid.context z × (mid.output ≡ step.output) × (mid.noted ≡ Some w)
     replied mid r makes =

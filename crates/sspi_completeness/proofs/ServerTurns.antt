@@ -39,7 +39,7 @@ module _ {C P : Type 0} (c : Meaning ContextSetting C) (laws : IsContext c) (p :
       (t.acts.sealed ≡ false) × (t.acts.opened ≡ false)
   nego_acts frame t acts nego = (acts.sealed, is_false t.acts.opened (λ was. let s = (acts.opened was).0 in cc (s, nego)))
 
-  -- a server whose peer's version is noted takes that version again
+  -- a server whose peer's version is pinned takes that version again
   pub server_now : (b mid : View) (w : ℕ) (state : CredSspState) (sealed unsealed : ℕ) → mid.settings ≡ b.settings → mid.state ≡ state →
       mid.noted ≡ Some w → sealings_in c mid.context ≡ sealed → unsealings_in c mid.context ≡ unsealed →
       ServerIs c b mid w state sealed unsealed

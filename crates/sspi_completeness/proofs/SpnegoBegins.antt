@@ -1,4 +1,4 @@
--- How the contexts of negotiations begin: the mechanism in hand, and what comes before each step of a client.
+-- How the contexts of negotiations begin: the selected mechanism, and what comes before each step of a client.
 use Rattle.std.proofs.Common.{◌≡◌, ◌&&◌, ◌||◌, Bool, true, false, List, [], ℕ, Option, None, Some, Result, Ok, refl, ap}
 use Rattle.std.proofs.Common.{◌∙◌, subst, if◌then◌else◌, is_some, replicate}
 use Rattle.sspi_types.specs.declared.credential_use.CredentialUse.TheVariants.{Inbound, Outbound}
@@ -37,7 +37,7 @@ use Rattle.sspi_negotiate.specs.Values.{Values}
 use Rattle.sspi_completeness.specs.Negotiating.{protocol_of, begins_with, kdc_url, challenge_of, ticket_of}
 use Rattle.sspi_completeness.proofs.Runs.{M, h, runs, made_of, made_is}
 
--- ---- the mechanism in hand
+-- ---- the selected mechanism
 
 pub hand_is : (o : Origin) → hand_of (made_of o) ≡ protocol_of o
 hand_is (Configured (configs.Ntlm config)) = refl
@@ -89,7 +89,7 @@ never_unserved (hands.Kerberos m) kind refuses = cc (refuses)
 
 -- ---- what a client begins with
 
--- where the target is named by its IP address, and NTLM may be used, NTLM is in hand and Kerberos may not be used
+-- where the target is named by its IP address, and NTLM may be used, NTLM is selected and Kerberos may not be used
 abbrev pub hand_first : Bool → Protocol → Protocol
 hand_first true protocol = Ntlm
 hand_first false protocol = protocol
@@ -192,7 +192,7 @@ kerberos_begins false packages config (Configured (configs.Ntlm ntlm)) name is =
     at true None is = absurd cc
     at false url is = absurd cc
 
--- an end with Kerberos in hand may use it
+-- an end with Kerberos selected may use it
 pub may_kerberos : (role : Role) (config : NegotiateConfig) (pc : ProtocolConfig) (packages : PackageListConfig) (o : Origin) →
     first_by role config pc packages ≡ Ok o → protocol_of o ≡ Kerberos → packages.kerberos ≡ true
 may_kerberos role config (configs.Ntlm ntlm) packages o first is = at role packages.ntlm packages.kerberos first
@@ -229,7 +229,7 @@ begins_allowed ip config o url first begins =
     allowed (ip && (packages_in config).ntlm) (protocol_of o) (packages_in config).kerberos url
     (may_kerberos Client config config.protocol_config (packages_in config) o first) begins
 
--- ---- what a server has in hand
+-- ---- what a server has selected
 
 -- once it picked NTLM, the one that it had or one in the place of a Kerberos
 pub ntlm_taken : (o : Origin) (computer : List ℕ) (rest : Plan) →
@@ -308,7 +308,7 @@ module _ (config : NegotiateConfig) (i : AuthIdentity) (is : IsIdentity i) where
       else by_target ip (client_values p packages state list need) args) m) begins
       ∙ aimed (ip && packages.ntlm) p packages state list need args m had none
 
-  -- once NTLM is in hand and Kerberos may not be used, nothing changes
+  -- once NTLM is selected and Kerberos may not be used, nothing changes
   pub led_ntlm : (ip : Bool) (state : NegotiateState) (list : List (List ℕ)) (need : Bool) (args : StepArgs) (m : M) →
       is_closed Client state Idle ≡ false → args.handle ≡ handle_of i →
       runs (spnego_client ip (client_values Ntlm (record { ntlm = true; kerberos = false }) state list need) args) m
@@ -323,7 +323,7 @@ module _ (config : NegotiateConfig) (i : AuthIdentity) (is : IsIdentity i) where
       at true = refl
       at false = refl
 
-  -- nor where Kerberos is in hand and stays there
+  -- nor where Kerberos is selected and stays there
   pub led_kerberos : (ip : Bool) (packages : PackageListConfig) (state : NegotiateState) (list : List (List ℕ)) (need : Bool)
       (args : StepArgs) (m : M) → is_closed Client state Idle ≡ false → args.handle ≡ handle_of i → (ip && packages.ntlm) ≡ false →
       runs (spnego_client ip (client_values Kerberos packages state list need) args) m

@@ -1,4 +1,4 @@
--- What the contexts of negotiations make of steps and messages, counts of these apart, whichever mechanism is in hand.
+-- What the contexts of negotiations make of steps and messages, counts of these apart, whichever mechanism is selected.
 use Rattle.std.proofs.Common.{◌≡◌, ◌≢◌, ◌↔◌, ℕ, ◌<◌, ◌-◌, ◌^◌, Bool, IsTrue, List, [], ◌∷◌, Option, None, Some, Result, Ok, Err}
 use Rattle.std.proofs.Common.{refl, ap, sym, ◌∙◌, subst, arith}
 use Rattle.sspi_types.specs.declared.credential_use.CredentialUse.TheVariants.{Inbound, Outbound}

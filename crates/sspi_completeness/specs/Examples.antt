@@ -17,11 +17,11 @@ example_target = codes "TERMSRV/host.example.com"
 abbrev pub example_end : ProtocolConfig → List ℕ → NegotiateConfig
 example_end first computer = record { protocol_config = first; package_list = None; client_computer_name = computer; kdcs = [] }
 
--- with NTLM in hand, whose challenge is zeros
+-- with NTLM selected, whose challenge is zeros
 abbrev pub example_ntlm : List ℕ → NegotiateConfig
 example_ntlm computer = example_end (configs.Ntlm (record { client_computer_name = Some computer; challenge = replicate 8 0 })) computer
 
--- a client with Kerberos in hand, which asks this KDC; a server of Kerberos with this ticket
+-- a client with Kerberos selected, which asks this KDC; a server of Kerberos with this ticket
 abbrev pub example_kerberos : List ℕ → List ℕ → NegotiateConfig
 example_kerberos url computer =
     example_end (configs.Kerberos (record { kdc_url = Some url; kdcs = []; client_computer_name = computer })) computer

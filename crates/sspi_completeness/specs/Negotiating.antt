@@ -27,7 +27,7 @@ use Rattle.sspi_negotiate.specs.Rows.{is_guest_text}
 use Rattle.sspi_negotiate.specs.Rule.{url_for}
 use Rattle.sspi_negotiate.specs.Target.{IsNamedByIp}
 
--- ---- which mechanism an end has in hand
+-- ---- which mechanism an end has selected
 
 abbrev pub protocol_of : Origin → Protocol
 protocol_of (Configured (configs.Ntlm config)) = Ntlm
@@ -35,8 +35,8 @@ protocol_of (Configured (configs.Kerberos config)) = Kerberos
 protocol_of (Configured (configs.KerberosServer config server)) = Kerberos
 protocol_of (InPlaceOfNtlm url kdcs computer) = Kerberos
 
--- What a client begins with, by the mechanism that is in hand when it is made and the URL of a KDC for the domain of its name:
--- NTLM, where its target is named by its IP address and NTLM may be used; else Kerberos, where it is in hand, or may be used
+-- What a client begins with, by the mechanism that is selected when it is made and the URL of a KDC for the domain of its name:
+-- NTLM, where its target is named by its IP address and NTLM may be used; else Kerberos, where it is selected, or may be used
 -- and there is such a KDC.
 abbrev pub begins_with : Bool → PackageListConfig → Protocol → Option (List ℕ) → Protocol
 begins_with ip packages first url =
@@ -101,7 +101,7 @@ module _ (told : Option (ℕ → NetworkRequest → Reply)) (call : ℕ) where
   Needs Kerberos choices.Kerberos url server identity = HasSessionKey told call url identity.username (ticket_of server)
   Needs Kerberos choices.MsKerberos url server identity = HasSessionKey told call url identity.username (ticket_of server)
 
-  -- Each end has a mechanism in hand at first, the server picks of what the client offers, and what they need is there. The KDC
+  -- Each end has a selected mechanism at first, the server picks of what the client offers, and what they need is there. The KDC
   -- tells its replies by the number of the call, and this is the number of its next one.
   pub record AreNegotiating (client server : NegotiateConfig) (target : List ℕ) (identity : AuthIdentity) : Type 0 where
     pub client_hand : Origin

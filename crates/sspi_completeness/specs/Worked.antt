@@ -107,11 +107,11 @@ with_ntlm config = negotiation (configs.Ntlm config) None []
 abbrev pub realm_kerberos : KerberosConfig
 realm_kerberos = record { kdc_url = None; kdcs = realm_table; client_computer_name = computer }
 
--- a client with Kerberos in hand, which finds its KDC by the realm of its name
+-- a client with Kerberos selected, which finds its KDC by the realm of its name
 abbrev pub with_kerberos : NegotiateConfig
 with_kerberos = negotiation (configs.Kerberos realm_kerberos) None realm_table
 
--- a server with Kerberos in hand and a ticket, and one that may use NTLM alone
+-- a server with Kerberos selected and a ticket, and one that may use NTLM alone
 abbrev pub with_ticket : NegotiateConfig
 with_ticket =
     negotiation (configs.KerberosServer realm_kerberos (record { ticket = Some (replicate 32 0x11) })) None realm_table

@@ -37,7 +37,7 @@ pub fn contexts_refuse_no_version<N: Mechanism, K: Mechanism>()
         NeverRefuses (either requests N.meaning K.meaning) DowngradeDetected }
 {}
 
-/// Ends that negotiate and match, as examples have them: both with Kerberos in hand; the client with Kerberos and the server with
+/// Ends that negotiate and match, as examples have them: both with Kerberos selected; the client with Kerberos and the server with
 /// NTLM; both with NTLM. What each pair needs is there, for every client but a guest of NTLM, and so many messages end it.
 pub fn negotiations_match()
     ensures kerberos { (identity : AuthIdentity) → (url ticket computer : List ℕ) → length ticket ≡ 32 →

@@ -168,7 +168,7 @@ pub fn negotiated_with_a_long_key(alloc: Global, limit: u32) -> Result<Delegatio
     exchange(alloc, &given, client, server, Ok(FailingKdc::new()), limit)
 }
 
-/// Four messages: a negotiation of Kerberos, user to user, whose KDC the client finds by its realm.
+/// Four messages: a negotiation of Kerberos, user-to-user, whose KDC the client finds by its realm.
 pub fn user_to_user(alloc: Global, limit: u32) -> Result<Delegation, DelegateError>
     ensures { AnswersIn 4 limit (ann_of_realm (codes "pw")) result }
 {

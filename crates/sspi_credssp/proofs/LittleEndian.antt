@@ -45,7 +45,7 @@ high_wrap n m = omega arith
 pub power_suc : (k : ℕ) → 256 ^ suc k ≡ 256 * 256 ^ k
 power_suc k = rw (pow-suc 256 k) (omega arith)
 
--- a number past the count of bytes spells the same bytes
+-- a number past the count of bytes encodes the same bytes
 pub bytes_of-wrap : (k n : ℕ) → bytes_of k (n + 256 ^ k) ≡ bytes_of k n
 bytes_of-wrap zero n = refl
 bytes_of-wrap (suc k) n =

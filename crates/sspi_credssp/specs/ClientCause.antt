@@ -49,7 +49,7 @@ module _ {C : Type 0} (c : Meaning ContextSetting C) where
   abbrev pub DeliverExact : Option (List ℕ) → ClientView C → ErrorKind → Type 0
   DeliverExact field new kind = BlobStops field kind (λ blob. BlobExact new.noted new.context blob new kind)
 
-  -- the authentication ended before a version was noted, or the proof is not sealed
+  -- the authentication ended before a version was pinned, or the proof is not sealed
   abbrev pub ProveCause : Option ℕ → Option C → ClientView C → ErrorKind → Type 0
   ProveCause None context new kind = kind ≡ InternalError
   ProveCause (Some noted) None new kind = ⊥

@@ -134,11 +134,11 @@ module _ {C : Type 0} (c : Meaning ContextSetting C) where
   abbrev pub KeepsHandle : ClientView C → ClientView C → Type 0
   KeepsHandle old new = IsSome old.context → (new.handle ≡ old.handle) × IsSome new.context
 
-  -- the version that is noted where a call looks at the delivered one
+  -- the version that is pinned where a call looks at the delivered one
   abbrev pub noted_next : ClientView C → TsRequest → Option ℕ
   noted_next old d = noted_in old.context old.settings.least old.noted d.version
 
-  -- the version that is noted after a call: a call that is refused before it looks at the version notes none
+  -- the version that is pinned after a call: a call that is refused before it looks at the version pins none
   abbrev pub noted_after : ClientView C → TsRequest → Option ℕ
   noted_after old d = if is_waiting_in c old.context || is_code d.error_code then old.noted else noted_next old d
 

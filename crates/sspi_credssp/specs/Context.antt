@@ -1,4 +1,4 @@
--- What a security context means: what the mechanism or the negotiation in hand means; and how the context of a turn begins.
+-- What a security context means: what the selected mechanism or the negotiation means; and how the context of a turn begins.
 use Rattle.std.specs.Prelude.{ℕ, ◌⊎◌, List, filter, take, Option, ◌≡◌, ◌≢◌, None, Some, Err}
 use mathlib.Core.Logic.{inl, inr}
 use Rattle.sspi_types.specs.declared.credential_use.CredentialUse.{CredentialUse}
@@ -31,7 +31,7 @@ pub data ContextSetting : Type 0 where
   ForClient : ClientMode → ContextSetting
   ForServer : ServerMode → Option (List Identity) → ContextSetting
 
--- what the mechanism or the negotiation in hand is made of
+-- what the selected mechanism or the negotiation is made of
 abbrev pub made_of : ContextSetting → (Setting ⊎ Setting) ⊎ PeersSetting
 made_of (ForClient (client.Ntlm config)) = inl (inl (OfNtlm config))
 made_of (ForClient (client.Negotiate config)) = inr (OfClient config)

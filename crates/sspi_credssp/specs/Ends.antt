@@ -57,7 +57,7 @@ pub record ClientView (C : Type 0) : Type 0 where
   -- the request whose turn is suspended
   pub kept : Option TsRequest
 
--- without a context nothing has happened; past the authentication the server's version is noted
+-- without a context nothing has happened; past the authentication the server's version is pinned
 abbrev pub IsOrderlyClient : {C : Type 0} → Option C → Option CredentialsBuffers → Option ℕ → CredSspState → Type 0
 IsOrderlyClient None handle noted state = (handle ≡ None) × (noted ≡ None) × (state ≡ NegoToken)
 IsOrderlyClient (Some m) handle noted NegoToken = Unit {0}

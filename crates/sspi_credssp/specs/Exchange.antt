@@ -24,12 +24,12 @@ use Rattle.sspi_credssp.specs.Noted.{StopsIf}
 
 -- ---- the proofs
 
--- the number that the bytes spell, the first byte the lowest
+-- the number that the bytes encode, the first byte the lowest
 abbrev pub little_endian : List ℕ → ℕ
 little_endian [] = 0
 little_endian (b ∷ bs) = b + 256 * little_endian bs
 
--- the bytes, as many as the first number says, that spell the second number modulo 256 to the first
+-- the bytes, as many as the first number says, that encode the second number modulo 256 to the first
 abbrev pub bytes_of : ℕ → ℕ → List ℕ
 bytes_of zero number = []
 bytes_of (suc n) number = (number % 256) ∷ bytes_of n (number / 256)

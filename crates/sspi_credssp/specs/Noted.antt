@@ -24,17 +24,17 @@ StopsIf false here kind Later = Later
 abbrev pub OrMemory : ErrorKind → Type 0 → Type 0
 OrMemory kind Cause = kind ≢ InsufficientMemory → Cause
 
--- no version is noted yet, and this one is below the least that the end takes
+-- no version is pinned yet, and this one is below the least that the end takes
 abbrev pub is_old : ℕ → Option ℕ → ℕ → Bool
 is_old least None version = nat_lt version least
 is_old least (Some noted) version = false
 
--- a version differs from the one that is noted
+-- a version differs from the one that is pinned
 abbrev pub differs : Option ℕ → ℕ → Bool
 differs None version = false
 differs (Some noted) version = not (noted == version)
 
--- the version that is noted once one was looked at; one that is refused is not noted
+-- the version that is pinned once one was looked at; one that is refused is not pinned
 abbrev pub noted_with : ℕ → Option ℕ → ℕ → Option ℕ
 noted_with least None version = if nat_lt version least then None else Some version
 noted_with least (Some noted) version = Some noted
@@ -65,7 +65,7 @@ noted_in (Some m) least noted version = noted_with least noted version
 -- ---- Where a call refuses its peer's version for its age. A context may itself refuse with that kind; the plain mechanisms never do.
 
 module _ {C : Type 0} (c : Meaning ContextSetting C) where
-  -- the client comes to look at a version, has noted none, and would note one below its least
+  -- the client comes to look at a version, has pinned none, and would note one below its least
   pub record ClientMeetsOld (client : ClientView C) (d : TsRequest) : Type 0 where
     pub idle : is_waiting_in c client.context ≡ false
     pub code : is_code d.error_code ≡ false
@@ -78,7 +78,7 @@ module _ {C : Type 0} (c : Meaning ContextSetting C) where
     pub only : NeverRefuses c DowngradeDetected → IsErrAnd result (λ error. error.error_type ≡ DowngradeDetected) → ClientMeetsOld client d
 
   module _ {P : Type 0} where
-    -- the server has a context, or has made one, has noted no version, and would note one below its least
+    -- the server has a context, or has made one, has pinned no version, and would note one below its least
     pub record ServerMeetsOld (server : ServerView C P) (d : TsRequest) (new : ServerView C P) : Type 0 where
       pub begun : IsSome new.context
       pub old : is_old server.settings.least server.noted d.version ≡ true

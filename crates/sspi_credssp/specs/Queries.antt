@@ -1,4 +1,4 @@
--- What a context tells of the mechanism that a negotiation has in hand.
+-- What a context tells of the mechanism that a negotiation has selected.
 use Rattle.std.specs.Prelude.{◌≡◌, Option, None, Some}
 use Rattle.sspi_types.specs.declared.error_kind.ErrorKind.{ErrorKind}
 use Rattle.sspi_types.specs.declared.error_kind.ErrorKind.TheVariants.{UnsupportedFunction}

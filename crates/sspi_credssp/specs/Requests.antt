@@ -41,7 +41,7 @@ stripped PubKeyInfo d = record d { nego_tokens = None; pub_key_auth = None }
 stripped AuthInfo d = record d { auth_info = None }
 stripped Final d = d
 
--- the delivered version up to the version check, and the server's own past it: where none is noted it was too old
+-- the delivered version up to the version check, and the server's own past it: where none is pinned it was too old
 abbrev pub version_back : {C : Type 0} → Option C → Option ℕ → ℕ → ℕ → ℕ
 version_back None noted delivered own = delivered
 version_back (Some m) None delivered own = delivered

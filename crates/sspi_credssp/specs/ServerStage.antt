@@ -73,7 +73,7 @@ pub record IsAtStep {C P : Type 0} (c : Meaning ContextSetting C) (p : ProxyMean
   pub later : IsLater p start.proxy now.proxy
   pub begun : IfContext now.context (Begun c start.context start.handle (server_setting p start) Inbound None now.handle)
 
--- it has a context and has noted its client's version, and this call did so much
+-- it has a context and has pinned its client's version, and this call did so much
 pub record HasDone {C P : Type 0} (did : Acts) (now : ServerView C P) : Type 0 where
   pub acts : now.acts ≡ did
   pub begun : IsSome now.context

@@ -39,19 +39,19 @@ OnceNegotiated PubKeyInfo P = P
 OnceNegotiated AuthInfo P = P
 OnceNegotiated Final P = P
 
--- a fact of the peer's version, which is noted
+-- a fact of the peer's version, which is pinned
 abbrev pub AtNoted : Option ℕ → (ℕ → Type 0) → Type 0
 AtNoted None P = ⊥
 AtNoted (Some version) P = P version
 
--- a turn that looks at its peer's version notes it, or finds that it is the noted one
+-- a turn that looks at its peer's version notes it, or finds that it is the pinned one
 abbrev pub FitsNoted : Bool → Option ℕ → ℕ → Type 0
 FitsNoted false noted version = Unit {0}
 FitsNoted true noted version = AtNoted noted (λ n. version ≡ n)
 
 -- What an end is at a turn: its settings; its state before the turn; the numbers that the messages of this turn have among
 -- those that its context sealed and opened; whether it looks at the delivered version, as in each turn but a client's first;
--- the version that is noted once the turn is over; and its context.
+-- the version that is pinned once the turn is over; and its context.
 pub record Frame (S C : Type 0) : Type 0 where
   pub settings : S
   pub state : CredSspState
@@ -77,7 +77,7 @@ pub record IsUnspent {S C : Type 0} (c : Meaning S C) (start : CredSspState) (be
 -- the message that it owes (MS-CSSP 3.1.5).
 
 -- What is known of an end at a turn: its state before the turn; whether it looks at the delivered version; the version that is
--- noted once the turn is over; and its own version, where that is known.
+-- pinned once the turn is over; and its own version, where that is known.
 pub record ShownFrame : Type 0 where
   pub state : CredSspState
   pub looks : Bool

@@ -221,9 +221,9 @@ impl<N: Mechanism, K: Mechanism> CredSspClient<N, K> {
     ///
     /// Refused, in this order: `OutOfSequence` while a turn is suspended; `InvalidToken`, with the code as its status, where
     /// the server reports an error; in any call but the one that makes the context, which looks at no version,
-    /// `DowngradeDetected` where no version of the server is noted yet and this one is below the least, which then is not
-    /// noted, and `MessageAltered` where the server changes its version; with the kinds of a new context; then by the state.
-    /// In the authentication with the kinds of the context's step, `InternalError` where it ends before a version was noted,
+    /// `DowngradeDetected` where no version of the server is pinned yet and this one is below the least, which then is not
+    /// pinned, and `MessageAltered` where the server changes its version; with the kinds of a new context; then by the state.
+    /// In the authentication with the kinds of the context's step, `InternalError` where it ends before a version was pinned,
     /// and the kinds of sealing the proof. Where the server's proof is due, `InvalidToken` where it is absent or has under 16
     /// bytes, the kinds of opening it, `MessageAltered` where it is not the right one, and the kinds of the credentials' text
     /// and of sealing it. `OutOfSequence` once the last message was made. Out of memory may come in place of what stands
@@ -249,7 +249,7 @@ impl<N: Mechanism, K: Mechanism> CredSspClient<N, K> {
     ///
     /// Where no turn is suspended that is `OutOfSequence`, and the client only forgets what its last call did (`last_acts`,
     /// `take_output`). Else it is refused with the kinds of the context's step; with `InternalError` where the authentication
-    /// ends before a version was noted; with the kinds of sealing the proof; and for want of memory. A refused client is
+    /// ends before a version was pinned; with the kinds of sealing the proof; and when out of memory. A refused client is
     /// suspended still where its context is, and nowhere else: the request stays in it, and a later call goes on from there.
     pub fn resume(&mut self, reply: &Reply) -> Result<Progress, Error>
         ensures { ResumeCall (either N.REQUESTS N.meaning K.meaning) self.old reply.now result self.new }

@@ -28,7 +28,7 @@ use std::slice::from_ref;
 /// A security context by one of two mechanisms, which need not be those that the variants are named after, or by a negotiation
 /// that agrees on one of them.
 ///
-/// Its calls answer what the mechanism in hand answers. A refusal has no NTSTATUS code, and want of memory may come wherever a
+/// Its calls answer what the selected mechanism answers. A refusal has no NTSTATUS code, and out of memory may come wherever a
 /// call takes memory. What a step refuses its relation says; another call refuses, where its text names no kind of its own, as
 /// the mechanism's `refuses` says. The kinds that are told of the plain mechanisms are theirs alone.
 #[derive(Drop)]
@@ -85,7 +85,7 @@ impl<N: Mechanism, K: Mechanism> SspiContext<N, K> {
         }
     }
 
-    /// The name of the context's package: of a negotiation `Negotiate`, whatever mechanism it has in hand.
+    /// The name of the context's package: of a negotiation `Negotiate`, whatever mechanism it has selected.
     pub fn package_name(&self) -> &'static str
         ensures { result.now ≡ package_name_of self.now }
     {
@@ -204,7 +204,7 @@ impl<N: Mechanism, K: Mechanism> SspiContext<N, K> {
         })
     }
 
-    /// Tells a server which identity its peer may have. `IncompleteCredentials` for a keytab with NTLM in hand, also
+    /// Tells a server which identity its peer may have. `IncompleteCredentials` for a keytab with NTLM selected, also
     /// where it was negotiated; else as `custom_set_auth_identities` of this one. Refused, the context is as it was.
     pub fn custom_set_auth_identity(&mut self, identity: Credentials) -> Result<(), Error>
         // What `Ok` holds, and that the counts stay.

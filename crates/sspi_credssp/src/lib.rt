@@ -6,7 +6,7 @@
 //! - `CredSspClient` and `CredSspServer`: one `process` a message, and the client's `resume` once a KDC has replied. What a
 //!   call promises is one record, in `specs/ClientCall.antt` and `specs/ServerCall.antt`. What a turn may do and what it replies
 //!   is in `Turn.antt`, how it moves its end, with the step of the context, in `ClientTurn.antt` and `ServerTurn.antt`; the order
-//!   and the causes of the refusals are in `ClientCause.antt` and `ServerCause.antt`; when a version is noted, or refused for its
+//!   and the causes of the refusals are in `ClientCause.antt` and `ServerCause.antt`; when a version is pinned, or refused for its
 //!   age, in `Noted.antt`.
 //! - `SspiContext`: the security context that both drive, a mechanism or a negotiation over both; `specs/Context.antt` has what
 //!   it means.

@@ -49,7 +49,7 @@ impl<N: Mechanism, K: Mechanism> SspiContext<N, K> {
     /// in Data. The flags are not read.
     ///
     /// Of each type the first buffer without flags is taken; `InvalidToken` where Data or Token is missing, before the
-    /// mechanism in hand is asked. With the plain mechanisms `OutOfSequence` before there is a key, `ContextExpired` once all
+    /// selected mechanism is asked. With the plain mechanisms `OutOfSequence` before there is a key, `ContextExpired` once all
     /// numbers of messages are used. Refused, the context and all buffers are as they were.
     pub fn encrypt_message(
         &mut self,
@@ -70,7 +70,7 @@ impl<N: Mechanism, K: Mechanism> SspiContext<N, K> {
     /// one those of Token followed by those of Data. Answers no flags.
     ///
     /// Of each type the first buffer without flags is taken; `InvalidToken` where Data is missing, where there is neither
-    /// Stream nor Token, and for a blob of under 16 bytes, before the mechanism in hand is asked. With the plain mechanisms
+    /// Stream nor Token, and for a blob of under 16 bytes, before the selected mechanism is asked. With the plain mechanisms
     /// `OutOfSequence` before there is a key, `ContextExpired` once all numbers of messages are used, `MessageAltered` for what
     /// the peer did not seal as this message. Out of memory never stands for the refusal of a blob in Stream; Token and Data
     /// are joined first, which takes memory. Refused, the context and all buffers are as they were.
@@ -94,7 +94,7 @@ impl<N: Mechanism, K: Mechanism> SspiContext<N, K> {
     /// not read.
     ///
     /// Of each type the first buffer without flags is taken; `InvalidToken` where Data or Token is missing, before the
-    /// mechanism in hand is asked. With the plain mechanisms `OutOfSequence` before there is a key, `ContextExpired` once all
+    /// selected mechanism is asked. With the plain mechanisms `OutOfSequence` before there is a key, `ContextExpired` once all
     /// numbers of MICs are used. Refused, the context and all buffers are as they were.
     pub fn make_signature(
         &mut self,
@@ -115,7 +115,7 @@ impl<N: Mechanism, K: Mechanism> SspiContext<N, K> {
     /// answers 0. Changes no buffer and takes no memory. The sequence number is not read.
     ///
     /// Of each type the first buffer without flags is taken; `InvalidToken` where Data or Token is missing, before the
-    /// mechanism in hand is asked. With the plain mechanisms `OutOfSequence` before there is a key, `ContextExpired` once all
+    /// selected mechanism is asked. With the plain mechanisms `OutOfSequence` before there is a key, `ContextExpired` once all
     /// numbers of MICs are used, `MessageAltered` for another MIC. Refused, the context is as it was.
     pub fn verify_signature(
         &mut self,

@@ -12,7 +12,7 @@ pub const DEFAULT_LEAST_VERSION: u32 = FIRST_HASHED_VERSION;
 
 // Notes the version of the peer's first request, and wants each later request to have it.
 pub fn note_version(peer_version: &mut Option<u32>, least: u32, version: u32) -> Result<(), Refusal>
-    // What is noted.
+    // What is pinned.
     ensures noted { peer_version.new ≡ noted_with least peer_version.old version }
     ensures ok { OnOk result (peer_version.new ≡ Some version) }
     ensures err { OnErr result (peer_version.new ≡ peer_version.old) }

@@ -15,7 +15,7 @@ use sspi_types::{
 };
 
 impl<N: Mechanism, K: Mechanism> SspiContext<N, K> {
-    /// The sizes that users of the mechanism in hand must know.
+    /// The sizes that users of the selected mechanism must know.
     pub fn query_context_sizes(&self) -> ContextSizes
         ensures { result ≡ (either N.REQUESTS N.meaning K.meaning).sizes self.now }
     {
@@ -26,7 +26,7 @@ impl<N: Mechanism, K: Mechanism> SspiContext<N, K> {
         }
     }
 
-    /// The session key of the mechanism in hand. With the plain mechanisms `OutOfSequence` before there is one.
+    /// The session key of the selected mechanism. With the plain mechanisms `OutOfSequence` before there is one.
     pub fn query_context_session_key(&self) -> Result<SessionKeys, Error>
         ensures key { IfOk result (λ keys.
             (either N.REQUESTS N.meaning K.meaning).session_key self.now ≡ Some keys.session_key.value) }
@@ -51,7 +51,7 @@ impl<N: Mechanism, K: Mechanism> SspiContext<N, K> {
         }
     }
 
-    /// The entry of the mechanism that a negotiation has in hand. `UnsupportedFunction` where nothing is negotiated.
+    /// The entry of the mechanism that a negotiation has selected. `UnsupportedFunction` where nothing is negotiated.
     pub fn query_context_negotiation_package(&self) -> Result<PackageInfo, Error>
         ensures entry { IfOk result (λ info. negotiated_entry N.meaning K.meaning self.now ≡ Some info) }
         ensures none { negotiated_entry N.meaning K.meaning self.now ≡ None → result ≡ Err unsupported }

@@ -174,8 +174,8 @@ impl<N: Mechanism, K: Mechanism, C: CredentialsProxy> CredSspServer<N, K, C> {
     /// at no other time. At the end of the authentication the proxy is asked for the peer, once.
     ///
     /// Refused, in this order: `InternalError` where the proxy's list failed; with the kinds of a new context;
-    /// `DowngradeDetected` where no version of the client is noted yet and this one is below the least, which then is not
-    /// noted; `MessageAltered` where the client changes its version; then by the state. In the authentication with the kinds of
+    /// `DowngradeDetected` where no version of the client is pinned yet and this one is below the least, which then is not
+    /// pinned; `MessageAltered` where the client changes its version; then by the state. In the authentication with the kinds of
     /// the context's step; `InternalError` at a status that neither goes on nor ends it; with the kinds of naming its peer;
     /// `LogonDenied` where the look-up failed, `NoCredentials` where it found nobody; with the kinds of taking the identities
     /// that were found, as `LogonDenied` for a wrong password, and of completing; `InvalidToken` where it ended with neither a

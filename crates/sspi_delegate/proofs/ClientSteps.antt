@@ -47,9 +47,9 @@ state_auth true proved h = absurd (cc (h))
 state_auth false true h = (refl, refl)
 state_auth false false h = absurd (cc (h))
 
--- ---- the version that is noted
+-- ---- the version that is pinned
 
--- a turn that looked at its peer's version and was not refused has noted it
+-- a turn that looked at its peer's version and was not refused has pinned it
 pub went_noted : (noted : Option ℕ) (version : ℕ) (out : Outcome) → GoesOn out → UnlessRefused out (FitsNoted true noted version) →
     IsSome noted
 went_noted (Some v) version out went fits = refl
@@ -71,7 +71,7 @@ noted_second (Some m) least None version begun none = refl
 noted_second (Some m) least (Some noted) version begun none = absurd (cc (none))
 
 module _ {C : Type 0} (c : Meaning ContextSetting C) where
-  -- each turn past the first has noted a version
+  -- each turn past the first has pinned a version
   pub noted_by_two : (e : ClientEnd C) (t u : Turn) (past : List Turn) → EachClientTurn c e (t ∷ u ∷ past) → AllGoOn (t ∷ u ∷ past) →
       IsSome (client_noted e.settings.least (t ∷ u ∷ past))
   noted_by_two e t u past each going = went_noted (client_noted e.settings.least (t ∷ u ∷ past)) t.delivered.version t.outcome going.0

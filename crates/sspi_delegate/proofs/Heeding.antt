@@ -35,7 +35,7 @@ use Rattle.sspi_delegate.proofs.HistoryRuns.{client_turn_of, client_went, histor
 use Rattle.sspi_delegate.proofs.HistoryRuns.{server_history_follows}
 use Rattle.sspi_delegate.proofs.ServerSteps.{noted_by_one, server_turned}
 
--- what was noted is not below the least
+-- what was pinned is not below the least
 young_noted : (least version : ℕ) → IsSome (noted_with least None version) → version < least → ⊥
 young_noted least version some old = young (nat_lt version least) version some (lt-ltb version least old)
   where
@@ -101,7 +101,7 @@ altered_in (Some m) noted version begun altered = altered
 module _ {C : Type 0} (c : Meaning ContextSetting C) where
   -- ---- a client's turns
 
-  -- a turn that went on was told no error, and no other version than the noted one
+  -- a turn that went on was told no error, and no other version than the pinned one
   went_untold : (e : ClientEnd C) (t : Turn) (past : List Turn) → EachClientTurn c e (t ∷ past) → GoesOn t.outcome →
       is_code t.delivered.error_code ≡ true → ⊥
   went_untold e t past each went told = true≢false (sym told ∙ went_fact t.outcome _ went each.0.shown.code)

@@ -224,7 +224,7 @@ read_asked base start (t ∷ past) log log2 now now2 reader request newest there
       calm = later ∙ between.calm;
     }
 
--- a reader tells no want of memory, so what it tells is the fault of the bytes
+-- a reader tells no out of memory, so what it tells is the fault of the bytes
 told_fault : (bytes : List ℕ) (kind : WireKind) → IsAnswer bytes (Err kind) → NeedsNoMemory {X = TsRequest} (Err kind) → IsFault bytes kind
 told_fault bytes UnexpectedEof answer memory = answer
 told_fault bytes InvalidData answer memory = answer

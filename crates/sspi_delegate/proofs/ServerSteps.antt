@@ -42,7 +42,7 @@ nego_state : (past : List Turn) → any_finished past ≡ false → any_proved p
     server_state past ≡ NegoToken
 nego_state past unfinished unproved going = rw (unfinished, unproved, going) refl
 
--- ---- the version that is noted
+-- ---- the version that is pinned
 
 noted_kept : (least : ℕ) (noted : Option ℕ) (version : ℕ) → IsSome noted → noted_with least noted version ≡ noted
 noted_kept least None version some = absurd (cc (some))
@@ -57,7 +57,7 @@ unrefused_noted None version outcome.Finished went fits = absurd fits
 unrefused_noted None version (outcome.Refused kind reply) went fits = absurd went
 
 module _ {C : Type 0} (c : Meaning ContextSetting C) where
-  -- each turn that was not refused has noted a version
+  -- each turn that was not refused has pinned a version
   pub noted_by_one : (e : ServerEnd C) (t : Turn) (past : List Turn) → EachServerTurn c e (t ∷ past) → NoneRefused (t ∷ past) →
       IsSome (server_noted e.settings.least (t ∷ past))
   noted_by_one e t past each going = unrefused_noted (server_noted e.settings.least (t ∷ past)) t.delivered.version t.outcome going.0

@@ -65,7 +65,7 @@ module _ (base : List Carried) (start : ℕ) where
   ServerHalf limit (Ok (Some identity)) turns log now = Finishes base start turns log now
   ServerHalf limit (Err error) turns log now = Stopped base start limit error turns log now
 
--- an end's refusal as an answer: want of memory is no refusal
+-- an end's refusal as an answer: out of memory is no refusal
 abbrev pub IsAnswerTo : ErrorKind → DelegateError → DelegateError → Type 0
 IsAnswerTo kind refusal answer = ((kind ≡ kinds.InsufficientMemory) × (answer ≡ errors.InsufficientMemory)) ⊎
     ((kind ≢ kinds.InsufficientMemory) × (answer ≡ refusal))

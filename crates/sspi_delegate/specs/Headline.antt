@@ -51,7 +51,7 @@ pub record FindsOldClient {C : Type 0} (context : Option C) (least : ℕ) (past 
   pub old : t.delivered.version < least
 
 module _ {C : Type 0} (c : Meaning ContextSetting C) where
-  -- exactly there it is refused so; and a client that is told an error, or another version than the noted one, does nothing
+  -- exactly there it is refused so; and a client that is told an error, or another version than the pinned one, does nothing
   pub record HeedsServer (least : ℕ) (past : List Turn) (t : Turn) : Type 0 where
     pub refuses : FindsOldServer least past t → IsDowngrade t.outcome
     pub only : NeverRefuses c DowngradeDetected → IsDowngrade t.outcome → FindsOldServer least past t

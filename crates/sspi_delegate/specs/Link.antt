@@ -135,7 +135,7 @@ abbrev pub IsReceived : {R : Type 0} → (R → ℕ → List ℕ → R → Type 
 IsReceived receives [] before count into now = now ≡ before
 IsReceived receives (e ∷ log) before count into now = IsReceivedOf receives e.ended before count into now
 
--- a carrier did this and answered so; or memory was wanting before it was asked, and it is as it was
+-- a carrier did this and answered so; or there was no memory before it was asked, and it is as it was
 abbrev pub DidOrKept : LinkError → Type 0 → Type 0 → Type 0
 DidOrKept Failed Did Kept = Did
 DidOrKept InsufficientMemory Did Kept = Did ⊎ Kept

@@ -95,7 +95,7 @@ IsDelivered [] log request = request ≡ first_request
 IsDelivered (t ∷ past) [] request = ⊥
 IsDelivered (t ∷ past) (e ∷ log) request = (is_taken e ≡ true) × IsRead e.delivered request × (length e.delivered ≤ delivery_limit)
 
--- what was sent is the spelling of the message, which fits
+-- what was sent is the encoding of the message, which fits
 abbrev pub IsSent : Option TsRequest → List ℕ → Type 0
 IsSent None sent = ⊥
 IsSent (Some message) sent = (fits message ≡ true) × (sent ≡ spelled message)
@@ -197,7 +197,7 @@ module _ (base : List Carried) (start : ℕ) where
     link_failed : LoggedButLast base turns log → NewestFits turns true → Counts start now → Given turns log now
     no_memory : LoggedButLast base turns log → NewestFits turns true → now ≡ start → Given turns log now
 
-  -- Where memory was wanting. The link may have failed to carry the message of a server that was refused for it; else it did not.
+  -- Where there was no memory. The link may have failed to carry the message of a server that was refused for it; else it did not.
   pub data Lacks (limit : ℕ) (turns : List Turn) (log : List Carried) (now : ℕ) : Type 0 where
     for_a_turn : AllGoOn turns → TurnLeft limit turns → Logged base turns log → WithinFor turns log → now ≡ start →
         Lacks limit turns log now
@@ -235,7 +235,7 @@ module _ (base : List Carried) (start : ℕ) where
   RunEnds limit (Ok delegation) turns log now = Finishes turns log now × (delegation.rounds ≡ turns_of Client turns)
   RunEnds limit (Err error) turns log now = Stopped limit error turns log now
 
--- ---- Where each answer of an exchange must come: what the turns and the log show leaves no other, but for want of memory, whose
+-- ---- Where each answer of an exchange must come: what the turns and the log show leaves no other, but when out of memory, whose
 -- place `Cause` has.
 
 -- the answer is an error of which this holds, or there was no memory
@@ -244,7 +244,7 @@ IsOnly P (Ok delegation) = ⊥
 IsOnly P (Err errors.InsufficientMemory) = Unit {0}
 IsOnly P (Err error) = P error
 
--- the answer to a refusal of this kind is an error of which this holds, and want of memory only where that is the kind
+-- the answer to a refusal of this kind is an error of which this holds, and out of memory only where that is the kind
 abbrev pub IsAnswerOf : ErrorKind → (DelegateError → Type 0) → Result Delegation DelegateError → Type 0
 IsAnswerOf kind P (Ok delegation) = ⊥
 IsAnswerOf kind P (Err errors.InsufficientMemory) = kind ≡ kinds.InsufficientMemory

@@ -1,4 +1,4 @@
--- How a message is spelled and carried.
+-- How a message is encoded and carried.
 use Rattle.std.specs.Prelude.{◌≡◌, ℕ, true, false, List, ◌∷◌, reverse, Option, None, Some, Result, Ok, Err}
 use Rattle.sspi_types.specs.Counting.{Counts}
 use Rattle.sspi_tsreq.specs.declared.request.TsRequest.{TsRequest}

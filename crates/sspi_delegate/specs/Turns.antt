@@ -1,5 +1,5 @@
 -- The turns of an exchange, the newest first, and what they show of each end; and the turns of either end, one after another
--- (MS-CSSP 3.1.5), whose state and noted version are those that its turns say.
+-- (MS-CSSP 3.1.5), whose state and pinned version are those that its turns say.
 use Rattle.std.specs.Prelude.{◌≡◌, ℕ, List, [], ◌∷◌, ◌+◌, ◌&&◌, ◌||◌, Bool, true, false, Option, None, IsSome, if◌then◌else◌, Some}
 use Rattle.sspi_credssp.specs.declared.turn.End.{End}
 use Rattle.sspi_credssp.specs.declared.turn.End.TheVariants.{Client, Server}
@@ -137,7 +137,7 @@ ServerEnd C = Kept ServerSettings C
 abbrev pub server_end : {C P : Type 0} → ServerView C P → ServerEnd C
 server_end server = record { settings = server.settings; context = server.context }
 
--- what an end is at the turn t after these turns, by what turns make of its state and of the version that is noted
+-- what an end is at the turn t after these turns, by what turns make of its state and of the version that is pinned
 abbrev pub frame_at : {S C : Type 0} → (List Turn → CredSspState) → (List Turn → Option ℕ) → Bool → Kept S C → List Turn → Turn →
     Frame S C
 frame_at state noted looks e past t = record {
@@ -171,7 +171,7 @@ pub record Ran {S C : Type 0} (c : Meaning ContextSetting C) (Each Others : List
 abbrev pub client_state : List Turn → CredSspState
 client_state past = if any_ended past then Final else (if any_proved past then AuthInfo else NegoToken)
 
--- the version that is noted: that of the second request, since the first is the client's own, unless it is below the least
+-- the version that is pinned: that of the second request, since the first is the client's own, unless it is below the least
 abbrev pub client_noted : ℕ → List Turn → Option ℕ
 client_noted least [] = None
 client_noted least (t ∷ []) = None
@@ -226,7 +226,7 @@ abbrev pub server_state : List Turn → CredSspState
 server_state past =
     if any_finished past then Final else (if any_proved past then AuthInfo else (if any_over past then PubKeyInfo else NegoToken))
 
--- the version that is noted: that of the first request, unless it is below the least
+-- the version that is pinned: that of the first request, unless it is below the least
 abbrev pub server_noted : ℕ → List Turn → Option ℕ
 server_noted least [] = None
 server_noted least (t ∷ []) = noted_with least None t.delivered.version

@@ -38,7 +38,7 @@ use std::alloc::Global;
 /// Ok gives the identity that the server opened, and how many turns the client made. Refused:
 ///
 /// - `Client`, `Server`: this end refused its turn, with this error. What a refusing server tells its client is carried, unless
-///   it does not fit, the link fails or memory is wanting; that changes no answer.
+///   it does not fit, the link fails or there is no memory; that changes no answer.
 /// - `Read`: what was delivered to this end is no request. The kind is `UnexpectedEof` where it ends too early or its header is
 ///   at fault, and else `InvalidData`.
 /// - `Write`: the message of this end has a content past `sspi_ber::MAX_CONTENT`, 1048576 octets.

@@ -24,7 +24,7 @@ pub trait Carrier: Drop {
     /// What the sending of a message from an end makes of the carrier.
     ghost sends: { Self → End → List ℕ → Self → Type 0 };
 
-    /// What receiving so many bytes, the front of these, makes of it.
+    /// What receiving so many bytes, the prefix of these, makes of it.
     ghost receives: { Self → ℕ → List ℕ → Self → Type 0 };
 
     /// What it leaves of the carrier that sending, or receiving, is refused with this error.
@@ -36,7 +36,7 @@ pub trait Carrier: Drop {
         ensures refuses { IfErr result (λ error. refuses self.old error self.new) }
         ensures cause { LinkCause (faults self.old) (faults self.new) result };
 
-    /// Writes the next bytes of the message to the front of `into`, and answers how many they are; none is its end.
+    /// Writes the next bytes of the message to the prefix of `into`, and answers how many they are; none is its end.
     fn receive(&mut self, into: &mut [u8]) -> Result<usize, LinkError>
         ensures bound { IfOk result (λ count. count ≤ length into.new) }
         ensures receives { IfOk result (λ count. receives self.old count into.new self.new) }
@@ -44,7 +44,7 @@ pub trait Carrier: Drop {
         ensures cause { LinkCause (faults self.old) (faults self.new) result };
 }
 
-/// A link over a carrier, which keeps the log. A call that is refused leaves the log, and where memory is wanting for the log the
+/// A link over a carrier, which keeps the log. A call that is refused leaves the log, and where there is no memory for the log the
 /// carrier is not asked.
 #[derive(Drop)]
 pub struct KeptLink<R: Carrier> {

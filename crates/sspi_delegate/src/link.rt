@@ -71,7 +71,7 @@ pub trait Link: Drop {
         ensures told { CarryTold (edits self.old) (log self.old) sent.now (faults self.old) (faults self.new) result }
         ensures follows { FollowsTold (edits self.new) (log self.new) };
 
-    /// Writes the next bytes of the newest delivery to the front of `into`, and answers how many they are.
+    /// Writes the next bytes of the newest delivery to the prefix of `into`, and answers how many they are.
     /// None, where `into` is not empty, is the end of the delivery. Without an entry there are none, and nothing changes.
     /// A call that is not `Ok` leaves the log.
     fn piece(&mut self, into: &mut [u8]) -> Result<usize, LinkError>

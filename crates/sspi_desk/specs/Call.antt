@@ -1,4 +1,4 @@
--- One call on a server (MS-CSSP 3.1.5.2): bytes are read, the server takes their request, and its message is spelled.
+-- One call on a server (MS-CSSP 3.1.5.2): bytes are read, the server takes their request, and its message is encoded.
 use Rattle.std.specs.Prelude.{◌≡◌, ◌≢◌, ◌⊎◌, ℕ, List, Option, None, Some, Result, Ok, Err, true, false}
 use Rattle.sspi_types.specs.declared.error_kind.ErrorKind.TheVariants as kinds
 use Rattle.sspi_ber.specs.Pieces.{Ended, Invalid}
@@ -22,7 +22,7 @@ use Rattle.sspi_desk.specs.declared.answer.DeskError.TheVariants.{NoSession, Unr
 use Rattle.sspi_desk.specs.declared.answer.Served.{Served}
 use Rattle.sspi_desk.specs.declared.answer.Served.TheVariants as served
 
--- ---- reading and spelling
+-- ---- reading and encoding
 
 -- the bytes begin with no request, for this reason
 abbrev pub HasFault : List ℕ → WireKind → Type 0
@@ -39,7 +39,7 @@ pub record HasNoRoom (bytes : List ℕ) : Type 0 where
   pub read : IsRequest bytes request count
   pub octets : HasOctets request
 
--- a message is spelled, or it is too long; memory is wanting only for one that is not
+-- a message is encoded, or it is too long; there is no memory only for one that is not
 abbrev pub Spells : {E : Type 0} → TsRequest → Result (Option (List ℕ)) E → Type 0
 Spells message (Ok (Some text)) = (fits message ≡ true) × (text ≡ spelled message)
 Spells message (Ok None) = fits message ≡ false

@@ -17,7 +17,7 @@ use std::alloc::Global;
 /// For each session the answers at its calls are those that its server gives alone, whatever calls of others stand between.
 ///
 /// The only refusal is `InsufficientMemory`, without a status, which comes before the first call: the desk is then unchanged. Where
-/// memory is wanting in a call, that call has the answer.
+/// there is no memory in a call, that call has the answer.
 pub fn serve_all<N: Mechanism, K: Mechanism, C: CredentialsProxy>(
     alloc: Global,
     desk: &mut Desk<N, K, C>,

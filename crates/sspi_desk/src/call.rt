@@ -13,7 +13,7 @@ use sspi_tsreq::TsRequest;
 use sspi_types::ErrorKind;
 use std::alloc::Global;
 
-/// One call on a server: it takes the request that the bytes begin with, and its message is spelled.
+/// One call on a server: it takes the request that the bytes begin with, and its message is encoded.
 pub(crate) fn answer<N: Mechanism, K: Mechanism, C: CredentialsProxy>(
     alloc: Global,
     server: &mut CredSspServer<N, K, C>,

@@ -116,7 +116,7 @@ impl<N: Mechanism, K: Mechanism, C: CredentialsProxy> Desk<N, K, C> {
 
     /// Hands bytes to a session as what its client sent, and answers what its server makes of them.
     ///
-    /// `NoSession` exactly where the session is not kept; then nothing changes. Else, each exactly there, want of memory apart:
+    /// `NoSession` exactly where the session is not kept; then nothing changes. Else, each exactly there, out of memory apart:
     /// `Answer` where the server has a message, with its bytes, and `TooLong` where the content of these would pass
     /// `sspi_ber::MAX_CONTENT`, 1048576 octets; `Finished` where the server has the client's credentials; `Unread` where the bytes
     /// begin with no request; `Refused` where the server refused. A session stays until it is closed, whatever it came to. What no

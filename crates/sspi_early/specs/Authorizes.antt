@@ -89,7 +89,7 @@ IsUncarried (Err InsufficientMemory) = Unit {0}
 IsUncarried (Err Policy) = ⊥
 IsUncarried (Err (Delegate error)) = ⊥
 
--- the link fails exactly where its edits fail the entry, but for want of memory
+-- the link fails exactly where its edits fail the entry, but when out of memory
 abbrev pub FailsByEdits : Option (List ℕ) → Result Authorized EarlyError → Type 0
 FailsByEdits None (Ok authorized) = ⊥
 FailsByEdits None (Err (Read kind)) = ⊥

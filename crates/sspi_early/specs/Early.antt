@@ -13,7 +13,7 @@ use Rattle.sspi_early.specs.declared.answer.EarlyError.TheVariants.{Delegate, Po
 use Rattle.sspi_early.specs.Authorizes.{Authorizes, LinkAt, link_at}
 use Rattle.sspi_early.specs.Policy.{PolicyMeaning}
 
--- what a delegation that came to no end is answered by: its own error, but want of memory is the one of this call
+-- what a delegation that came to no end is answered by: its own error, but out of memory is the one of this call
 abbrev pub refusal_of : DelegateError → EarlyError
 refusal_of errors.InsufficientMemory = InsufficientMemory
 refusal_of error = Delegate error

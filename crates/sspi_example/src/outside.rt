@@ -140,7 +140,7 @@ pub(crate) fn client(alloc: Global) -> Result<CredSspClient<Ntlm, Kerberos>, Err
     ))
 }
 
-/// A server that negotiates, and authenticates user to user by its ticket.
+/// A server that negotiates, and authenticates user-to-user by its ticket.
 pub(crate) fn server(alloc: Global) -> Result<CredSspServer<Ntlm, Kerberos, Directory>, Error> {
     let ticket = KerberosServerConfig {
         ticket: Some([9; 32]),

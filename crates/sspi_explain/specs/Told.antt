@@ -52,7 +52,7 @@ abbrev pub read_of : {A : Type 0} → Told A → Read A
 read_of (Goes at) = Ok (at.value, at.place.rest)
 read_of (Ends page fault) = Err fault
 
--- a walk over a message in memory does as it is told here, up to want of memory
+-- a walk over a message in memory does as it is told here, up to out of memory
 abbrev pub Tells : {X A : Type 0} → (X → A) → Sheet → Spot → Result X Stop → Told A → Type 0
 Tells view page place (Ok x) walk =
     walk ≡ Goes (record { page = page; value = view x; place = place })

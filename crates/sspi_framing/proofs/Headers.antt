@@ -19,7 +19,7 @@ use Rattle.sspi_framing.proofs.Wanted.{header_shown, header_unfinished, pushed_w
 
 -- ---- when a header is whole
 
--- the header is a front of the bytes, and no byte stands behind it that was not there before the last
+-- the header is a prefix of the bytes, and no byte stands behind it that was not there before the last
 within : (p : List ℕ) (b n : ℕ) (text : List ℕ) (x : ℕ) (r : List ℕ) → header_at 0x30 p ≡ Err Ended → IsHeader 0x30 text n →
     p ++ b ∷ [] ≡ text ++ x ∷ r → ⊥
 within p b n text x r h t e =

@@ -12,7 +12,7 @@ use Rattle.sspi_framing.specs.Parts.{IsHeaderOf}
 
 -- ---- bytes that are unfinished
 
--- they are so at each front
+-- they are so at each prefix
 front_unfinished : (front more : List ℕ) (z : Read (List ℕ)) → element_at 0x30 front ≡ z → IsUnfinished (front ++ more) → IsUnfinished front
 front_unfinished front more (Ok x) e u = let f = (element_steady 0x30).goes front x.0 x.1 more e in absurd cc
 front_unfinished front more (Err Ended) e u = e
@@ -45,7 +45,7 @@ pub pushed_wanted : (p new : List ℕ) (byte : ℕ) → new ≡ p ++ byte ∷ []
 pushed_wanted p new byte e h =
     subst (λ (l : List ℕ). AreWanted l) (sym e) (wanted_last p byte (header_unfinished p h))
 
--- ---- a front of a request
+-- ---- a prefix of a request
 
 before_end : (front more content : List ℕ) (byte : ℕ) (z : Read (List ℕ)) → element_at 0x30 front ≡ z →
     element_at 0x30 (front ++ byte ∷ more) ≡ Ok (content, []) → IsUnfinished front

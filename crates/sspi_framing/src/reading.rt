@@ -24,7 +24,7 @@ fn read_whole(alloc: Global, bytes: &[u8]) -> Result<TsRequest, WireKind>
 ///   were taken; or the header up to the byte at fault; or all there was, if it ended sooner.
 /// - `InvalidData`: it is no request for another reason. Header and content were taken.
 /// - `ReadFault`: the source failed. Bytes of one request may have been taken, none behind it.
-/// - `InsufficientMemory`: the same of want of memory; the whole request may have been taken.
+/// - `InsufficientMemory`: the same of out of memory; the whole request may have been taken.
 ///
 /// No failed call hides behind another answer: the source's count of faults is as it was, but at `ReadFault`.
 pub fn next_request<S: Source>(alloc: Global, source: &mut S) -> Result<Option<TsRequest>, WireKind>

@@ -18,7 +18,7 @@ use Rattle.sspi_gate.specs.Next.{Fails, TakesWell}
 use Rattle.sspi_gate.specs.Step.{Judges}
 use Rattle.sspi_gate.specs.Way.{Way}
 
--- memory was wanting for a request
+-- there was no memory for a request
 pub lacks_memory : (bytes : List ℕ) (kind : WireKind) → kind ≡ kinds.InsufficientMemory → IsWhole bytes → IsAnswer bytes (Err kind) →
     (r : TsRequest) × IsText bytes r × HasOctets r
 lacks_memory bytes kind is w answer =

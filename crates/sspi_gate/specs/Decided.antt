@@ -1,4 +1,4 @@
--- The answers that the two streams decide: all but faults of a stream and want of memory.
+-- The answers that the two streams decide: all but faults of a stream and out of memory.
 use Rattle.std.specs.Prelude.{Result, Ok, Err}
 use Rattle.sspi_gate.specs.declared.answer.GateError.{GateError}
 use Rattle.sspi_gate.specs.declared.answer.GateFault.{GateFault}

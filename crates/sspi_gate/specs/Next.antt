@@ -39,7 +39,7 @@ pub record TakesOtherVersion (first : Option ℕ) (before after : Way) : Type 0 
   pub reading : after.read_faults ≡ before.read_faults
   pub writing : after.write_faults ≡ before.write_faults
 
--- A request that might be handed on was taken, and a proper front of it was written.
+-- A request that might be handed on was taken, and a proper prefix of it was written.
 pub record WritesFront (first : Option ℕ) (before after : Way) : Type 0 where
   pub text : List ℕ
   pub request : TsRequest

@@ -18,7 +18,7 @@ pub fn a_front_is_what_is_read_first()
         (front : List ℕ) × (stream ≡ front ++ rest) × AreRequests front requests }
 {}
 
-/// A stream has one front of so many requests.
+/// A stream has one prefix of so many requests.
 pub fn one_front_is_read()
     ensures { (stream x y : List ℕ) (requests others : List TsRequest) → GivesFirst stream requests x → GivesFirst stream others y →
         length requests ≡ length others → (requests ≡ others) × (x ≡ y) }
@@ -29,7 +29,7 @@ pub fn each_request_takes_bytes()
     ensures { (front : List ℕ) (requests : List TsRequest) → AreRequests front requests → length requests ≤ length front }
 {}
 
-/// Where both streams are told, they and the number of turns decide the answer, faults of a stream and want of memory apart:
+/// Where both streams are told, they and the number of turns decide the answer, faults of a stream and out of memory apart:
 /// the causes of the other answers exclude each other, and each comes wherever its cause is there.
 pub fn the_streams_decide()
     ensures { (limit : ℕ) (up down up_first down_first up_second down_second : Way) (client server : List ℕ)

@@ -24,11 +24,11 @@ use std::alloc::Global;
 /// - `Bad`: what is next begins with no request. `UnexpectedEof` where it ends too early or its header is at fault, and else
 ///   `InvalidData`. Header and content were taken; or the header up to the byte at fault; or all there was, if it ended sooner.
 /// - `Version`: the request has another version than this end's first.
-/// - `ReadFault`, `WriteFault`: the stream from this end, or to it, failed. At `WriteFault` a front of the request was written,
+/// - `ReadFault`, `WriteFault`: the stream from this end, or to it, failed. At `WriteFault` a prefix of the request was written,
 ///   never all of it.
 /// - `TurnsSpent`: `limit` requests of the client were handed on, each was answered, and no answer refused; at once where
 ///   `limit` is 0. Nothing more is then read.
-/// - `InsufficientMemory`; a front of the next request may have been written, if it was read, never all of it.
+/// - `InsufficientMemory`; a prefix of the next request may have been written, if it was read, never all of it.
 pub fn relay<A: Source, B: Sink, C: Source, D: Sink>(
     alloc: Global,
     client_in: &mut A,

@@ -69,7 +69,7 @@ module _ {C P : Type 0} (c : Meaning ContextSetting C) (p : ProxyMeaning P) wher
       subst (λ (l : List Turn). ServerRoundPast c p first result l now) (own_servers new new_whose)
       (calls (subst (λ (l : List Turn). ServerHistory c p first l was) (sym (own_servers old old_whose)) history))
 
-  -- where memory was wanting for what tells of a refusal, its turn was made all the same
+  -- where there was no memory for what tells of a refusal, its turn was made all the same
   pub told_past : (first now : ServerView C P) (turns : List Turn) (error : Error) (told : Result (Unit {0}) DelegateError)
       (answer : DelegateError) → AnswersTold error told answer → ServerStopped c p first error turns now →
       ServerHalfStops c p first answer turns now

@@ -129,7 +129,7 @@ one_written end (Some m) a b done w left reading = record {
   writing = w.2;
 }
 
--- ---- a message that memory was wanting for
+-- ---- a message that there was no memory for
 
 spelled_some : (m : TsRequest) → spelled m ≡ [] → ⊥
 unfolding spelled element header

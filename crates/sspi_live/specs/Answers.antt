@@ -82,7 +82,7 @@ pub record WritesMessage (end : End) (turns : List Turn) (before after : Channel
 abbrev pub FailsToWrite : End → DelegateError → List Turn → Channel → Channel → Type 0
 FailsToWrite end error turns before after = AllGoOn turns × WritesMessage end turns before after (Err error)
 
--- what came of telling a client was no want of memory
+-- what came of telling a client was no out of memory
 abbrev pub HadMemory : Result (Unit {0}) DelegateError → Type 0
 HadMemory (Ok done) = Unit {0}
 HadMemory (Err errors.InsufficientMemory) = ⊥
@@ -95,13 +95,13 @@ Refuses Client kind turns before after = NewestIs Client (IsClientRefusal kind) 
 Refuses Server kind turns before after = NewestIs Server (IsServerRefusal kind) turns
     × (result : Result (Unit {0}) DelegateError) × HadMemory result × WritesMessage Server turns before after result
 
--- a server refused its newest turn with this kind, and memory was wanting for what tells its client
+-- a server refused its newest turn with this kind, and there was no memory for what tells its client
 abbrev pub RefusesUntold : End → ErrorKind → List Turn → Channel → Channel → Type 0
 RefusesUntold Client kind turns before after = ⊥
 RefusesUntold Server kind turns before after =
     NewestIs Server (IsServerRefusal kind) turns × WritesMessage Server turns before after (Err errors.InsufficientMemory)
 
--- where memory was wanting
+-- where there was no memory
 pub data Lacks (end : End) (limit : ℕ) (turns : List Turn) (before after : Channel) : Type 0 where
   for_a_request : FailsToRead end limit errors.InsufficientMemory turns before after → Lacks end limit turns before after
   for_a_turn : (d : TsRequest) → length turns < limit → IsDue end turns before after d → Lacks end limit turns before after

@@ -27,7 +27,7 @@ abbrev pub refusal_by : End → Error → DelegateError
 refusal_by Client error = errors.Client error
 refusal_by Server error = errors.Server error
 
--- The answer to a server's refusal, by what came of telling its client: where memory was wanting for that, it is want of memory.
+-- The answer to a server's refusal, by what came of telling its client: where there was no memory for that, it is out of memory.
 abbrev pub AnswersTold : Error → Result (Unit {0}) DelegateError → DelegateError → Type 0
 AnswersTold error told answer = ((told ≡ Err errors.InsufficientMemory) × (answer ≡ errors.InsufficientMemory))
     ⊎ (HadMemory told × IsAnswerTo error.error_type (errors.Server error) answer)

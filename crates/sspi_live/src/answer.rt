@@ -7,7 +7,7 @@ use sspi_credssp::End;
 use sspi_delegate::DelegateError;
 use sspi_types::{Error, ErrorKind};
 
-/// The answer to a refusal of this end: want of memory is no refusal.
+/// The answer to a refusal of this end: out of memory is no refusal.
 pub(crate) fn refusal_of(end: End, error: Error) -> DelegateError
     ensures { IsAnswerTo error.error_type (refusal_by end error) result }
 {

@@ -38,10 +38,10 @@ use std::alloc::Global;
 /// - `Read`, of the client: what came is no request. The kind is `UnexpectedEof` where the source ended, also in front of a
 ///   request, or a header is at fault, and else `InvalidData`.
 /// - `Write`, of the client: its message has a content past `sspi_ber::MAX_CONTENT`, 1048576 octets. None of it was written.
-/// - `LinkFault`: the source or the sink failed. Of a message that was due a front was written, never all of it.
+/// - `LinkFault`: the source or the sink failed. Of a message that was due a prefix was written, never all of it.
 /// - `TurnsSpent`: the client made `limit` turns, and the message of each was written, but not the last one of a delegation; at
 ///   once where `limit` is 0.
-/// - `InsufficientMemory`, that of the client or of the KDC among it; a front of a message that was due may have been written.
+/// - `InsufficientMemory`, that of the client or of the KDC among it; a prefix of a message that was due may have been written.
 ///
 /// `Server` does not come: where the server tells of its refusal, the client refuses its turn. The transcript lets go of the
 /// turns that it held before. Whatever the answer, it then has each turn that was made, a refused one too, and the client is as

@@ -35,11 +35,11 @@ use std::alloc::Global;
 /// - `Read`, of the server: what came is no request. The kind is `UnexpectedEof` where the source ended, also in front of a
 ///   request, or a header is at fault, and else `InvalidData`.
 /// - `Write`, of the server: its message has a content past `sspi_ber::MAX_CONTENT`, 1048576 octets. None of it was written.
-/// - `LinkFault`: the source or the sink failed. Of a message that was due a front was written, never all of it.
+/// - `LinkFault`: the source or the sink failed. Of a message that was due a prefix was written, never all of it.
 /// - `TurnsSpent`: the server made `limit` turns, each was answered, and none of them ended the exchange; at once where `limit`
 ///   is 0. Nothing more is then read.
-/// - `InsufficientMemory`, that of the server among it; a front of a message that was due may have been written. It comes too
-///   where memory was wanting for what tells the client of a refusal: that turn is then the newest of the transcript.
+/// - `InsufficientMemory`, that of the server among it; a prefix of a message that was due may have been written. It comes too
+///   where there was no memory for what tells the client of a refusal: that turn is then the newest of the transcript.
 ///
 /// `Client` does not come. The transcript lets go of the turns that it held before. Whatever the answer, it then has each turn
 /// that was made, a refused one too, and the server is as its last turn left it.

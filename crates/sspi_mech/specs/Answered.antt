@@ -29,7 +29,7 @@ abbrev pub GivesExactly : {X : Type 0} → Result X Refusal → Result X ErrorKi
 GivesExactly (Ok x) expected = expected ≡ Ok x
 GivesExactly (Err refusal) expected = expected ≡ Err refusal.error_type
 
--- the answer is the one that there is, value or kind; want of memory may come in its place
+-- the answer is the one that there is, value or kind; out of memory may come in its place
 abbrev pub Gives : {X : Type 0} → Result X Refusal → Result X ErrorKind → Type 0
 Gives (Ok x) expected = expected ≡ Ok x
 Gives (Err refusal) expected = refusal.error_type ≢ InsufficientMemory → expected ≡ Err refusal.error_type

@@ -175,7 +175,7 @@ MayWant stage (Goes m step) = Unit {0}
 MayWant stage (Asks m request) = Unit {0}
 MayWant stage (Stops kind) = IsFoundLate stage kind
 
--- the refusal that there is; want of memory comes only where it may
+-- the refusal that there is; out of memory comes only where it may
 abbrev pub Stopped : Outcome → KerberosState → Error → KerberosState → Type 0
 Stopped outcome m error m2 =
     (error.error_type ≢ InsufficientMemory → outcome ≡ Stops error.error_type)

@@ -15,7 +15,7 @@ use Rattle.sspi_mech.specs.Calls.{StepArgs, AcceptArgs, Counts, Call}
 -- What a security context C means, which is made of an S: a mechanism, or what chooses among mechanisms.
 -- A relation between two states takes the state before and the state after.
 pub record Meaning (S C : Type 0) : Type 1 where
-  -- what making answers: the context, or the kind of a refusal other than want of memory
+  -- what making answers: the context, or the kind of a refusal other than out of memory
   pub made : S → C → Type 0
   pub unmade : S → ErrorKind → Type 0
   -- the credentials that were asked for and the buffers that were given
@@ -34,7 +34,7 @@ pub record Meaning (S C : Type 0) : Type 1 where
   -- whether a step waits for a KDC, and how often it may still ask one
   pub waits : C → Bool
   pub left : C → ℕ
-  -- whether a server authenticates user to user
+  -- whether a server authenticates user-to-user
   pub pairs : C → Bool
   -- how many messages were made and taken; the same context with other counts
   pub counts : C → Counts
@@ -45,7 +45,7 @@ pub record Meaning (S C : Type 0) : Type 1 where
   pub signs : C → ℕ → List ℕ → List ℕ → Type 0
   pub verifies : C → ℕ → List ℕ → List ℕ → Type 0
   -- what holds where completing or a call on a message answers Ok, beside what is said of its answer, and where opening a
-  -- blob or taking identities is out of memory; the kinds with which a call may refuse, other than want of memory
+  -- blob or taking identities is out of memory; the kinds with which a call may refuse, other than out of memory
   pub permits : C → Call → Type 0
   pub refuses : C → Call → ErrorKind → Type 0
   -- the entry of the package, and the sizes that its users must know

@@ -94,7 +94,7 @@ abbrev pub MayWantLogin : Result Login ErrorKind → Type 0
 MayWantLogin (Ok login) = Unit {0}
 MayWantLogin (Err kind) = kind ≡ InternalError
 
--- the outcome that there is; want of memory comes only where it may
+-- the outcome that there is; out of memory comes only where it may
 abbrev pub Steps : Outcome → NtlmState → Result Step Error → NtlmState → Type 0
 Steps outcome m (Ok step) m2 = outcome ≡ Goes m2 step
 Steps outcome m (Err error) m2 =

@@ -5,7 +5,7 @@ use Rattle.sspi_names.specs.declared.credentials.Credentials.{Credentials}
 use Rattle.sspi_mech.specs.Calls.{Call, ToIdentify}
 use Rattle.sspi_mech.specs.Meaning.{Meaning}
 
--- by the one in hand
+-- by the one selected
 abbrev pub in_hand {ℓ} : {A B : Type 0} {T : Type ℓ} → (A → T) → (B → T) → A ⊎ B → T
 in_hand f g (inl a) = f a
 in_hand f g (inr b) = g b
@@ -17,7 +17,7 @@ Both P Q (inl s) (inr b) = ⊥
 Both P Q (inr t) (inl a) = ⊥
 Both P Q (inr t) (inr b) = Q t b
 
--- What the one in hand means. No call puts the other in its place.
+-- What the one selected means. No call puts the other in its place.
 module _ {S T A B : Type 0} (n : Meaning S A) (k : Meaning T B) where
   abbrev pub sum : Meaning (S ⊎ T) (A ⊎ B)
   sum = record {

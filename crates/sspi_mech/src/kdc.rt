@@ -17,7 +17,7 @@ pub enum KdcError {
     InsufficientMemory,
 }
 
-/// Want of memory is `InsufficientMemory`.
+/// Out of memory is `InsufficientMemory`.
 impl From<AllocError> for KdcError {
     ghost use Rattle.std.specs.Prelude.{◌≡◌};
     ghost use Rattle.sspi_mech.specs.declared.kdc.KdcError.TheVariants.{InsufficientMemory};

@@ -42,7 +42,7 @@ use std::marker::Model;
 /// Plain Kerberos: a KDC gives the client a session key, which it sends to the server; the server shows that it has it.
 ///
 /// Each step of a client that asks for a key takes the name from its credentials. With `USE_SESSION_KEY` a client asks its
-/// KDC for a first key, then the server for its ticket, and with both the KDC for the session key (user to user). Without,
+/// KDC for a first key, then the server for its ticket, and with both the KDC for the session key (user-to-user). Without,
 /// it asks the KDC twice in its first step, and sends zeros in place of a ticket. A request goes to the `kdc_url` of the
 /// configuration, else to the KDC of the realm that is the domain of the name.
 ///

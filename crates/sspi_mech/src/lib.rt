@@ -13,7 +13,7 @@
 //! - `Kdc`: where a client's requests go. `PlainKdc` gives keys to its users, as `specs/PlainKdc.antt` says; `FailingKdc`
 //!   answers none.
 //!
-//! A refusal leaves an object as it was and has no NTSTATUS code. Want of memory may come at any time, every other kind
+//! A refusal leaves an object as it was and has no NTSTATUS code. Out of memory may come at any time, every other kind
 //! only where `refuses` says so. Nothing is claimed of the secrecy of either.
 #![tactic(auto)]
 

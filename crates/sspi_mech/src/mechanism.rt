@@ -37,7 +37,7 @@ pub trait Mechanism: Sized + Drop {
 
     ghost meaning: { Meaning Setting Self };
 
-    /// A mechanism that has made no step. Refused for want of memory alone.
+    /// A mechanism that has made no step. Refused only when out of memory.
     fn make(alloc: Global, config: &MechConfig<'_>) -> Result<Self, Error>
         ensures made { IfOk result (λ it. meaning.made (setting_of config.now) it) }
         ensures fresh { IfOk result (λ it. meaning.counts it ≡ no_counts) }
@@ -168,7 +168,7 @@ pub trait Mechanism: Sized + Drop {
         ensures codeless { IfErr result (λ error. error.nstatus ≡ None) }
         ensures cause { IfErr result (λ error. meaning.refuses self.old (ToVerify mic.now text.now) error.error_type) };
 
-    /// Whether this is a server that authenticates user to user.
+    /// Whether this is a server that authenticates user-to-user.
     fn user_to_user(&self) -> bool
         ensures { result ≡ meaning.pairs self.now };
 

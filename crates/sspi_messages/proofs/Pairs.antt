@@ -18,7 +18,7 @@ module _ {X : Type 0} where
   set_behind (x ∷ xs) zero y = refl
   set_behind (x ∷ xs) (suc j) y = ap (λ l. x ∷ l) (set_behind xs j y)
 
-  -- the front one first
+  -- the prefix one first
   pub set_parts : (xs : List X) (i j : ℕ) (x y : X) → i < j →
       slice_set (take j xs) i x ++ slice_set (drop j xs) 0 y ≡ slice_set (slice_set xs i x) j y
   set_parts xs i zero x y lt = absurd (omega arith)
@@ -27,7 +27,7 @@ module _ {X : Type 0} where
   set_parts (z ∷ zs) zero (suc j) x y lt = ap (λ l. x ∷ l) (set_behind zs j y)
   set_parts (z ∷ zs) (suc i) (suc j) x y lt = ap (λ l. z ∷ l) (set_parts zs i j x y (omega arith))
 
-  -- the front one last
+  -- the prefix one last
   pub set_parts_back : (xs : List X) (i j : ℕ) (x y : X) → i < j →
       slice_set (take j xs) i x ++ slice_set (drop j xs) 0 y ≡ slice_set (slice_set xs j y) i x
   set_parts_back xs i zero x y lt = absurd (omega arith)

@@ -21,7 +21,7 @@ const TAG_LENGTH: usize = 16;
 /// Seals the text in Data as the next message. The first 16 bytes of the blob go to Token, the rest stays in Data.
 ///
 /// `InvalidToken` where Data or Token is missing, before the context is asked; else as the context refuses to seal. Refused,
-/// the context and all buffers are as they were; so is the number of the next message, also for want of memory.
+/// the context and all buffers are as they were; so is the number of the next message, also when out of memory.
 pub fn encrypt_message<P: Protects>(
     context: &mut P,
     message: &mut [SecurityBuffer],

@@ -9,7 +9,7 @@ use sspi_types::{Error, ErrorKind};
 
 /// A context that protects messages once it has a key.
 ///
-/// A refusal leaves it as it was and has no NTSTATUS code. Want of memory may come at any time, but for `unseal` only where
+/// A refusal leaves it as it was and has no NTSTATUS code. Out of memory may come at any time, but for `unseal` only where
 /// nothing else refuses it; every other kind comes only where `refuses` says so. On `Ok` the call's own count has moved by one, and nothing else.
 pub trait Protects {
     ghost protecting: { Protecting Self };

@@ -1,4 +1,4 @@
--- What a refused first step leaves in hand, from one part of the step to the next.
+-- What a refused first step leaves selected, from one part of the step to the next.
 use Rattle.std.proofs.Common.{◌≡◌, ℕ, List, Option, None, Some, Result, Ok, Err, OnErr, true, false, refl, sym, subst, ap, ◌∙◌}
 use Rattle.std.proofs.lemmas.Bool.{false≢true}
 use Rattle.sspi_types.specs.declared.error.Error.{Error}

@@ -1,4 +1,4 @@
--- The mechanism in hand is a context, and asks a KDC less often with each question.
+-- The selected mechanism is a context, and asks a KDC less often with each question.
 use Rattle.std.proofs.Common.{◌≡◌, ◌⊎◌, ◌<◌, ℕ, List, refl, ap, arith, inl, inr}
 use Rattle.sspi_types.specs.declared.error.Error.{Error}
 use Rattle.sspi_names.specs.declared.network.NetworkRequest.{NetworkRequest}

@@ -38,7 +38,7 @@ pub held_by : {A B : Type 0} {u w : Option (List ℕ)} {choice : Option Protocol
     MayHold A u choice held new × MayAllow A choice allowed left → MayHold B w choice held new × MayAllow B choice allowed left
 held_by address url h = (hold_by address url h.0, allow_by address h.1)
 
--- Kerberos was disabled, with NTLM in hand, because of the target's address
+-- Kerberos was disabled, with NTLM selected, because of the target's address
 left_hand : (v : Values) (user : Option Identity) {choice : Option Protocol} {new : Protocol} →
     MayHold ⊥ (user_url (record v { hand = Ntlm; packages = record v.packages { kerberos = false } }) user) choice Ntlm new →
     MayHold (Unit {0}) None choice v.hand new

@@ -1,4 +1,4 @@
--- What holds at the end of a plan however the mechanism in hand answers its questions: a calculus of weakest preconditions, with one
+-- What holds at the end of a plan however the selected mechanism answers its questions: a calculus of weakest preconditions, with one
 -- rule for each constructor of a plan.
 use Rattle.std.proofs.Common.{◌≡◌, ℕ, Bool, true, false, cond, List, Some, Err, refl, sym, subst, ap, ◌∙◌}
 use Rattle.sspi_types.specs.declared.error.Error.{Error}
@@ -27,7 +27,7 @@ pub data IsOwn (kind : ErrorKind) : Type 0 where
   unwritten : kind ≡ InternalError → IsOwn kind
   nobody : kind ≡ NoCredentials → IsOwn kind
 
--- where the kind of a refusal comes from: the negotiation itself, or the mechanism that was in hand
+-- where the kind of a refusal comes from: the negotiation itself, or the mechanism that was selected
 pub data Comes {M : Type 0} (c : Meaning Origin M) (kind : ErrorKind) : Type 0 where
   by_itself : IsOwn kind → Comes c kind
   by_step : (m m2 : M) (args : StepArgs) (error : Error) → c.steps m args (Refused error) m2 → error.error_type ≡ kind → Comes c kind
@@ -35,7 +35,7 @@ pub data Comes {M : Type 0} (c : Meaning Origin M) (kind : ErrorKind) : Type 0 w
   by_accept : (m m2 : M) (args : AcceptArgs) (error : Error) → c.accepts m args (Err error) m2 → error.error_type ≡ kind → Comes c kind
   by_call : (m : M) (call : Call) → c.refuses m call kind → Comes c kind
 
--- R is said of the mechanism that is left in hand, the answer and the values
+-- R is said of the mechanism that is left selected, the answer and the values
 module _ {M : Type 0} (c : Meaning Origin M) (R : M → Answer → Values → Type 0) where
   pub record Leads (p : Plan) (m : M) : Type 0 where
     pub ends : (m2 : M) (r : Answer) (v2 : Values) → Follows c p m r v2 m2 → R m2 r v2

@@ -1,4 +1,4 @@
--- The steps of a negotiation, with what holds of want of memory too.
+-- The steps of a negotiation, with what holds of out of memory too.
 use Rattle.std.proofs.Common.{◌≡◌, ◌≢◌, ◌<◌, ◌↔◌, ◌&&◌, ℕ, Bool, true, false, IsTrue, Result, Ok, Err, OnErr, refl}
 use Rattle.sspi_types.specs.declared.error.Error.{Error}
 use Rattle.sspi_mech.specs.declared.step.Progressing.{Progressing}

@@ -38,7 +38,7 @@ use Rattle.sspi_negotiate.proofs.Leads.{goes, stops, accepts, pairs, names, eith
 use Rattle.sspi_negotiate.proofs.RowLeads.{AtDone, writes_leads, in_ntlm_leads, checks_leads, completes_leads, signed_leads}
 use Rattle.sspi_negotiate.proofs.RowLeads.{carries_on_leads}
 
--- this is in hand once this choice is taken: Kerberos is only chosen where it is, and NTLM where it may be used
+-- this is selected once this choice is taken: Kerberos is only chosen where it is, and NTLM where it may be used
 abbrev pub IsTaken : Choice → PackageListConfig → Protocol → Protocol → Type 0
 IsTaken choices.MsKerberos packages held hand = (hand ≡ held) × (held ≡ protocols.Kerberos)
 IsTaken choices.Kerberos packages held hand = (hand ≡ held) × (held ≡ protocols.Kerberos)
@@ -75,7 +75,7 @@ pub record ServerCases {M : Type 0} (c : Meaning Origin M) (args : AcceptArgs) (
 
 -- ---- what is picked may be taken
 
--- what is in hand once this is taken
+-- what is selected once this is taken
 abbrev taken : Choice → Protocol → Protocol
 taken choices.MsKerberos held = held
 taken choices.Kerberos held = held

@@ -64,7 +64,7 @@ module _ {N K : Type 0} {n : Meaning Setting N} {k : Meaning Setting K} where
   spelled_part {v = v} {result = result} {old = old} {new = new} (Some y) part x h after = subst
       (λ z. Passes n k (part (Some z)) v old result new) h after
 
--- want of memory is no kind after which NTLM takes the place of Kerberos
+-- out of memory is no kind after which NTLM takes the place of Kerberos
 pub fallback_is_other : (kind : ErrorKind) → is_fallback kind ≡ true → kind ≢ InsufficientMemory
 unfolding is_fallback
 fallback_is_other kind falls memory = absurd (false≢true (sym (ap is_fallback memory) ∙ falls))

@@ -26,7 +26,7 @@ is_outbound purposes.Outbound = true
 is_outbound purposes.Both = false
 is_outbound purposes.Default = false
 
--- no credentials, or a keytab while NTLM is in hand
+-- no credentials, or a keytab while NTLM is selected
 abbrev pub lacks : Protocol → Option Credentials → Bool
 lacks protocol None = true
 lacks protocol (Some (AuthIdentity identity)) = false
@@ -41,7 +41,7 @@ acquired_url Client v (Some (Keytab identity)) = None
 acquired_url Server v asked = None
 
 module _ {N K : Type 0} (n : Meaning Setting N) (k : Meaning Setting K) where
-  -- the mechanism that is then in hand acquires, and the buffers of the credentials are kept
+  -- the mechanism that is then selected acquires, and the buffers of the credentials are kept
   pub record Acquires (s : Negotiation (NegotiatedProtocol N K)) (use_ : CredentialUse) (asked : Option Credentials)
       (buffers : Option CredentialsBuffers) (s2 : Negotiation (NegotiatedProtocol N K)) : Type 0 where
     pub allowed : is_outbound use_ && lacks (hand_of s.mech) asked ≡ false

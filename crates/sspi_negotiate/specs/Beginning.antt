@@ -1,4 +1,4 @@
--- What a client's first step leaves in hand and of the packages where it is refused, want of memory included.
+-- What a client's first step leaves selected and of the packages where it is refused, out of memory included.
 use Rattle.std.specs.Prelude.{◌≡◌, ℕ, List, Option, Some, true, false}
 use Rattle.sspi_types.specs.declared.error.Error.{Error}
 use Rattle.sspi_mech.specs.declared.step.Answer.TheVariants.{Refused}
@@ -12,12 +12,12 @@ use Rattle.sspi_negotiate.specs.Hand.{Origin, hand_of}
 use Rattle.sspi_negotiate.specs.Rule.{TakenBy}
 use Rattle.sspi_negotiate.specs.Values.{Values, Negotiation, values_of}
 
--- the name of the mechanism in hand and the packages are as they were
+-- the name of the selected mechanism and the packages are as they were
 pub record SameHand (old new : Values) : Type 0 where
   pub hand : new.hand ≡ old.hand
   pub packages : new.packages ≡ old.packages
 
--- NTLM is in hand, and Kerberos is disabled
+-- NTLM is selected, and Kerberos is disabled
 pub record OnlyNtlm (old new : Values) : Type 0 where
   pub hand : new.hand ≡ Ntlm
   pub packages : new.packages ≡ record old.packages { kerberos = false }
@@ -38,8 +38,8 @@ module _ {N K : Type 0} (c : Meaning Origin (NegotiatedProtocol N K)) where
   FallsResumed m reply = (hand_of m ≡ Kerberos) × (error : Error) × (m2 : NegotiatedProtocol N K) × c.resumes m reply (Refused error) m2
       × (is_fallback error.error_type ≡ true)
 
-  -- What a client's refused first step leaves of the two: as they were, or Kerberos in hand because of the URL of a KDC, or only
-  -- NTLM, because of the target's address or because the Kerberos in hand refused the step so.
+  -- What a client's refused first step leaves of the two: as they were, or Kerberos selected because of the URL of a KDC, or only
+  -- NTLM, because of the target's address or because the selected Kerberos refused the step so.
   pub data MayBegin (ByAddress : Type 0) (url : Option (List ℕ)) (args : StepArgs) (old new : Negotiation (NegotiatedProtocol N K)) :
       Type 0 where
     unchanged : SameHand (values_of old) (values_of new) → MayBegin ByAddress url args old new

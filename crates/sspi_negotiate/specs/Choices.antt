@@ -29,7 +29,7 @@ chosen_by (Some token) = option_and_then protocol_of (option_map kind_of token.s
 abbrev pub chosen_in : List ℕ → Option Protocol
 chosen_in input = chosen_by (targ_of input)
 
--- the same in a state: a choice is taken only while the mechanism in hand authenticates
+-- the same in a state: a choice is taken only while the selected mechanism authenticates
 abbrev pub chosen_at : NegotiateState → List ℕ → Option Protocol
 chosen_at Initial input = None
 chosen_at InProgress input = chosen_in input

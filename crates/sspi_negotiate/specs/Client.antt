@@ -150,7 +150,7 @@ stepped token v step =
     then settles v.need token.mech_list_mic (is_complete token.neg_result) v step.output
     else carries_on v step.output step.status
 
--- the mechanism in hand takes the server's token, or nothing
+-- the selected mechanism takes the server's token, or nothing
 unfoldable pub answers : NegTokenTarg → Values → StepArgs → Plan
 answers token v args =
     Steps (record (step_of v args) { input = or_empty token.response_token }) (record v { branch = Answering token })
@@ -159,7 +159,7 @@ answers token v args =
 abbrev pub without_ntlm : Values → Values
 without_ntlm v = record v { packages = record v.packages { ntlm = false } }
 
--- a choice of Kerberos: a new one is taken where NTLM was in hand, and then MICs are needed
+-- a choice of Kerberos: a new one is taken where NTLM was selected, and then MICs are needed
 abbrev pub in_kerberos : Protocol → NegTokenTarg → Values → StepArgs → Plan
 in_kerberos protocols.Kerberos token v args = answers token v args
 in_kerberos protocols.Ntlm token v args =

@@ -18,7 +18,7 @@ use Rattle.sspi_negotiate.specs.Reaches.{Reaches}
 use Rattle.sspi_negotiate.specs.Values.{Values, Negotiation, values_of}
 use Rattle.sspi_negotiate.specs.Verified.{HasNoMic}
 
--- a fact, but for a refusal for want of memory, which may come at any time
+-- a fact, but for a refusal when out of memory, which may come at any time
 abbrev pub UnlessMemory : Answer → Type 0 → Type 0
 UnlessMemory (Done step) P = P
 UnlessMemory (Ask request) P = P
@@ -29,7 +29,7 @@ abbrev pub told : Result Step Error → Answer
 told (Ok step) = Done step
 told (Err error) = Refused error
 
--- The plan is followed to its end, but for a refusal for want of memory. That breaks it off, and then too the mechanism in hand is
+-- The plan is followed to its end, but for a refusal when out of memory. That breaks it off, and then too the selected mechanism is
 -- the one from before, or what the first calls of the plan made of that.
 pub record Meets {M : Type 0} (c : Meaning Origin M) (p : Plan) (m : M) (r : Answer) (v2 : Values) (m2 : M) : Type 0 where
   pub as_planned : UnlessMemory r (Follows c p m r v2 m2)
@@ -48,7 +48,7 @@ module _ {N K : Type 0} (n : Meaning Setting N) (k : Meaning Setting K) where
   abbrev pub StaysUnmarked : Negotiation (NegotiatedProtocol N K) → Negotiation (NegotiatedProtocol N K) → Type 0
   StaysUnmarked old new = HasNoMic ((hand n k).counts old.mech) → HasNoMic ((hand n k).counts new.mech)
 
--- what a refused call leaves as it was, the step that waits included: all but the mechanism in hand and the packages, which stay
+-- what a refused call leaves as it was, the step that waits included: all but the selected mechanism and the packages, which stay
 -- in agreement, the kept credentials and the need, and the list that a server keeps
 pub record Stays (old new : Values) : Type 0 where
   pub role : new.role ≡ old.role
@@ -65,7 +65,7 @@ pub data WaitsOn {N K : Type 0} (waiting over new : Negotiation (NegotiatedProto
   as_before : new ≡ waiting → WaitsOn waiting over new
   no_longer : Stays (values_of over) (values_of new) → WaitsOn waiting over new
 
--- the list of mechanisms, the mechanism in hand, the kept credentials and the packages are as they
+-- the list of mechanisms, the selected mechanism, the kept credentials and the packages are as they
 -- were
 pub record StaysPicked (old new : Values) : Type 0 where
   pub list : new.list ≡ old.list
@@ -83,7 +83,7 @@ abbrev pub StaysNeeded : Bool → Values → Values → Type 0
 StaysNeeded excused old new = old.need ≡ true → excused ≡ false → new.need ≡ true
 
 -- what a resumed step leaves: the need and the kept credentials, and, where the one that waits is
--- no first step, the list, the packages and what is in hand
+-- no first step, the list, the packages and what is selected
 pub record StaysResumed (old new : Values) : Type 0 where
   pub need : new.need ≡ old.need
   pub kept : new.kept ≡ old.kept

@@ -1,4 +1,4 @@
--- Refusals of a step for which no memory is asked, so that want of memory never comes in their
+-- Refusals of a step for which no memory is asked, so that out of memory never comes in their
 -- place.
 use Rattle.std.specs.Prelude.{ℕ, List, Option, None, Some, Bool, true, false, not}
 use Rattle.sspi_types.specs.declared.error_kind.ErrorKind.{ErrorKind}

@@ -1,4 +1,4 @@
--- What comes of a plan, each answer being one that the mechanism then in hand gives.
+-- What comes of a plan, each answer being one that the mechanism then selected gives.
 use Rattle.std.specs.Prelude.{◌≡◌, ◌≢◌, Some, Ok, Err}
 use Rattle.sspi_types.specs.declared.error.Error.{Error}
 use Rattle.sspi_types.specs.declared.error_kind.ErrorKind.{ErrorKind}
@@ -23,7 +23,7 @@ pub data Asked {M T : Type 0} (Good : T → M → Type 0) (Bad : Error → M →
   answered : (t : T) (m1 : M) → Good t m1 → Asked Good Bad r v v2 m2
   refused : (error : Error) → Bad error m2 → r ≡ Refused error → v2 ≡ v → Asked Good Bad r v v2 m2
 
--- A client's step is made, waits for a KDC, or is refused. Want of memory has no plan.
+-- A client's step is made, waits for a KDC, or is refused. Out of memory has no plan.
 abbrev pub Went : {M : Type 0} → Answer → (Step → Type 0) → (ErrorKind → Type 0) → Answer → Values → Values → M → M → Type 0
 Went (Done step) go fall r v v2 m1 m2 = go step
 Went (Ask request) go fall r v v2 m1 m2 = (r ≡ Ask request) × (v2 ≡ v) × (m2 ≡ m1)

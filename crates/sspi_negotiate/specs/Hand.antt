@@ -1,4 +1,4 @@
--- The mechanism in hand, as one meaning: an NTLM of type N or a Kerberos of type K.
+-- The selected mechanism, as one meaning: an NTLM of type N or a Kerberos of type K.
 use Rattle.std.specs.Prelude.{ℕ, ◌+◌, List, ◌⊎◌, Option, Some, filter, take, replicate, Bool, true, false}
 use mathlib.Core.Logic.{inl, inr}
 use Rattle.sspi_names.specs.declared.kdc_table.KdcEntry.{KdcEntry}
@@ -13,7 +13,7 @@ use Rattle.sspi_negotiate.specs.declared.protocol.Protocol.TheVariants.{Kerberos
 use Rattle.sspi_negotiate.specs.declared.protocol_config.ProtocolConfig.{ProtocolConfig}
 use Rattle.sspi_negotiate.specs.declared.protocol_config.ProtocolConfig.TheVariants as configs
 
--- What a mechanism that is taken in hand is made of: a configuration, or, in the place of an NTLM, a Kerberos with this URL,
+-- What a mechanism that is taken selected is made of: a configuration, or, in the place of an NTLM, a Kerberos with this URL,
 -- these KDCs and this computer name.
 pub data Origin : Type 0 where
   Configured : ProtocolConfig → Origin

@@ -1,4 +1,4 @@
--- What a client's step may leave in hand, of the packages, of the need of MICs, and keep, whatever
+-- What a client's step may leave selected, of the packages, of the need of MICs, and keep, whatever
 -- it answers.
 use Rattle.std.specs.Prelude.{◌≡◌, ℕ, List, Option, Some, option_and_then, Bool, true, false}
 use Rattle.sspi_types.specs.declared.client_request_flags.ClientRequestFlags.{ClientRequestFlags}
@@ -29,7 +29,7 @@ user_of handle = option_and_then identity_of (passwords_of handle)
 abbrev pub user_url : Values → Option Identity → Option (List ℕ)
 user_url v user = option_and_then (λ identity. rule_url v identity.username) user
 
--- The mechanism in hand is the one from before, or one that the step takes: the server's choice, NTLM because of the target's
+-- The selected mechanism is the one from before, or one that the step takes: the server's choice, NTLM because of the target's
 -- address, or Kerberos because of the URL of a KDC.
 pub data MayHold (ByAddress : Type 0) (url : Option (List ℕ)) (choice : Option Protocol) (held new : Protocol) : Type 0 where
   as_before : new ≡ held → MayHold ByAddress url choice held new
@@ -49,7 +49,7 @@ pub data MayAllow (ByAddress : Type 0) (choice : Option Protocol)
   ntlm_chosen : choice ≡ Some Ntlm → old.ntlm ≡ true → new ≡ record old { kerberos = false } →
       MayAllow ByAddress choice old new
 
--- the mechanism in hand and the packages
+-- the selected mechanism and the packages
 abbrev pub MayHave : Type 0 → Option (List ℕ) → Option Protocol → Values → Values → Type 0
 MayHave ByAddress url choice old new =
     MayHold ByAddress url choice old.hand new.hand ×
@@ -65,7 +65,7 @@ pub data MayNeed (flags : ClientRequestFlags) (need new : Bool) : Type 0 where
   as_needed : new ≡ need → MayNeed flags need new
   as_asked : new ≡ client_wants_mic flags → MayNeed flags need new
 
--- what a client's later step leaves in hand and of the packages
+-- what a client's later step leaves selected and of the packages
 abbrev pub StaysHeld : Values → StepArgs → Values → Type 0
 StaysHeld old args new = MayHave (IsNamedByIp args.target × (old.packages.ntlm ≡ true))
     (user_url old (user_of args.handle))

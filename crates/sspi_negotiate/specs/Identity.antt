@@ -4,7 +4,7 @@ use Rattle.sspi_names.specs.declared.credentials.Credentials.TheVariants.{AuthId
 use Rattle.sspi_negotiate.specs.declared.protocol.Protocol.{Protocol}
 use Rattle.sspi_negotiate.specs.declared.protocol.Protocol.TheVariants as protocols
 
--- an identity that the mechanism in hand cannot be handed alone: a keytab, while that is NTLM
+-- an identity that the selected mechanism cannot be handed alone: a keytab, while that is NTLM
 abbrev pub is_refused_identity : Protocol → Credentials → Bool
 is_refused_identity protocol (AuthIdentity identity) = false
 is_refused_identity protocols.Ntlm (Keytab identity) = true

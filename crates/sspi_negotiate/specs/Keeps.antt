@@ -27,7 +27,7 @@ pub record HasList (v : Values) : Type 0 where
   pub begun : v.state ≢ Initial
   pub made : is_opening v.branch ≡ false
 
--- no package is enabled again, and the mechanism in hand may be used
+-- no package is enabled again, and the selected mechanism may be used
 pub record KeepsPackages (old : PackageListConfig) (held : Protocol) (new : PackageListConfig) (hand : Protocol) : Type 0 where
   pub ntlm : new.ntlm ≡ true → old.ntlm ≡ true
   pub kerberos : new.kerberos ≡ true → old.kerberos ≡ true

@@ -1,4 +1,4 @@
--- What a server's later step may make of the mechanism in hand.
+-- What a server's later step may make of the selected mechanism.
 use Rattle.std.specs.Prelude.{◌≡◌, ◌⊎◌, ℕ, List, Result}
 use Rattle.sspi_types.specs.declared.error.Error.{Error}
 use Rattle.sspi_names.specs.declared.credentials.Credentials.{Credentials}

@@ -32,7 +32,7 @@ use Rattle.sspi_negotiate.specs.Values.{Negotiation, values_of, is_waiting}
 
 -- A step by a plan; before there is a list to protect it makes and verifies no MIC. Kept says what a refused one leaves, and
 -- Protected what stays of the need of MICs; a refusal that asks no memory is told with its kind
--- (`Exact`). Of a step that want of memory breaks off the plan says what is left in hand (`Meets`),
+-- (`Exact`). Of a step that out of memory breaks off the plan says what is left selected (`Meets`),
 -- and the others hold of it too.
 pub record Moves {N K : Type 0} (n : Meaning Setting N) (k : Meaning Setting K)
     (IsFirstStep Kept Protected : Type 0)
@@ -52,7 +52,7 @@ pub record ResumeStays {N K : Type 0} (n : Meaning Setting N) (k : Meaning Setti
   pub begun : is_opening s.branch ≡ true → FallsBy (FallsResumed (hand n k) s.mech reply) (values_of s) (values_of s2)
 
 -- a client's step, whose plan depends on whether the target is named by its IP address; behind the first one the need of MICs goes
--- only where the server chooses NTLM for a guest, and what is in hand and the packages change only
+-- only where the server chooses NTLM for a guest, and what is selected and the packages change only
 -- as StaysHeld says; a first one that is refused leaves of the two what MayBegin says, and the need
 -- of MICs stays there or is what the flags say
 pub record ClientMoves {N K : Type 0} (n : Meaning Setting N) (k : Meaning Setting K) (s : Negotiation (NegotiatedProtocol N K))

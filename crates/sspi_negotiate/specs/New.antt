@@ -46,7 +46,7 @@ first_by role config (configs.Kerberos kerberos) packages =
 first_by role config (configs.KerberosServer kerberos server) packages =
     if packages.kerberos then Ok (Configured (configs.KerberosServer kerberos server)) else without_kerberos config packages.ntlm
 
--- the mechanism that is in hand at first, or the kind of the refusal
+-- the mechanism that is selected at first, or the kind of the refusal
 abbrev pub first_in_hand : Role → NegotiateConfig → Result Origin ErrorKind
 first_in_hand role config = first_by role config config.protocol_config (packages_in config)
 

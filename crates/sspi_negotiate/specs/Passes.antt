@@ -1,4 +1,4 @@
--- What a call on the mechanism in hand passes on.
+-- What a call on the selected mechanism passes on.
 use Rattle.std.specs.Prelude.{◌≡◌, Result, Ok, Err}
 use Rattle.sspi_types.specs.declared.error.Error.{Error}
 use Rattle.sspi_mech.specs.Meaning.{Meaning}

@@ -43,14 +43,14 @@ abbrev pub picked_or : Bool → Choice → List (List ℕ) → Option Picked →
 picked_or false choice list other = other
 picked_or true choice list other = found_or choice (place_of choice list) other
 
--- Kerberos under its identifier of Windows 2000, then under its own, each where it may be used and is in hand; then NTLM, where
+-- Kerberos under its identifier of Windows 2000, then under its own, each where it may be used and is selected; then NTLM, where
 -- it may be used
 abbrev pub pick : List (List ℕ) → PackageListConfig → Protocol → Option Picked
 pick list packages protocol =
     picked_or (packages.kerberos && is_kerberos_hand protocol) MsKerberos list
     (picked_or (packages.kerberos && is_kerberos_hand protocol) Kerberos list (picked_or packages.ntlm Ntlm list None))
 
--- what a client offers: Kerberos, under both identifiers, where it is in hand, and NTLM where it may be used
+-- what a client offers: Kerberos, under both identifiers, where it is selected, and NTLM where it may be used
 abbrev pub offered : Protocol → PackageListConfig → List (List ℕ)
 offered protocol packages =
     (if is_kerberos_hand protocol then ms_krb5 ∷ krb5 ∷ [] else []) ++ (if packages.ntlm then ntlm_ssp ∷ [] else [])

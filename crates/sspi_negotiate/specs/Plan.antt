@@ -1,4 +1,4 @@
--- A step as a plan: what the mechanism in hand is asked in turn, what is done with each answer, and how it ends.
+-- A step as a plan: what the selected mechanism is asked in turn, what is done with each answer, and how it ends.
 -- The values beside a question are those that a refusal of it, or a request to a KDC, leaves.
 use Rattle.std.specs.Prelude.{ℕ, List, Bool}
 use Rattle.sspi_types.specs.declared.error_kind.ErrorKind.{ErrorKind}
@@ -15,14 +15,14 @@ pub data Plan : Type 0 where
   Goes : Values → Step → Plan
   -- it is refused with this kind
   Stops : Values → ErrorKind → Plan
-  -- another mechanism is made and taken in hand
+  -- another mechanism is made and taken selected
   Takes : Origin → Plan → Plan
   -- a client's step, and the same step once a KDC has replied; the last is what comes of a refusal
   Steps : StepArgs → Values → (Step → Plan) → (ErrorKind → Plan) → Plan
   Resumes : Reply → Values → (Step → Plan) → (ErrorKind → Plan) → Plan
   -- a server's step
   Accepts : AcceptArgs → Values → (Step → Plan) → Plan
-  -- whether it authenticates user to user
+  -- whether it authenticates user-to-user
   Pairs : (Bool → Plan) → Plan
   -- the name of the peer; the identities that the peer may have
   Names : Values → (Name → Plan) → Plan

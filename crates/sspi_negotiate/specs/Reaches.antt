@@ -1,4 +1,4 @@
--- How far a step went by a plan, as the mechanism in hand shows it, also where want of memory broke the step off.
+-- How far a step went by a plan, as the selected mechanism shows it, also where out of memory broke the step off.
 use Rattle.std.specs.Prelude.{◌≡◌, ◌⊎◌, List, ℕ, Some, Result, Ok, Err}
 use Rattle.sspi_types.specs.declared.error.Error.{Error}
 use Rattle.sspi_types.specs.declared.error_kind.ErrorKind.{ErrorKind}

@@ -75,9 +75,9 @@ written (Some text) v v2 status = Goes v2 (record { status = status; output = te
 unfoldable pub writes : NegTokenTarg → Values → Values → SecurityStatus → Plan
 writes token v v2 status = written (spelled_targ token) v v2 status
 
--- ---- the mechanism in hand
+-- ---- the selected mechanism
 
--- NTLM is in hand for what follows: a new one, where Kerberos was
+-- NTLM is selected for what follows: a new one, where Kerberos was
 abbrev pub in_ntlm : Protocol → List ℕ → Plan → Plan
 in_ntlm protocols.Ntlm computer rest = rest
 in_ntlm protocols.Kerberos computer rest = Takes (in_place_of_kerberos computer) rest
@@ -110,7 +110,7 @@ checks mic v rest = identifies v (verifies mic v rest)
 
 -- ---- the end of an authentication
 
--- the negotiation is over, without a MIC; whether MICs were needed is noted with it
+-- the negotiation is over, without a MIC; whether MICs were needed is pinned with it
 unfoldable pub completes : Values → List ℕ → Bool → Plan
 completes v token need = writes (targ AcceptComplete None (if_some token) None) v (record v { need = need; state = states.Ok }) statuses.Ok
 

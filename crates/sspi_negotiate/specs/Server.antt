@@ -56,7 +56,7 @@ ends_at_once p v step =
 abbrev pub opens : Picked → Values → Step → Bool → Plan
 opens p v step need = if is_over step.status then (if need then awaits_mic p v step else ends_at_once p v step) else goes_on p v need step
 
--- whether MICs are needed where the client's choice stands; whether it authenticates user to user is known after the step
+-- whether MICs are needed where the client's choice stands; whether it authenticates user-to-user is known after the step
 abbrev pub needs_mic : Values → AcceptArgs → Bool → Bool
 needs_mic v args pairs = is_ntlm_hand v.hand || pairs || server_wants_mic args.requirements
 
@@ -68,7 +68,7 @@ first_token (Some token) p v args =
 unfoldable pub placed : Option (List ℕ) → Picked → Values → AcceptArgs → Plan
 placed token p v args = if p.index == 0 then first_token token p v args else drops p v
 
--- the mechanism that was picked is in hand; a Kerberos is picked only where it is
+-- the mechanism that was picked is selected; a Kerberos is picked only where it is
 abbrev pub takes_pick : Choice → Option (List ℕ) → Picked → Values → AcceptArgs → Plan
 takes_pick choices.MsKerberos token p v args = placed token p v args
 takes_pick choices.Kerberos token p v args = placed token p v args

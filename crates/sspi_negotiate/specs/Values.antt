@@ -1,4 +1,4 @@
--- What one end of a negotiation knows beside the mechanism in hand.
+-- What one end of a negotiation knows beside the selected mechanism.
 use Rattle.std.specs.Prelude.{ℕ, List, Option, Bool, true, false}
 use Rattle.sspi_names.specs.declared.credentials.CredentialsBuffers.{CredentialsBuffers}
 use Rattle.sspi_names.specs.declared.identity.AuthIdentity.{AuthIdentity}
@@ -16,7 +16,7 @@ use Rattle.sspi_negotiate.specs.Hand.{hand_of}
 pub record Values : Type 0 where
   pub role : Role
   pub state : NegotiateState
-  -- the name of the mechanism in hand, and the packages that may be used
+  -- the name of the selected mechanism, and the packages that may be used
   pub hand : Protocol
   pub packages : PackageListConfig
   -- the mechanisms that the client offered; empty until then

@@ -18,7 +18,7 @@ pub data Leaves {M : Type 0} (c : Meaning Origin M) (m left : M) : Type 0 where
   as_it_was : left ≡ m → Leaves c m left
   having_signed : left ≡ c.counted m (one_signing (c.counts m)) → Leaves c m left
 
--- The mechanism that is left in hand took this MIC of the peer as its next one and found it to be that of the list; since then
+-- The mechanism that is left selected took this MIC of the peer as its next one and found it to be that of the list; since then
 -- it has made at most its own.
 pub record IsVerified {M : Type 0} (c : Meaning Origin M) (list : List (List ℕ)) (left : M) : Type 0 where
   pub before : M

@@ -61,9 +61,9 @@ impl<N, K> Negotiate<N, K> {
 impl<N: Mechanism, K: Mechanism> Negotiate<N, K> {
     /// The buffers for the handle of these credentials (AcquireCredentialsHandle), which are kept; none without credentials.
     ///
-    /// `NoCredentials` for an outbound use without credentials, or with a keytab while NTLM is in hand. Else a client in whose
-    /// table a KDC serves the domain of the name takes Kerberos, where that may be used, and the mechanism in hand answers.
-    /// A refusal leaves all as it was, the mechanism in hand too.
+    /// `NoCredentials` for an outbound use without credentials, or with a keytab while NTLM is selected. Else a client in whose
+    /// table a KDC serves the domain of the name takes Kerberos, where that may be used, and the selected mechanism answers.
+    /// A refusal leaves all as it was, the selected mechanism too.
     pub fn acquire_credentials_handle(
         &mut self,
         credential_use: CredentialUse,
@@ -118,7 +118,7 @@ impl<N: Mechanism, K: Mechanism> Negotiate<N, K> {
         }
     }
 
-    /// Acquires with this mechanism, which is then in hand.
+    /// Acquires with this mechanism, which is then selected.
     fn acquire_in(
         &mut self,
         mechanism: NegotiatedProtocol<N, K>,

@@ -51,7 +51,7 @@ fn choice_of(token: &NegTokenTarg) -> Option<MechKind>
     }
 }
 
-/// The step of the mechanism in hand on this token, or on none.
+/// The step of the selected mechanism on this token, or on none.
 fn answer_with<N: Mechanism, K: Mechanism>(
     protocol: &mut NegotiatedProtocol<N, K>,
     kept: &Option<CredentialsBuffers>,
@@ -179,7 +179,7 @@ impl<N: Mechanism, K: Mechanism> Negotiate<N, K> {
         }
     }
 
-    /// NTLM is disabled only once Kerberos is in hand, so that want of memory leaves no disabled mechanism in hand.
+    /// NTLM is disabled only once Kerberos is selected, so that out of memory leaves no disabled mechanism selected.
     fn replace_ntlm(
         &mut self,
         token: NegTokenTarg,

@@ -51,7 +51,7 @@ impl<N: Mechanism, K: Mechanism> Negotiate<N, K> {
     /// and domain mix the forms of a name. `InvalidToken` for a token of another form than the state has, for a choice of a
     /// mechanism that may not be used, and in the last state for one that is not complete. `InternalError` where the first step
     /// of the mechanism ends with another status than `Ok` and `ContinueNeeded`, and for a token past `sspi_ber::MAX_CONTENT`,
-    /// 1048576 octets. Else the refusals of the mechanism in hand, which may have moved then; the state stays.
+    /// 1048576 octets. Else the refusals of the selected mechanism, which may have moved then; the state stays.
     pub fn initialize_security_context(
         &mut self,
         args: &InitializeSecurityContext<'_>,

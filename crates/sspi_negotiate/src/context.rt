@@ -25,7 +25,7 @@ impl<N: Mechanism, K: Mechanism> Negotiate<N, K> {
         Ok(ContextNames { username })
     }
 
-    /// Tells a server which identity its peer may have. `IncompleteCredentials` exactly for a keytab with NTLM in hand; else
+    /// Tells a server which identity its peer may have. `IncompleteCredentials` exactly for a keytab with NTLM selected; else
     /// as `custom_set_auth_identities`. The kept credentials stay.
     pub fn custom_set_auth_identity(&mut self, identity: Credentials) -> Result<(), Error>
         // What `Ok` holds, and that the counts stay.

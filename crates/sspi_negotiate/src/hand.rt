@@ -209,7 +209,7 @@ impl<N: Mechanism, K: Mechanism> NegotiatedProtocol<N, K> {
         }
     }
 
-    /// The same of one identity. A keytab is refused while NTLM is in hand.
+    /// The same of one identity. A keytab is refused while NTLM is selected.
     pub(crate) fn set_identity(&mut self, identity: &Credentials) -> Result<(), Refusal>
         // What `Ok` holds.
         ensures identified { OnOk result ((hand N.meaning K.meaning).identifies self.old (identity.now ∷ []) self.new) }

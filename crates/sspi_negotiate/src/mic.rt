@@ -46,7 +46,7 @@ fn sign_with<N: Mechanism, K: Mechanism>(
     Ok(Bytes::from_vec(mic))
 }
 
-/// A refusal has the kind of the mechanism's, and is never want of memory in its place.
+/// A refusal has the kind of the mechanism's, and is never out of memory in its place.
 fn verify_with<N: Mechanism, K: Mechanism>(
     protocol: &mut NegotiatedProtocol<N, K>,
     mic: &Bytes,

@@ -77,7 +77,7 @@ impl<N, K> Negotiate<N, K> {
         self.mic_needed
     }
 
-    /// The mechanism in hand.
+    /// The selected mechanism.
     pub fn negotiated_protocol(&self) -> &NegotiatedProtocol<N, K>
         ensures { result.now ≡ self.now.mech }
     {
@@ -100,7 +100,7 @@ impl<N: Mechanism, K: Mechanism> Negotiate<N, K> {
         self.protocol.requests_left()
     }
 
-    /// Takes a new NTLM in hand, where Kerberos was.
+    /// Selects a new NTLM in the place of Kerberos.
     pub(crate) fn take_ntlm(&mut self) -> Result<(), Refusal>
         // The step.
         ensures step { Passes N.meaning K.meaning (in_ntlm (hand_of self.old.mech) self.old.computer)

@@ -32,7 +32,7 @@ pub fn negotiation_is_context<N: Mechanism, K: Mechanism>()
     ensures { IsContext (negotiate N.REQUESTS N.meaning K.meaning) }
 {}
 
-/// No step enables a package again or leaves a mechanism in hand that may not be used, whatever it answers, want of memory too.
+/// No step enables a package again or leaves a selected mechanism that may not be used, whatever it answers, out of memory too.
 pub fn packages_are_kept<N: Mechanism, K: Mechanism>()
     ensures client { (old new : Negotiation (NegotiatedProtocol N K)) (args : StepArgs)
         (answer : Answer) →
@@ -48,7 +48,7 @@ pub fn packages_are_kept<N: Mechanism, K: Mechanism>()
         KeepsPackages old.packages (hand_of old.mech) new.packages (hand_of new.mech) }
 {}
 
-/// No step replaces the list of mechanisms that the client once offered, beside what `packages_are_kept` says; want of memory
+/// No step replaces the list of mechanisms that the client once offered, beside what `packages_are_kept` says; out of memory
 /// apart, in which `Stays` says what stays.
 pub fn steps_keep<N: Mechanism, K: Mechanism>()
     ensures client { (old new : Negotiation (NegotiatedProtocol N K)) (args : StepArgs)
@@ -76,12 +76,12 @@ pub fn choices_are_kept<N: Mechanism, K: Mechanism>()
         chosen_in args.input ≡ Some protocol → may_use old.packages protocol ≡ false → UnlessRefused answer ⊥ }
 {}
 
-/// What is in hand, allowed and kept, want of memory included. Behind the first step, a client's
-/// step leaves the mechanism in hand, or takes the one that the server chooses, NTLM where the
+/// What is selected, allowed and kept, out of memory included. Behind the first step, a client's
+/// step leaves the selected mechanism, or takes the one that the server chooses, NTLM where the
 /// target is named by its IP address and NTLM may be used, or Kerberos where a KDC serves the
 /// domain of the user that the call hands over; of the packages it disables at most the one beside
 /// that choice, or Kerberos because of the address. A resumed step, but for a resumed first one,
-/// and a server's later step leave the list, the packages and the mechanism in hand. In each step
+/// and a server's later step leave the list, the packages and the selected mechanism. In each step
 /// of a client the kept credentials stay, or are the user's that the call hands over; a resumed
 /// step leaves them, and a server's step the packages too. A server makes no other mechanism of the
 /// same name: the one that is left is the one from before, or what at most one token, the peer's
@@ -116,7 +116,7 @@ pub fn hand_is_kept<N: Mechanism, K: Mechanism>()
         old.state ≢ states.Initial → LivesOn (hand N.meaning K.meaning) args old.mech new.mech }
 {}
 
-/// A refusal for which no memory is asked is told with its kind, never as want of memory. It is
+/// A refusal for which no memory is asked is told with its kind, never as out of memory. It is
 /// `OutOfSequence` for a client's step on a server, while a step waits and after the end, for a
 /// resume where no step waits, and for a server's step on a client and after the end; and
 /// `InvalidToken` for a server's step whose bytes begin with no token of the form that its state
@@ -136,11 +136,11 @@ pub fn refusals_are_exact<N: Mechanism, K: Mechanism>()
         TellsKind (server_refusal old.role old.state args.input) (told result) }
 {}
 
-/// Where MICs are needed they stay so, want of memory included: a server's refused step leaves the need as it was, and so does a
+/// Where MICs are needed they stay so, out of memory included: a server's refused step leaves the need as it was, and so does a
 /// resumed step, whatever it answers. A client's first step leaves it, or makes it what the flags
 /// of the step say. Behind the first step, a client's step takes it away only by the server's
 /// choice of NTLM, which may be used, for a guest, and a server's only where the peer is a guest by
-/// the name that the mechanism then in hand gives.
+/// the name that the mechanism then selected gives.
 pub fn mic_need_is_kept<N: Mechanism, K: Mechanism>()
     ensures client { (old new : Negotiation (NegotiatedProtocol N K)) (args : StepArgs)
         (answer : Answer) →
@@ -163,7 +163,7 @@ pub fn mic_need_is_kept<N: Mechanism, K: Mechanism>()
         (new.need ≡ true) ⊎ IsGuestNamed (hand N.meaning K.meaning) new.mech }
 {}
 
-/// An end that needs MICs comes to its end only where, in that very step, the mechanism that is left in hand verified the
+/// An end that needs MICs comes to its end only where, in that very step, the mechanism that is left selected verified the
 /// peer's next MIC over the list of mechanisms as it is kept, and since then made at most its own (RFC 4178, section 5). That holds
 /// where MICs are needed after the step, and, behind the first step, where they were needed before it: but on a client where the
 /// server chose NTLM, which may be used, for a guest, and on a server where the mechanism names its peer as a guest.

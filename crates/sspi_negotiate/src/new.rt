@@ -80,7 +80,7 @@ fn make_without_kerberos<N: Mechanism, K: Mechanism>(
     }
 }
 
-/// The mechanism that is in hand at first.
+/// The mechanism that is selected at first.
 fn make_first<N: Mechanism, K: Mechanism>(
     alloc: Global,
     role: Role,

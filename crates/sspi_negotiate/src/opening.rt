@@ -39,7 +39,7 @@ pub(crate) fn done(ended: Result<Step, Refusal>) -> Result<Progressing, Refusal>
     Ok(Progressing::Done(ended?))
 }
 
-/// The step of the mechanism in hand.
+/// The step of the selected mechanism.
 pub(crate) fn step_with<N: Mechanism, K: Mechanism>(
     protocol: &mut NegotiatedProtocol<N, K>,
     kept: &Option<CredentialsBuffers>,

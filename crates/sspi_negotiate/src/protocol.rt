@@ -4,7 +4,7 @@ ghost use Rattle.std.specs.Prelude.{◌≡◌};
 ghost use Rattle.sspi_negotiate.specs.Hand.{hand_of, is_kerberos_hand};
 ghost use Rattle.sspi_negotiate.specs.Protocol.{is_kerberos, is_ntlm, protocol_name};
 
-/// The mechanism in hand.
+/// The selected mechanism.
 #[derive(Drop)]
 pub enum NegotiatedProtocol<N, K> {
     Kerberos(K),
@@ -39,7 +39,7 @@ impl<N, K> NegotiatedProtocol<N, K> {
         }
     }
 
-    /// `Kerberos` or `NTLM`, the name of the package in hand.
+    /// `Kerberos` or `NTLM`, the name of the package selected.
     pub fn protocol_name(&self) -> &'static str
         ensures { result.now ≡ protocol_name self.now }
     {
@@ -49,7 +49,7 @@ impl<N, K> NegotiatedProtocol<N, K> {
         }
     }
 
-    /// Whether Kerberos is in hand.
+    /// Whether Kerberos is selected.
     pub fn is_kerberos(&self) -> bool
         ensures { result ≡ is_kerberos self.now }
     {
@@ -59,7 +59,7 @@ impl<N, K> NegotiatedProtocol<N, K> {
         }
     }
 
-    /// Whether NTLM is in hand.
+    /// Whether NTLM is selected.
     pub fn is_ntlm(&self) -> bool
         ensures { result ≡ is_ntlm self.now }
     {

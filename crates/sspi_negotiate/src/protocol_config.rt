@@ -16,12 +16,12 @@ pub enum ProtocolConfig {
     Ntlm(NtlmConfig),
     /// A Kerberos without a ticket.
     Kerberos(KerberosConfig),
-    /// A Kerberos that may authenticate user to user.
+    /// A Kerberos that may authenticate user-to-user.
     KerberosServer(KerberosConfig, KerberosServerConfig),
 }
 
 impl ProtocolConfig {
-    /// A mechanism of this configuration that has made no step. Refused for want of memory alone.
+    /// A mechanism of this configuration that has made no step. Refused only when out of memory.
     pub fn new_instance<N: Mechanism, K: Mechanism>(
         &self,
         alloc: Global,

@@ -18,7 +18,7 @@ use sspi_types::{
 };
 
 impl<N: Mechanism, K: Mechanism> Negotiate<N, K> {
-    /// The sizes that users of the mechanism in hand must know.
+    /// The sizes that users of the selected mechanism must know.
     pub fn query_context_sizes(&self) -> ContextSizes
         ensures { result ≡ (negotiate N.REQUESTS N.meaning K.meaning).sizes self.now }
     {
@@ -28,7 +28,7 @@ impl<N: Mechanism, K: Mechanism> Negotiate<N, K> {
         }
     }
 
-    /// The session key of the mechanism in hand. With the plain mechanisms `OutOfSequence` before there is one.
+    /// The session key of the selected mechanism. With the plain mechanisms `OutOfSequence` before there is one.
     pub fn query_context_session_key(&self) -> Result<SessionKeys, Error>
         ensures key { IfOk result (λ keys.
             (negotiate N.REQUESTS N.meaning K.meaning).session_key self.now ≡ Some keys.session_key.value) }
@@ -42,7 +42,7 @@ impl<N: Mechanism, K: Mechanism> Negotiate<N, K> {
         }
     }
 
-    /// The entry of Negotiate, whichever mechanism is in hand. Refused for want of memory alone.
+    /// The entry of Negotiate, whichever mechanism is selected. Refused only when out of memory.
     pub fn query_context_package_info(&self) -> Result<PackageInfo, Error>
         ensures entry { IfOk result (λ info. info ≡ (negotiate N.REQUESTS N.meaning K.meaning).entry self.now) }
         ensures own { IfOk result (λ info. info ≡ negotiate_entry) }
@@ -51,7 +51,7 @@ impl<N: Mechanism, K: Mechanism> Negotiate<N, K> {
         negotiate_package_info(self.alloc)
     }
 
-    /// The entry of the mechanism in hand.
+    /// The entry of the selected mechanism.
     pub fn query_context_negotiation_package(&self) -> Result<PackageInfo, Error>
         ensures entry { IfOk result (λ info. info ≡ (hand N.meaning K.meaning).entry self.now.mech) }
         ensures codeless { IfErr result (λ error. error.nstatus ≡ None) }

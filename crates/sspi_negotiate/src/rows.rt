@@ -87,7 +87,7 @@ pub(crate) fn passwords(kept: Option<&CredentialsBuffers>) -> Option<&Credential
     }
 }
 
-/// The credentials by which the mechanism in hand steps.
+/// The credentials by which the selected mechanism steps.
 pub(crate) fn handle_for<'a>(
     protocol: Protocol,
     kept: Option<&'a CredentialsBuffers>,

@@ -84,7 +84,7 @@ impl<N: Mechanism, K: Mechanism> Negotiate<N, K> {
     /// `OutOfSequence` on a client and after the end. `InvalidToken` for a token of another form than the state has, for a
     /// list that is absent or has nothing to pick, and where a MIC is missing that is needed. `NoCredentials` where no known
     /// identity has the peer's name. `InternalError` for a token past `sspi_ber::MAX_CONTENT`, 1048576 octets. Else the refusals of the
-    /// mechanism in hand, which may have moved then; the state stays.
+    /// selected mechanism, which may have moved then; the state stays.
     pub fn accept_security_context(
         &mut self,
         args: &AcceptSecurityContext<'_>,

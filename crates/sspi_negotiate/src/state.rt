@@ -5,7 +5,7 @@
 pub enum NegotiateState {
     /// No token was made or taken.
     Initial,
-    /// The mechanism in hand authenticates.
+    /// The selected mechanism authenticates.
     InProgress,
     /// The authentication is over, and a MIC over the mechanism list is to come.
     VerifyMic,

@@ -74,7 +74,7 @@ client_step m envelope = if m.ended then Stops OutOfSequence else takes m None (
 abbrev pub server_step : OutsideState → List ℕ → Outcome
 server_step m envelope = if m.ended then Stops OutOfSequence else hears m (introduced envelope)
 
--- the kinds with which such a step is refused, other than want of memory
+-- the kinds with which such a step is refused, other than out of memory
 abbrev pub IsStopped : Outcome → ErrorKind → Type 0
 IsStopped (Goes m step) kind = ⊥
 IsStopped (Stops stop) kind = kind ≡ stop

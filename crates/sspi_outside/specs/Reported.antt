@@ -40,7 +40,7 @@ ServerReports p old d step proof credentials new last =
 
 -- ---- what it reported
 
--- the host opened exactly the proof that the server owes: at the noted version, over the client's nonce and the channel's key
+-- the host opened exactly the proof that the server owes: at the pinned version, over the client's nonce and the channel's key
 abbrev pub OpenedServerProof : ClientView Hosted → Option ℕ → Option (List ℕ) → Type 0
 OpenedServerProof client noted proof =
     AtNoted noted (λ version. proof ≡ Some (prescribed Server version client.settings.nonce client.settings.public_key))

@@ -20,7 +20,7 @@ pub fn unopened_blob_has_no_text()
 {}
 
 /// A client owes the seal of its credentials only in a call in which the host reported exactly the proof that the server owes: at the
-/// noted version, over the client's nonce and the channel's key.
+/// pinned version, over the client's nonce and the channel's key.
 pub fn credentials_follow_the_proof()
     ensures { CredentialsFollowTheProof }
 {}

@@ -29,7 +29,7 @@ pub fn handed_offer(
 /// The later token that it is handed for one that came.
 ///
 /// `step` is the envelope of the step with its `responseToken`; empty where the host made none.
-/// `verified` is the list of mechanisms, as `encode_mech_types` spells it, over which the host's
+/// `verified` is the list of mechanisms, as `encode_mech_types` encodes it, over which the host's
 /// context verified its `mechListMIC`. Where it is `None` the MIC verifies over no list, whatever
 /// came: the host verified none, or found it bad.
 pub fn handed_response(

@@ -25,7 +25,7 @@ last_same xs ys x y e = some_same x y (sym (oldest_last xs x) ∙ ap oldest e �
 pub none_last : {A : Type 0} {P : Type 0} (xs : List A) (x : A) → [] ≡ xs ++ (x ∷ []) → P
 none_last xs x e = let none : None ≡ Some x = ap oldest e ∙ oldest_last xs x in absurd (cc (none))
 
--- fronts of one length in equal lists are equal, and so is what follows them
+-- prefixes of one length in equal lists are equal, and so is what follows them
 pub fronts_same : {A : Type 0} (a b x y : List A) → length a ≡ length b → a ++ x ≡ b ++ y → a ≡ b
 fronts_same a b x y long e =
     sym (take-append_seam a x) ∙ ap (λ (n : ℕ). take n (a ++ x)) long ∙ ap (λ (l : List _). take (length b) l) e ∙ take-append_seam b y

@@ -70,7 +70,7 @@ server_place [] [] t before e = absurd (cc (e))
 server_place [] (x ∷ later) t before e = absurd (cc (e))
 server_place (u ∷ turns) later t before e = place_by u turns t before (λ l h. server_place turns l t before h) u.end later refl e
 
--- ---- the version that an end noted stays
+-- ---- the version that an end pinned stays
 
 client_noted_more : (least : ℕ) (x : Turn) (turns : List Turn) (version : ℕ) → client_noted least turns ≡ Some version →
     client_noted least (x ∷ turns) ≡ Some version

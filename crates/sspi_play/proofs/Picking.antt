@@ -18,7 +18,7 @@ use Rattle.sspi_negotiate.proofs.Leads.{Leads}
 use Rattle.sspi_negotiate.proofs.ServerLeads.{IsTaken, ServerCases, server_leads}
 use Rattle.sspi_play.specs.Negotiated.{IsReadAs, protocol_of}
 
--- what is in hand once a choice is taken is what it names
+-- what is selected once a choice is taken is what it names
 pub taken_is : (choice : Choice) (packages : PackageListConfig) (held hand : Protocol) → IsTaken choice packages held hand →
     hand ≡ protocol_of choice
 taken_is choices.MsKerberos packages held hand is = is.0 ∙ is.1

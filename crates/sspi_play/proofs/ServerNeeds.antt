@@ -29,7 +29,7 @@ use Rattle.sspi_negotiate.proofs.ServerLeads.{IsNeedOf, ServerCases, server_lead
 use Rattle.sspi_play.specs.Negotiated.{NeedsMic, first_of, protocol_of}
 use Rattle.sspi_play.proofs.Picking.{taken_is}
 
--- MICs are needed, where the mechanism in hand says so
+-- MICs are needed, where the selected mechanism says so
 abbrev pub AreNeeded : Values → Type 0
 AreNeeded v = NeedsMic v.hand v.list → v.need ≡ true
 

@@ -1,4 +1,4 @@
--- A server's context through one step: until it has read the client's list it makes and takes no MIC; then it has the mechanism in hand
+-- A server's context through one step: until it has read the client's list it makes and takes no MIC; then it has the selected mechanism
 -- that it picks of the list, and keeps both.
 use Rattle.std.proofs.Common.{◌≡◌, ◌≢◌, ℕ, true, false, List, [], ◌∷◌, option_map, Option, None, Some, Result, Ok, Err}
 use Rattle.std.proofs.Common.{refl, sym, ◌∙◌, ap, subst}

@@ -36,7 +36,7 @@ state_auth false true over h = (refl, refl)
 state_auth false false true h = absurd (cc (h))
 state_auth false false false h = absurd (cc (h))
 
--- the version at which a fact of the noted one holds
+-- the version at which a fact of the pinned one holds
 pub at_some : (noted : Option ℕ) (P : ℕ → Type 0) → AtNoted noted P → (v : ℕ) × (noted ≡ Some v)
 at_some None P h = absurd h
 at_some (Some v) P h = (v, refl)

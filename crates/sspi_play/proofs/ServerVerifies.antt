@@ -1,5 +1,5 @@
 -- A server's context, after its turns: once one of them ended the authentication, a negotiation is over, and has verified a MIC where the
--- mechanism in hand needs one, unless the proxy found the identities of a guest.
+-- selected mechanism needs one, unless the proxy found the identities of a guest.
 use Rattle.std.proofs.Common.{◌≡◌, ◌≢◌, ◌≤◌, ℕ, Bool, true, false, List, [], ◌∷◌, map, Option, None, Some, Result, Ok, Err}
 use Rattle.std.proofs.Common.{refl, sym, ◌∙◌, ap, subst, ◌&&◌, ◌⊎◌, inl, inr}
 use Rattle.std.proofs.Math.Logic.{⊎_map}

@@ -33,7 +33,7 @@ pub data NoEcho {C : Type 0} (client : ClientEnd C) (server : ServerEnd C) : Typ
 
 -- ---- what both agree on
 
--- the two ends proved in the same form: both noted a version below 5, or both one from 5 on
+-- the two ends proved in the same form: both pinned a version below 5, or both one from 5 on
 abbrev pub AreAlike : Option ℕ → Option ℕ → Type 0
 AreAlike None other = ⊥
 AreAlike (Some version) None = ⊥

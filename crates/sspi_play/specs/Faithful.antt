@@ -23,7 +23,7 @@ abbrev pub where_done : Bool → List (List ℕ) → List (List ℕ)
 where_done true texts = texts
 where_done false texts = []
 
--- the proof of an end, by the version that it noted
+-- the proof of an end, by the version that it pinned
 abbrev pub proof_text : EndpointType → Option ℕ → List ℕ → List ℕ → List (List ℕ)
 proof_text end None nonce key = []
 proof_text end (Some version) nonce key = prescribed end version nonce key ∷ []
@@ -33,7 +33,7 @@ text_in (Ok text) = text ∷ []
 text_in (Err error) = []
 
 module _ {C : Type 0} where
-  -- a client seals its proof, and then its credentials; the turns before this one say which version it had noted
+  -- a client seals its proof, and then its credentials; the turns before this one say which version it had pinned
   abbrev pub client_texts : ClientEnd C → List Turn → Turn → List (List ℕ)
   client_texts e past t =
       where_done t.acts.sealed (text_in (delegated_text e.settings.credentials e.settings.delegation))

@@ -40,7 +40,7 @@ RequestIs start bytes (Err wire.InsufficientMemory) = Unit {0}
 abbrev pub IsLeft : Bool → List ℕ → List Turn → List Turn → TsRequest → Type 0
 IsLeft start bytes old new request = RequestIs start bytes (Ok request) × (new ≡ old)
 
--- an end that refused with this kind stands so, but want of memory ends the play
+-- an end that refused with this kind stands so, but out of memory ends the play
 abbrev pub EndsBy : ErrorKind → Result Ending DelegateError → Type 0
 EndsBy kind (Ok ending) = (ending ≡ Refused kind) × (kind ≢ kinds.InsufficientMemory)
 EndsBy kind (Err error) = (error ≡ errors.InsufficientMemory) × (kind ≡ kinds.InsufficientMemory)
@@ -60,7 +60,7 @@ EndsSo end IsRefusal start bytes (Refused kind) old new = (kind ≢ kinds.Insuff
     TurnsSo end start bytes (IsRefusal kind) old new
 EndsSo end IsRefusal start bytes (Unread kind) old new = (unread_kind start bytes ≡ Some kind) × (new ≡ old)
 
--- want of memory: no turn was made, or it was refused with that
+-- out of memory: no turn was made, or it was refused with that
 pub record LacksSo (end : End) (IsRefusal : ErrorKind → Outcome → Type 0) (start : Bool) (bytes : List ℕ) (error : DelegateError)
     (old new : List Turn) : Type 0 where
   pub error_is : error ≡ errors.InsufficientMemory

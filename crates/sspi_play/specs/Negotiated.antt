@@ -1,7 +1,7 @@
 -- Agreement on the mechanism that a negotiation chose, between a client and a server whose messages an attacker carries, if the
 -- mechanism is faithful in what it signs (RFC 4178, section 5). It supposes nothing of what is sealed, and nothing of hashes.
 --
--- A server that verified a MIC of the client has the mechanism in hand that it picks, by its own configuration, of the list that
+-- A server that verified a MIC of the client has the selected mechanism that it picks, by its own configuration, of the list that
 -- the client offered; and a client that verified a MIC of the server keeps the list that the server read. A client that proved its
 -- key, or sealed its credentials, has verified one. A server that proved its own, or opened credentials, has too, if the mechanism in
 -- hand is NTLM or is not the one that the list that it read begins with. That is so of ends that negotiate, but for a guest, and rests
@@ -75,14 +75,14 @@ pub record HasRead (turns : List Turn) (list : List (List ℕ)) : Type 0 where
   pub at : TurnOf turns
   pub read : IsReadAs (token_of at.turn.delivered.nego_tokens) list
 
--- ---- the mechanism in hand
+-- ---- the selected mechanism
 
 abbrev pub protocol_of : Choice → Protocol
 protocol_of choices.MsKerberos = Kerberos
 protocol_of choices.Kerberos = Kerberos
 protocol_of choices.Ntlm = Ntlm
 
--- the mechanism of what is taken in hand; a refusal takes none
+-- the mechanism of what is taken selected; a refusal takes none
 abbrev pub protocol_from : Result Origin ErrorKind → Option Protocol
 protocol_from (Ok (Configured (configs.Ntlm config))) = Some Ntlm
 protocol_from (Ok (Configured (configs.Kerberos config))) = Some Kerberos
@@ -90,7 +90,7 @@ protocol_from (Ok (Configured (configs.KerberosServer config server))) = Some Ke
 protocol_from (Ok (InPlaceOfNtlm url kdcs computer)) = Some Kerberos
 protocol_from (Err kind) = None
 
--- what a server with this mechanism in hand picks of a list, by its configuration
+-- what a server with this selected mechanism picks of a list, by its configuration
 abbrev pub picks_with : NegotiateConfig → Option Protocol → List (List ℕ) → Option Protocol
 picks_with config None list = None
 picks_with config (Some first) list = option_map (λ (picked : Picked). protocol_of picked.choice) (pick list (packages_in config) first)
@@ -99,14 +99,14 @@ picks_with config (Some first) list = option_map (λ (picked : Picked). protocol
 abbrev pub picked_by : NegotiateConfig → List (List ℕ) → Option Protocol
 picked_by config list = picks_with config (protocol_from (first_in_hand roles.Server config)) list
 
--- the mechanism that a negotiation has in hand
+-- the mechanism that a negotiation has selected
 abbrev pub in_hand : {N K : Type 0} → Option (SspiContext N K) → Option Protocol
 in_hand None = None
 in_hand (Some (contexts.Negotiate s)) = Some (hand_of s.mech)
 in_hand (Some (contexts.Ntlm m)) = None
 in_hand (Some (contexts.Kerberos m)) = None
 
--- the mechanism in hand is what a server of this mode picks of the list
+-- the selected mechanism is what a server of this mode picks of the list
 pub record IsPickOf {N K : Type 0} (context : Option (SspiContext N K)) (mode : ServerMode) (list : List (List ℕ)) : Type 0 where
   pub config : NegotiateConfig
   pub mode_is : mode ≡ modes.Negotiate config
@@ -121,8 +121,8 @@ abbrev pub first_of : List (List ℕ) → Option Protocol
 first_of [] = None
 first_of (oid ∷ oids) = protocol_of_kind (kind_of oid)
 
--- Where a server with this mechanism in hand needs MICs over the list: with NTLM, and with any that the list does not begin with, both
--- identifiers of Kerberos being one. It needs them in other cases too, as user to user, of which nothing is said here.
+-- Where a server with this selected mechanism needs MICs over the list: with NTLM, and with any that the list does not begin with, both
+-- identifiers of Kerberos being one. It needs them in other cases too, as user-to-user, of which nothing is said here.
 abbrev pub NeedsMic : Protocol → List (List ℕ) → Type 0
 NeedsMic protocol list = (protocol ≡ Ntlm) ⊎ (first_of list ≢ Some protocol)
 

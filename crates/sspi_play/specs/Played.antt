@@ -28,7 +28,7 @@ pub record Both (C P D : Type 0) : Type 0 where
 abbrev pub both : {C P D : Type 0} → ClientView C → ServerView C P → D → List Turn → Both C P D
 both client server kdc turns = record { client = client; server = server; kdc = kdc; turns = turns }
 
--- the turns are those of the whole schedule, or of a front of it where there was no memory
+-- the turns are those of the whole schedule, or of a prefix of it where there was no memory
 pub record PlaysFront (schedule : List Delivery) (turns : List Turn) : Type 0 where
   pub handed : ℕ
   pub within : handed ≤ length schedule

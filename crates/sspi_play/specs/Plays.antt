@@ -105,12 +105,12 @@ pub data Plays : List Delivery → List Turn → Type 0 where
   passes : (d : Delivery) (past : List Delivery) (turns : List Turn) → Plays past turns →
       ending_of d.to (d ∷ past) turns ≢ Running → Plays (d ∷ past) turns
 
--- no turn was refused for want of memory
+-- no turn was refused when out of memory
 abbrev pub AllHadMemory : List Turn → Type 0
 AllHadMemory [] = Unit {0}
 AllHadMemory (t ∷ past) = (refusal_in t.outcome ≢ Some kinds.InsufficientMemory) × AllHadMemory past
 
--- a refusal for want of memory ends the play, so only the newest turn may be one
+-- a refusal when out of memory ends the play, so only the newest turn may be one
 abbrev pub OthersHadMemory : List Turn → Type 0
 OthersHadMemory [] = Unit {0}
 OthersHadMemory (t ∷ past) = AllHadMemory past
@@ -131,7 +131,7 @@ pub record IsNext (schedule : List Delivery) (turns : List Turn) (request : TsRe
   pub front : reverse (take handed schedule) ≡ delivery ∷ past
   pub taken : IsTaken delivery past turns request
 
--- no end stands refused for want of memory
+-- no end stands refused when out of memory
 abbrev pub IsNoWant : Ending → Type 0
 IsNoWant Running = Unit {0}
 IsNoWant (Refused kind) = kind ≢ kinds.InsufficientMemory

@@ -19,7 +19,7 @@ pub struct Delivery {
 pub enum Ending {
     /// It refused nothing, and read whatever was delivered to it. Also an end that has nothing more to say.
     Running,
-    /// It refused its last turn. The kind is never want of memory.
+    /// It refused its last turn. The kind is never out of memory.
     Refused(ErrorKind),
     /// What was delivered to it after its last turn is no request: `UnexpectedEof` where the octets end too early or the
     /// header is at fault, and else `InvalidData`.

@@ -40,7 +40,7 @@ use Rattle.sspi_program.specs.Said.{said_text, said_status, conducted_as, words_
 use Rattle.sspi_program.specs.Seats.{PlainSeat}
 use Rattle.sspi_program.specs.Status.{IsUnlessWrite, IsUnlessFault}
 
--- a text of which a proper front was written
+-- a text of which a proper prefix was written
 nothing_behind : (front rest : List ℕ) → front ++ rest ≡ [] → rest ≡ []
 nothing_behind [] rest e = e
 nothing_behind (x ∷ front) rest e = absurd cc

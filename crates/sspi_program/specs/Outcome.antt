@@ -43,7 +43,7 @@ messages_in scenario matching =
     matching.mode
 
 -- Ok of plain NTLM alone takes three messages of the client. A scenario whose ends match comes to Ok where the client may make as many
--- messages as it takes, and else is cut short; but for want of memory.
+-- messages as it takes, and else is cut short; but when out of memory.
 pub record IsOutcome (scenario : Scenario) (answer : Result Delegation DelegateError) : Type 0 where
   pub three : scenario.mode ≡ Ntlm → IfOk answer (λ delegation. 3 ≤ delegation.rounds)
   pub comes : (matching : IsMatching scenario) → messages_in scenario matching ≤ scenario.turns →

@@ -19,7 +19,7 @@ use Rattle.sspi_program.specs.Play.{HasPlay, PlayEnds}
 use Rattle.sspi_program.specs.Said.{status_of, RecordDue, IsDue}
 use Rattle.sspi_program.specs.Status.{IsUnlessWrite}
 
--- a record is kept, if any is, of which this holds, of such a scenario, and in which no memory was wanting; and nothing else is
+-- a record is kept, if any is, of which this holds, of such a scenario, and in which no there was no memory; and nothing else is
 abbrev pub KeepsRecord : (Record → Type 0) → (Scenario → Type 0) → Conducted → Type 0
 KeepsRecord P IsOf conducted =
     IfSome conducted.kept (λ kept. P kept × IsOf kept.scenario × IsSome (status_of kept.outcome)) × HasRecordAlone conducted

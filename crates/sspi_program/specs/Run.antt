@@ -114,14 +114,14 @@ pub record HasStatus (command : Option Command) (before after : Outside) (status
   pub six : status ≡ 6 → (command ≡ None) × Wrote before.written after.written words_text
   pub no_command : command ≡ None → IsUnlessWrite 6 status
 
--- The whole text was written, and the status is its own; or a proper front of it, since the sink failed (4) or had no memory (5).
+-- The whole text was written, and the status is its own; or a proper prefix of it, since the sink failed (4) or had no memory (5).
 abbrev pub Written : ℕ → List ℕ → Option (List ℕ) → Option (List ℕ) → ℕ → ℕ → ℕ → Type 0
 Written own text before after faults faults2 status =
     ((status ≡ own) × Wrote before after text)
     ⊎ (((status ≡ 4) × Rose faults faults2 × WroteFront before after text)
     ⊎ ((status ≡ 5) × WroteFront before after text))
 
--- what was written is the text that the words and the source owe, or a proper front of it
+-- what was written is the text that the words and the source owe, or a proper prefix of it
 pub record WroteOwed (command : Option Command) (before after : Outside) (conducted : Conducted) : Type 0 where
   pub said : Said
   pub owed : Comes command before.left before.read_faults after.read_faults said

@@ -37,7 +37,7 @@ line_text line = with_newline (codes "error: scenario line " ++ decimal line)
 
 -- ---- the report of a record
 
--- 0 where the server has the credentials, 1 where the exchange was refused; none where memory was wanting
+-- 0 where the server has the credentials, 1 where the exchange was refused; none where there was no memory
 abbrev pub delegated_status : Result Delegation DelegateError → Option ℕ
 delegated_status (Ok delegation) = Some 0
 delegated_status (Err errors.InsufficientMemory) = None
@@ -71,7 +71,7 @@ report_by (outcomes.Early answer) kept = []
 abbrev pub report_of : Record → List ℕ
 report_of kept = report_by kept.outcome kept
 
--- the status and the text that are due for a record; none where memory was wanting
+-- the status and the text that are due for a record; none where there was no memory
 abbrev pub record_due : Record → Option (ℕ × List ℕ)
 record_due kept = option_map (λ status. (status, report_of kept)) (status_of kept.outcome)
 

@@ -1,7 +1,7 @@
--- Which status comes, where a fault or want of memory may come in its place.
+-- Which status comes, where a fault or out of memory may come in its place.
 use Rattle.std.specs.Prelude.{◌≡◌, ℕ, ◌<◌, ◌≤◌, ◌⊎◌}
 
--- this status, but for a write fault (4) and want of memory (5)
+-- this status, but for a write fault (4) and out of memory (5)
 abbrev pub IsUnlessWrite : ℕ → ℕ → Type 0
 IsUnlessWrite own status = (status ≡ own) ⊎ ((status ≡ 4) ⊎ (status ≡ 5))
 

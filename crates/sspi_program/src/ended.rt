@@ -14,7 +14,7 @@ use std::alloc::Global;
 use std::env::{self, Env};
 use std::io::{self, ErrorKind};
 
-/// The words after the program's name. One that is not UTF-8 is an error, and so is want of memory,
+/// The words after the program's name. One that is not UTF-8 is an error, and so is out of memory,
 /// by its kind `OutOfMemory`. Which words a process was given no contract can say.
 pub fn words_of<R: Env + Alloc<A = Global>>(rt: &R) -> io::Result<Vec<String>> {
     let mut words = Vec::new(rt.alloc());
@@ -37,7 +37,7 @@ pub fn command_in(words: &io::Result<Vec<String>>) -> Option<Command>
 
 /// Runs the program on the words that were read, and answers the status that the process ends with:
 /// that of `exit_status` of these words. Where a word is not UTF-8 they are no command, so it is
-/// that of no words. Where memory was wanting for them it is 5 at once, and nothing was read or
+/// that of no words. Where there was no memory for them it is 5 at once, and nothing was read or
 /// written.
 pub fn ended<S: Source, W: Sink>(
     alloc: Global,

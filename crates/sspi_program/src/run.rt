@@ -37,8 +37,8 @@ pub const EXPLAIN_LIMIT: usize = 2_097_152;
 ///   the first faulty line, from 1, or 0 where no line is to blame; and where the text that is to be explained has more than
 ///   `EXPLAIN_LIMIT` bytes or is not UTF-8: `error: text`;
 /// - 3 where the source failed: `error: read`;
-/// - 4 where the sink failed, which hides the status that was due: a front of the text, never all of it;
-/// - 5 where memory was wanting: nothing, or where the sink had none a front of the text, never all of it;
+/// - 4 where the sink failed, which hides the status that was due: a prefix of the text, never all of it;
+/// - 5 where there was no memory: nothing, or where the sink had none a prefix of the text, never all of it;
 /// - 6 where the words are others: `error: words`, and the source is not read, as it is not for `gen`.
 ///
 /// Each line ends with LF. The source is read to its end, or to the first byte past the limit and no further. No failed call hides

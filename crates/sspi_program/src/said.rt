@@ -25,7 +25,7 @@ pub enum Said {
     NoMemory,
 }
 
-/// What is said of a record: its report. A record in which memory was wanting is dropped.
+/// What is said of a record: its report. A record in which there was no memory is dropped.
 pub fn said_of(alloc: Global, made: Record) -> Said
     ensures { SaysOf made result }
 {
@@ -38,7 +38,7 @@ pub fn said_of(alloc: Global, made: Record) -> Said
     }
 }
 
-/// What is said of a record with this status and this text, where there was memory for them. A record in which memory was wanting
+/// What is said of a record with this status and this text, where there was memory for them. A record in which there was no memory
 /// is dropped.
 pub fn said_with(alloc: Global, made: Record, told: Result<(u8, Vec<u8>), AllocError>) -> Said
     ensures { SaysWith made told result }
@@ -81,7 +81,7 @@ pub fn report_with(alloc: Global, kept: &Record, line: &str) -> Result<Vec<u8>, 
     Ok(text)
 }
 
-/// The status of an outcome; none where memory was wanting.
+/// The status of an outcome; none where there was no memory.
 pub fn status_of(outcome: &RunOutcome) -> Option<u8>
     ensures { result ≡ status_of outcome.now }
 {

@@ -16,7 +16,7 @@ pub const READ_FAULT: u8 = 3;
 /// The output could not be written. It hides the status that was due.
 pub const WRITE_FAULT: u8 = 4;
 
-/// Memory was wanting.
+/// There was no memory.
 pub const NO_MEMORY: u8 = 5;
 
 /// The words are no command.

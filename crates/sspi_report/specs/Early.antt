@@ -18,7 +18,7 @@ result_name AccessDenied = codes "denied"
 abbrev pub heard_line : EarlyUserAuthResult → EarlyUserAuthResult → List ℕ
 heard_line told heard = line (codes "early told=" ++ result_name told ++ codes " heard=" ++ result_name heard)
 
--- none where the delegation came to no end, where the policy failed, and where memory was wanting
+-- none where the delegation came to no end, where the policy failed, and where there was no memory
 abbrev pub early_line : Result Early EarlyError → Option (List ℕ)
 early_line (Ok early) = Some (heard_line early.told early.heard)
 early_line (Err (Read kind)) = Some (line (codes "early read " ++ fault_name kind))

@@ -38,7 +38,7 @@ read_text end kind = codes "read " ++ end_name end ++ codes " " ++ fault_name ki
 abbrev pub write_text : End → List ℕ
 write_text end = codes "write " ++ end_name end
 
--- the line of an error; none where memory was wanting
+-- the line of an error; none where there was no memory
 abbrev pub error_line : DelegateError → Option (List ℕ)
 error_line (errors.Client error) = Some (line (codes "client " ++ refusal_text error))
 error_line (errors.Server error) = Some (line (codes "server " ++ refusal_text error))

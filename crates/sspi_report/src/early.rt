@@ -12,8 +12,8 @@ use std::alloc::{AllocError, Global};
 /// What stands behind the report of a delegation, in UTF-8: the lines of the entries that came behind it, the first entry first, and
 /// the line of the early result.
 ///
-/// Each line ends with LF. There is nothing where the delegation came to no end, where the policy failed or where memory was wanting.
-/// Fails only for want of memory.
+/// Each line ends with LF. There is nothing where the delegation came to no end, where the policy failed or where there was no memory.
+/// Fails only when out of memory.
 pub fn early_report(
     alloc: Global,
     entries: &[Carried],

@@ -12,7 +12,7 @@ use sspi_names::AuthIdentity;
 use sspi_types::Error;
 use std::alloc::{AllocError, Global};
 
-/// The line of an outcome; none where memory was wanting.
+/// The line of an outcome; none where there was no memory.
 pub(crate) fn outcome_line(
     alloc: Global,
     outcome: &Result<Delegation, DelegateError>,

@@ -16,7 +16,7 @@ use std::alloc::{AllocError, Global};
 /// The report of a play, in UTF-8: a line for each message that a turn made and that is not too long to be written, the first
 /// turn first, and then one line of how the ends stand.
 ///
-/// Each line ends with LF. Fails only for want of memory.
+/// Each line ends with LF. Fails only when out of memory.
 #[tactic(auto, unfolding(crate::specs::Play::play_text))]
 pub fn play_report(alloc: Global, turns: &[Turn], played: &Played) -> Result<Vec<u8>, AllocError>
     ensures { IfOk result (λ text. text.items ≡ play_text turns.now played.now) }

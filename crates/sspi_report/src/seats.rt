@@ -10,7 +10,7 @@ use sspi_seats::{Seat, SeatOutcome};
 use std::alloc::{AllocError, Global};
 
 /// The report of a table in UTF-8: for each seat, in their order, `session`, its number from 0, and what it came to, as the last line of a
-/// delegation's report says it. Each line ends with LF. Fails only for want of memory.
+/// delegation's report says it. Each line ends with LF. Fails only when out of memory.
 pub fn seats_report<N, K, C, D>(
     alloc: Global,
     seats: &[Seat<N, K, C, D>],
@@ -37,7 +37,7 @@ fn push_seat(
     text.push_str(&line)
 }
 
-/// The line of a session, which ends with LF. Fails only for want of memory.
+/// The line of a session, which ends with LF. Fails only when out of memory.
 pub fn seat_line(alloc: Global, session: usize, outcome: &SeatOutcome) -> Result<String, AllocError>
     ensures { IfOk result (λ text. string_bytes text ≡ seat_line session outcome.now) }
 {

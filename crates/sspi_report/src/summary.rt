@@ -6,7 +6,7 @@ ghost use Rattle.sspi_report.specs.Summary.{count_line, is_of, is_same, place, s
 use sspi_delegate::{DelegateError, Delegation};
 use std::alloc::{AllocError, Global};
 
-/// What exchanges come to, as a summary counts them. Want of memory is of no kind.
+/// What exchanges come to, as a summary counts them. Out of memory is of no kind.
 #[derive(Clone, Copy, Debug)]
 pub enum Kind {
     Ok,
@@ -82,7 +82,7 @@ impl Kind {
 // Room for nine lines with numbers of a few digits.
 const USUAL_LENGTH: usize = 128;
 
-/// The summary as a text of nine lines, each a name, a space and a number. Each ends with LF. Fails only for want of memory.
+/// The summary as a text of nine lines, each a name, a space and a number. Each ends with LF. Fails only when out of memory.
 pub fn summary_text(alloc: Global, summary: Summary) -> Result<String, AllocError>
     ensures { IfOk result (λ text. string_bytes text ≡ summary_text summary) }
 {

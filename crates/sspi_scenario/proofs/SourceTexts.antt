@@ -53,7 +53,7 @@ pub reads_to_end : (limit : ℕ) (left before after : Option (List ℕ)) (text :
 reads_to_end limit left before after text n into read last none end short =
     reads_all limit left after text (consumes_nothing left before after text.items n into read last none) end short
 
--- so much was taken, and so much more that came into the front of a longer room
+-- so much was taken, and so much more that came into the prefix of a longer room
 pub consumes_front : (a b c : Option (List ℕ)) (x : List ℕ) (n : ℕ) (into rest : List ℕ) →
     Consumes a b x → Consumes b c (take n into) → n ≤ length into → Consumes a c (x ++ take n (into ++ rest))
 consumes_front a b c x n into rest first then fits = rw take-append-le (consumes_on a b c x (take n into) first then)

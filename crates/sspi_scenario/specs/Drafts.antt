@@ -39,7 +39,7 @@ pub record AsksMemory (purpose : Purpose) (draft : Draft) (line : List ℕ) : Ty
   pub named : key_for purpose (before_space line) ≡ Some key
   pub free : is_excluded draft.seen key ≡ false
 
--- the line is taken exactly so; a fault exactly where it is at fault; memory is wanting only where it asks for some
+-- the line is taken exactly so; a fault exactly where it is at fault; there is no memory only where it asks for some
 abbrev pub Takes : Purpose → Draft → Draft → List ℕ → Result (Unit {0}) LineError → Type 0
 Takes purpose old new text (Ok done) = with_line purpose old text ≡ Some new
 Takes purpose old new text (Err line.Fault) = with_line purpose old text ≡ None
@@ -49,7 +49,7 @@ Takes purpose old new text (Err line.InsufficientMemory) = AsksMemory purpose ol
 abbrev pub draft_completed : Purpose → Draft → Option Scenario
 draft_completed purpose draft = completed_by purpose draft.seen draft.values
 
--- exactly that scenario; line 0 exactly where there is none; want of memory is free
+-- exactly that scenario; line 0 exactly where there is none; out of memory is free
 abbrev pub Completes : Result Scenario ScenarioError → Option Scenario → Type 0
 Completes (Ok scenario) found = found ≡ Some scenario
 Completes (Err (error.Line number)) found = (found ≡ None) × (number ≡ 0)

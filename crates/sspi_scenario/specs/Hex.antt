@@ -4,7 +4,7 @@ use Rattle.std.specs.Option.{option_map}
 use Rattle.std.specs.Result.{result_ok}
 use Rattle.hex.specs.Hex.{decode_of, decode_sized}
 
--- the bytes that a text of hex digits spells; an odd number of digits spells none
+-- the bytes that a text of hex digits encodes; an odd number of digits encodes none
 unfoldable pub hex_of : List ℕ → Option (List ℕ)
 hex_of text = result_ok (decode_of text)
 

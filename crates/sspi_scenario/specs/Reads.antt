@@ -11,7 +11,7 @@ use Rattle.sspi_scenario.specs.declared.values.Values.{Values}
 use Rattle.hex.specs.declared.error.FromHexError.{FromHexError}
 use Rattle.hex.specs.declared.error.FromHexError.TheVariants.{OutOfMemory}
 
--- exactly the value that there is; a fault exactly where there is none; want of memory is free
+-- exactly the value that there is; a fault exactly where there is none; out of memory is free
 abbrev pub Reads : {T : Type 0} → Result T LineError → Option T → Type 0
 Reads (Ok value) found = found ≡ Some value
 Reads (Err Fault) found = found ≡ None

@@ -106,7 +106,7 @@ unfoldable pub scenario_of : Purpose → List ℕ → Result Scenario ℕ
 scenario_of purpose text =
     if is_readable text then scenario_of_lines purpose (lines_from purpose 1 (lines_of text)) else Err 0
 
--- a text gives its scenario, or is refused at the line that its scenario names; want of memory is free
+-- a text gives its scenario, or is refused at the line that its scenario names; out of memory is free
 abbrev pub Parses : Purpose → List ℕ → Result Scenario ScenarioError → Type 0
 Parses purpose text (Ok scenario) = scenario_of purpose text ≡ Ok scenario
 Parses purpose text (Err (error.Line number)) = scenario_of purpose text ≡ Err number

@@ -8,14 +8,14 @@ use crate::error::LineError;
 use sspi_types::Bytes;
 use std::alloc::Global;
 
-/// The bytes that a text of hex digits spells, in either case.
+/// The bytes that a text of hex digits encodes, in either case.
 pub fn bytes(alloc: Global, text: &str) -> Result<Bytes, LineError>
     ensures { Reads result (hex_of text.now) }
 {
     Ok(Bytes::from_vec(hex::decode(alloc, text)?))
 }
 
-/// The one byte that two hex digits spell.
+/// The one byte that two hex digits encode.
 pub fn byte(text: &str) -> Option<u8>
     ensures { result ≡ hex_byte_of text.now }
 {
@@ -26,7 +26,7 @@ pub fn byte(text: &str) -> Option<u8>
     }
 }
 
-/// The 32 bytes that 64 hex digits spell.
+/// The 32 bytes that 64 hex digits encode.
 pub fn bytes_32(text: &str) -> Option<[u8; 32]>
     ensures { result ≡ hex_of_size 32 text.now }
 {
@@ -37,7 +37,7 @@ pub fn bytes_32(text: &str) -> Option<[u8; 32]>
     }
 }
 
-/// The eight bytes that 16 hex digits spell.
+/// The eight bytes that 16 hex digits encode.
 pub fn bytes_8(text: &str) -> Option<[u8; 8]>
     ensures { result ≡ hex_of_size 8 text.now }
 {

@@ -17,7 +17,7 @@ use std::alloc::{AllocError, Global};
 const KEY_LENGTH: usize = 40;
 
 /// The scenario of a number: the user, the password and the key are its own; how the ends authenticate, their versions and what
-/// stands in their way go by it with a period of eight. Fails only for want of memory.
+/// stands in their way go by it with a period of eight. Fails only when out of memory.
 pub fn numbered(alloc: Global, number: u32) -> Result<Scenario, AllocError>
     ensures scenario { IfOk result (λ scenario. scenario ≡ numbered number) }
     ensures holds { IfOk result HoldsValues }

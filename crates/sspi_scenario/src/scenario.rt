@@ -28,7 +28,7 @@ pub enum Mode {
     Negotiate,
 }
 
-/// A mechanism that an end of a negotiation has in hand before it hears from its peer.
+/// A mechanism that an end of a negotiation has selected before it hears from its peer.
 #[derive(Clone, Copy, Debug, PartialEq, Eq)]
 pub enum Package {
     Ntlm,
@@ -71,7 +71,7 @@ pub struct Scenario {
     pub kdc_user: Rows<Text>,
     /// How the KDC answers its first calls; all later ones as usual.
     pub kdc_answer: Rows<Scripted>,
-    /// The ticket of the server's Kerberos, by which it authenticates user to user.
+    /// The ticket of the server's Kerberos, by which it authenticates user-to-user.
     pub ticket: Option<[u8; 32]>,
     /// The table of the server's proxy.
     pub account: Rows<AuthIdentity>,
@@ -109,7 +109,7 @@ impl From<AllocError> for ScenarioError {
 }
 
 impl Scenario {
-    /// The scenario of a text, which is UTF-8 of at most `TEXT_LIMIT` bytes. Want of memory apart, `Line` comes exactly where the
+    /// The scenario of a text, which is UTF-8 of at most `TEXT_LIMIT` bytes. Out of memory apart, `Line` comes exactly where the
     /// text is no scenario for this purpose, with the number of its first faulty line; 0 for a text that is too long or is not UTF-8,
     /// and for one without a faulty line that lacks a key. A line with a key of another purpose is faulty.
     pub fn parse(alloc: Global, purpose: Purpose, text: &[u8]) -> Result<Scenario, ScenarioError>

@@ -28,7 +28,7 @@ use Rattle.sspi_seats.specs.declared.seat.SeatOutcome.TheVariants as seats
 use Rattle.sspi_seats.specs.Guest.{HasTurned}
 use Rattle.sspi_seats.specs.Messages.{AreServedButLast}
 
--- the newest turn's message is spelled, or it is too long; there may be none
+-- the newest turn's message is encoded, or it is too long; there may be none
 abbrev pub SpeaksAs : {E : Type 0} → Option TsRequest → Result (Option (List ℕ)) E → Type 0
 SpeaksAs None said = said ≡ Ok None
 SpeaksAs (Some message) said = Spells message said

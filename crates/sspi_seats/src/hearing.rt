@@ -66,7 +66,7 @@ fn read(alloc: Global, text: &[u8]) -> Result<Heard, AllocError>
     }
 }
 
-/// A client's refusal. Fails where it is want of memory.
+/// A client's refusal. Fails where it is out of memory.
 pub(crate) fn refusal(error: Error) -> Result<SeatOutcome, AllocError>
     ensures { MatchResult result (λ outcome. IsRefusal error outcome) (λ _. error.error_type ≡ ErrorKind.InsufficientMemory) }
 {

@@ -107,7 +107,7 @@ impl<N: Mechanism, K: Mechanism, C: CredentialsProxy, D: Kdc + Drop> Table<N, K,
     /// makes a turn, and its session is served, one after the other. Then the sessions are closed, and the seats handed out in the
     /// order in which their clients joined.
     ///
-    /// Fails for want of memory alone, also where it came up in a turn, in a call on the desk or in a KDC. The clients, the KDCs and the
+    /// Fails only when out of memory, also where it came up in a turn, in a call on the desk or in a KDC. The clients, the KDCs and the
     /// servers are dropped then, whatever they did before.
     pub fn finish(self, limit: u32) -> Result<Rows<Seat<N, K, C, D>>, AllocError>
         ensures { let c = either N.REQUESTS N.meaning K.meaning in let k = kdc_calls D.told D.asked D.faults in

@@ -29,7 +29,7 @@ read_refused view after ReadFault read given none = absurd given
 read_refused view after WriteFault read given none = absurd given
 read_refused view after InsufficientMemory read given none = absurd none
 
--- the parts were read, and memory was wanting for the token
+-- the parts were read, and there was no memory for the token
 pub read_unkept : {T : Type 0} (token : T) (after : List ℕ) (read : Read T) → read ≡ Ok (token, after) →
     ReadsAs (value_of read) (Err memory_error)
 read_unkept token after read given = is_wanting (value_of read) token (ap value_of given)

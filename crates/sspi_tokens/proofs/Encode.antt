@@ -26,7 +26,7 @@ pub written : (tag : ℕ) (content : List ℕ) (bytes : Vec ℕ) → length cont
     WritesAs (whole tag content) (Ok bytes)
 written tag content bytes le is = subst (λ text. WritesAs text (Ok bytes)) (sym (whole_some tag content le)) is
 
--- a spelling that is there
+-- a encoding that is there
 pub whole_is : (tag : ℕ) (content text : List ℕ) → whole tag content ≡ Some text → (length content ≤ max_content)
     × (text ≡ element tag content)
 unfolding whole

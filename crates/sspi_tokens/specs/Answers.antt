@@ -21,7 +21,7 @@ ReadsAs (Some token) (Err error) = error ≡ memory_error
 ReadsAs None (Ok x) = ⊥
 ReadsAs None (Err error) = error ≡ malformed
 
--- the spelling, for which memory may be wanting; where there is none, `too_long`
+-- the encoding, for which memory may be wanting; where there is none, `too_long`
 abbrev pub WritesAs : Option (List ℕ) → Result (Vec ℕ) Error → Type 0
 WritesAs (Some text) (Ok bytes) = bytes.items ≡ text
 WritesAs (Some text) (Err error) = error ≡ memory_error

@@ -1,4 +1,4 @@
--- The shortest spelling of the tokens. There is none where a length passes the limit.
+-- The shortest encoding of the tokens. There is none where a length passes the limit.
 use Rattle.std.specs.Prelude.{ℕ, nat_le, List, [], ◌∷◌, ◌++◌, length, Option, None, Some, if◌then◌else◌}
 use Rattle.std.specs.Option.{option_map}
 use Rattle.sspi_ber.specs.Forms.{max_content}
@@ -9,7 +9,7 @@ use Rattle.sspi_tokens.specs.declared.neg_result.NegResult.TheVariants.{AcceptCo
 use Rattle.sspi_tokens.specs.declared.neg_token_init.NegTokenInit.{NegTokenInit}
 use Rattle.sspi_tokens.specs.declared.neg_token_targ.NegTokenTarg.{NegTokenTarg}
 
--- a tag around a spelled value, or nothing
+-- a tag around a encoded value, or nothing
 unfoldable pub field : ℕ → Option (List ℕ) → List ℕ
 field tag None = []
 field tag (Some inner) = element tag inner

@@ -21,7 +21,7 @@ pub fn targ_is_grammar()
     ensures { (bytes : List ℕ) (token : NegTokenTarg) → (targ_of bytes ≡ Some token) ↔ Begins IsTarg bytes token }
 {}
 
-/// A token that was spelled reads back, whatever follows it.
+/// A token that was encoded reads back, whatever follows it.
 pub fn init_reads_back()
     ensures { (token : NegTokenInit) (text more : List ℕ) → spelled_init token ≡ Some text → init_of (text ++ more) ≡ Some token }
 {}
@@ -31,7 +31,7 @@ pub fn targ_reads_back()
     ensures { (token : NegTokenTarg) (text more : List ℕ) → spelled_targ token ≡ Some text → targ_of (text ++ more) ≡ Some token }
 {}
 
-/// Two mechanism lists with the same spelling are equal, so a MIC over the spelling is one over the list.
+/// Two mechanism lists with the same encoding are equal, so a MIC over the encoding is one over the list.
 pub fn list_is_known_by_spelling()
     ensures { (list other : List (List ℕ)) (text : List ℕ) → spelled_list list ≡ Some text → spelled_list other ≡ Some text → list ≡ other }
 {}

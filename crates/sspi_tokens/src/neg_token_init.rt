@@ -36,7 +36,7 @@ impl NegTokenInit {
     ///
     /// `InvalidToken` with the reason `TokenForm` exactly where the bytes begin with no such token: where one is cut off or
     /// another tag stands in its place, and where its mechanism is another than SPNEGO. Memory is taken only once the whole
-    /// token was found there, so want of memory never comes in place of that refusal.
+    /// token was found there, so out of memory never comes in place of that refusal.
     #[tactic(auto, using(crate::proofs::Decode::read_refused, crate::proofs::Decode::read_unkept, crate::proofs::Decode::read_kept))]
     pub fn decode(alloc: Global, bytes: &[u8]) -> Result<NegTokenInit, Error>
         ensures { ReadsAs (init_of bytes.now) result }
@@ -47,7 +47,7 @@ impl NegTokenInit {
         }
     }
 
-    /// The token in its shortest spelling.
+    /// The token in its shortest encoding.
     ///
     /// `InternalError` with the reason `TooLong` exactly where a length passes the limit; that takes no memory.
     #[tactic(auto, using(crate::proofs::Encode::refused, crate::proofs::Encode::unwritten, crate::proofs::Encode::written))]

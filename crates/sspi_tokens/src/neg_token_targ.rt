@@ -28,7 +28,7 @@ pub struct NegTokenTarg {
     pub supported_mech: Option<Oid>,
     /// The next token of the mechanism (`responseToken`), as its octets.
     pub response_token: Option<Bytes>,
-    /// The MIC over the client's list, as `encode_mech_types` spells it (`mechListMIC`), as its octets.
+    /// The MIC over the client's list, as `encode_mech_types` encodes it (`mechListMIC`), as its octets.
     pub mech_list_mic: Option<Bytes>,
 }
 
@@ -38,7 +38,7 @@ impl NegTokenTarg {
     /// A field that is absent, or whose place another field has, is `None`, and whatever is left over in an element is ignored.
     ///
     /// `InvalidToken` with the reason `TokenForm` exactly where the bytes begin with no such token. Memory is taken only once the
-    /// whole token was found there, so want of memory never comes in place of that refusal.
+    /// whole token was found there, so out of memory never comes in place of that refusal.
     #[tactic(auto, using(crate::proofs::Decode::read_refused, crate::proofs::Decode::read_unkept, crate::proofs::Decode::read_kept))]
     pub fn decode(alloc: Global, bytes: &[u8]) -> Result<NegTokenTarg, Error>
         ensures { ReadsAs (targ_of bytes.now) result }
@@ -49,7 +49,7 @@ impl NegTokenTarg {
         }
     }
 
-    /// The token in its shortest spelling.
+    /// The token in its shortest encoding.
     ///
     /// `InternalError` with the reason `TooLong` exactly where a length passes the limit; that takes no memory.
     #[tactic(auto, using(crate::proofs::Encode::refused, crate::proofs::Encode::unwritten, crate::proofs::Encode::written))]

@@ -159,7 +159,7 @@ same_numbers (InNonce have) r octets = refl
 same_numbers Whole r octets = refl
 same_numbers Faulty r octets = refl
 
--- the octets of the field in hand, and a walk behind them
+-- the octets of the field selected, and a walk behind them
 pub content_on : (nonce : List ℕ) (left : ℕ) (place first : Place) (r : TsRequest) (body octets : List ℕ) (begun walked : Walk)
     (reader : TsReader)
     → octets ≡ take (length octets) body

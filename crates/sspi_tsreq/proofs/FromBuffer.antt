@@ -30,7 +30,7 @@ kept_answer bytes after r s h same =
     let t = request_takes bytes r after e in
     ((t.0, t.1), ap (λ (x : Read TsRequest). fault_of x) e)
 
--- what was read was copied, or memory was wanting for it
+-- what was read was copied, or there was no memory for it
 pub copied_answer : (copy : Result TsRequest WireKind) (bytes after : List ℕ) (s : TsRequest) → request_at bytes ≡ Ok (s, after)
     → IfOk copy (λ r. r ≡ s) → IfErr copy (λ kind. (kind ≡ InsufficientMemory) × HasOctets s) → IsAnswer bytes copy
 copied_answer (Ok r) bytes after s e same wanting = kept_answer bytes after r s e same

@@ -28,7 +28,7 @@ use Rattle.sspi_tsreq.proofs.CredsMatch.{whole_again}
 refused_at : {A : Type 0} (read : Read A) (fault : Fault) → read ≡ Err fault → spelled_or_malformed read ≡ Err malformed
 refused_at read fault e = ap spelled_or_malformed e
 
--- over a slice each fault is that of a structure that is not spelled
+-- over a slice each fault is that of a structure that is malformed
 pub refused : {X A : Type 0} (view : X → A) (after : List ℕ) (kind : WireKind) (read : Read A)
     → Gives view after (Err kind) read → NeedsNoMemory {X = X} (Err kind) → spelled_or_malformed read ≡ Err malformed
 refused view after UnexpectedEof read g m = refused_at read Ended g

@@ -103,7 +103,7 @@ pub ruleset writing = (wrote_then, front_then, front_more, wrote_nothing)
 
 pub ruleset sized_writing = (wrote_then, front_then, front_more, wrote_nothing, length-header, length-element)
 
--- ---- what fits is spelled
+-- ---- what fits is encoded
 
 module _ (domain user password : List ℕ) (size : ℕ) (capped : IsCapped size (body_size (length domain) (length user) (length password)))
   where

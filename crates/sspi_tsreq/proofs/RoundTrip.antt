@@ -1,4 +1,4 @@
--- The spelling of a value, with any bytes behind it, is read as that value; and what else the two laws of the grammar give.
+-- The encoding of a value, with any bytes behind it, is read as that value; and what else the two laws of the grammar give.
 use Rattle.std.proofs.Common.{◌≡◌, ℕ, ◌^◌, ◌<◌, ◌≤◌, Bool, true, false, cond, leb, List, [], ◌∷◌, ◌++◌, length, take, drop, Option}
 use Rattle.std.proofs.Common.{None, Some, refl, sym, ap, ◌∙◌, subst, append_assoc, arith}
 use Rattle.std.specs.Prelude.{IfSome, IsTrue}
@@ -110,7 +110,7 @@ nonce_is false (Some nonce) following absent long le other = absurd (let e = abs
 
 -- ---- the whole body
 
--- what a request must be whose fields are all spelled
+-- what a request must be whose fields are all encoded
 pub record IsCarried (r : TsRequest) : Type 0 where
   pub value : IsRequestValue r
   pub code : leb 3 r.version ≡ false → r.error_code ≡ None
@@ -265,7 +265,7 @@ one_request bytes r s k j a b =
     let same = both_are r s (drop k bytes) (drop j bytes) (sym (request_again bytes r k a) ∙ request_again bytes s j b) in
     (same.0, counts_agree bytes r s k j a b same.1)
 
--- no proper front of a spelling is read
+-- no proper prefix of a encoding is read
 pub no_front : (r s : TsRequest) (j k : ℕ) → IsRequestValue r → IsTrue (fits r) → j < length (spelled r) →
     IsRequest (take j (spelled r)) s k → ⊥
 no_front r s j k is fit lt t =

@@ -23,7 +23,7 @@ use Rattle.sspi_tsreq.proofs.CredsAre.{texts_cases, texts_answer, malformed_refu
 
 -- ---- the refusals that are reached before memory is taken
 
--- a refusal of another type is no want of memory
+-- a refusal of another type is no out of memory
 not_wanted : (refusal error : Error) → (refusal.error_type ≡ memory_error.error_type → ⊥) → refusal ≡ error → error ≡ memory_error → ⊥
 not_wanted refusal error differ same m = differ (ap (λ (x : Error). x.error_type) (same ∙ m))
 
@@ -53,7 +53,7 @@ texts_late texts =
       | inr (bad, e) ↦ late_by (texts_of texts) _ e refl
     ]
 
--- so want of memory comes late
+-- so out of memory comes late
 pub late_in : (body : List ℕ) (fields : Fields) (passwords : Passwords) → spelled_or_malformed (fields_at body) ≡ Ok fields →
     password_type fields.cred_type ≡ Ok tt
     → spelled_or_malformed (passwords_at fields.credentials) ≡ Ok passwords → IsLate (creds_in body)

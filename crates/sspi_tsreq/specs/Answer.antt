@@ -19,7 +19,7 @@ IsAnswer bytes (Err ReadFault) = ⊥
 IsAnswer bytes (Err WriteFault) = ⊥
 IsAnswer bytes (Err InsufficientMemory) = (r : TsRequest) × (count : ℕ) × IsRequest bytes r count × HasOctets r
 
--- this value, or want of memory
+-- this value, or out of memory
 abbrev pub IsUnlessMemory : {X : Type 0} → Result X WireKind → X → Type 0
 IsUnlessMemory (Ok x) value = x ≡ value
 IsUnlessMemory (Err UnexpectedEof) value = ⊥

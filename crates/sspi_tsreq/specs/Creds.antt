@@ -23,7 +23,7 @@ use Rattle.sspi_tsreq.specs.declared.mode.CredSspMode.TheVariants.{WithCredentia
 
 -- ---- the refusals
 
--- a structure is not spelled
+-- a structure is malformed
 abbrev pub malformed : Error
 malformed = record { error_type = InvalidToken; description = TokenForm; nstatus = None }
 
@@ -81,7 +81,7 @@ abbrev pub ◌and_then◌ : {A B : Type 0} → Result A Error → (A → Result 
 (Ok x) and_then next = next x
 (Err error) and_then next = Err error
 
--- the value, where it is spelled
+-- the value, where it is encoded
 abbrev pub spelled_or_malformed : {A : Type 0} → Read A → Result A Error
 spelled_or_malformed (Ok x) = Ok x.0
 spelled_or_malformed (Err fault) = Err malformed
@@ -147,7 +147,7 @@ creds_body domain user password = password_type_field ++ wrapped_octets 0xA1 (el
 abbrev pub spelled_if_fits : List ℕ → Result (List ℕ) Error
 spelled_if_fits body = if nat_le (length body) max_content then Ok (element 0x30 body) else Err too_long
 
--- the shortest spelling of buffers
+-- the shortest encoding of buffers
 unfoldable pub buffers_text : AuthIdentityBuffers → Result (List ℕ) Error
 buffers_text b = spelled_if_fits (creds_body (bytes_le b.domain) (bytes_le b.user) (bytes_le b.password.value))
 

@@ -11,7 +11,7 @@ use Rattle.sspi_names.specs.declared.credentials.CredentialsBuffers.TheVariants 
 use Rattle.sspi_tsreq.specs.Creds.{creds_of, keytab_refused, malformed, smart_card, unknown_type}
 use Rattle.sspi_tsreq.specs.CredsGrammar.{StandsBefore}
 
--- this answer, or want of memory
+-- this answer, or out of memory
 abbrev pub IsOrMemory : {X A : Type 0} → (X → A) → Result X Error → Result A Error → Type 0
 IsOrMemory view (Ok x) answer = answer ≡ Ok (view x)
 IsOrMemory view (Err error) answer = (answer ≡ Err error) ⊎ (error ≡ memory_error)
@@ -22,7 +22,7 @@ RefusesKeytab (buffered.AuthIdentity buffers) result = Unit {0}
 RefusesKeytab (buffered.Keytab identity) result = result ≡ Err keytab_refused
 
 -- Of a source that tells its bytes: the buffers that they stand for, and then exactly what stands behind them is left; or the
--- refusal that they have, want of memory, or a fault of the source.
+-- refusal that they have, out of memory, or a fault of the source.
 abbrev pub ReadsCreds : Option (List ℕ) → Option (List ℕ) → Result CredentialsBuffers Error → Type 0
 ReadsCreds None after result = Unit {0}
 ReadsCreds (Some text) after (Ok (buffered.AuthIdentity buffers)) = (rest : List ℕ) × StandsBefore text buffers rest × (after ≡ Some rest)
@@ -36,7 +36,7 @@ CredsCause before now (Err error) =
     (error.error_type ≡ InternalError → Rose before now) × (error.error_type ≢ InternalError → now ≡ before)
 
 -- The refusals that reading may answer: a structure that is not there, a type without meaning, a smart card, a text that is
--- not UTF-16, want of memory, and a fault of the source. None has a status.
+-- not UTF-16, out of memory, and a fault of the source. None has a status.
 abbrev pub IsCredsRefusal : Error → Type 0
 IsCredsRefusal error =
     (error ≡ malformed) ⊎ (error ≡ unknown_type) ⊎ (error ≡ smart_card) ⊎ (error ≡ bad_text) ⊎ (error ≡ memory_error) ⊎ (error ≡ io_error)

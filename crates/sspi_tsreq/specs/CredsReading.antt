@@ -19,7 +19,7 @@ abbrev pub IsLate : Result CredentialsBuffers Error → Type 0
 IsLate (Ok buffers) = Unit {0}
 IsLate (Err error) = error ≡ bad_text
 
--- what a fault of reading is to a caller: what is not spelled is malformed, all else a fault of the outside
+-- what a fault of reading is to a caller: what is malformed is malformed, all else a fault of the outside
 abbrev pub refusal_by : WireKind → Error
 refusal_by UnexpectedEof = malformed
 refusal_by InvalidData = malformed

@@ -26,6 +26,6 @@ early_result_at bytes = do
   number ← bytes_at 4 bytes
   result_or_invalid (result_of (little_endian number.0)) number.1
 
--- how a result is spelled
+-- how a result is encoded
 abbrev pub early_result_text : EarlyUserAuthResult → List ℕ
 early_result_text result = number_of result ∷ 0 ∷ 0 ∷ 0 ∷ []

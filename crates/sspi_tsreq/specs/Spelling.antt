@@ -1,4 +1,4 @@
--- How a TSRequest is written: each field in its shortest spelling (MS-CSSP 2.2.1).
+-- How a TSRequest is written: each field in its shortest encoding (MS-CSSP 2.2.1).
 use Rattle.std.specs.Prelude.{ℕ, ◌==◌, nat_le, Bool, not, ◌&&◌, List, [], ◌++◌, length, Option, None, Some, if◌then◌else◌}
 use Rattle.sspi_types.specs.declared.nstatus.NStatusCode.{NStatusCode}
 use Rattle.sspi_ber.specs.Forms.{max_content}

@@ -19,11 +19,11 @@ use std::alloc::Global;
 
 /// Reads TSCredentials (MS-CSSP 2.2.1.2) with a password. Bytes behind them stay in the source.
 ///
-/// `InvalidToken` comes for a structure that is not spelled and for a credType without content; then, by its first content
+/// `InvalidToken` comes for a structure that is malformed and for a credType without content; then, by its first content
 /// byte, `UnsupportedFunction` for a smart card (2) and `InvalidToken` for another type than a password (1); then
-/// `InvalidToken` for password credentials that are not spelled; and `InvalidParameter` for a text with an odd number of bytes
+/// `InvalidToken` for password credentials that are malformed; and `InvalidParameter` for a text with an odd number of bytes
 /// or an unpaired surrogate. `InternalError` comes only where the source failed. The content is read into memory once its
-/// header was read, so want of memory may come in place of any refusal but that of the header.
+/// header was read, so out of memory may come in place of any refusal but that of the header.
 #[tactic(auto, using(crate::proofs::Unwanted::header_unwanted, crate::proofs::Unwanted::header_begins))]
 pub fn read_ts_credentials<S: Source>(
     alloc: Global,
@@ -49,7 +49,7 @@ pub fn read_ts_credentials<S: Source>(
 }
 
 /// The same of bytes in memory, which are read where they stand. Memory is taken for the texts alone, once all of them are known to
-/// be texts. So want of memory comes only where the bytes stand for credentials, and never in place of another refusal.
+/// be texts. So out of memory comes only where the bytes stand for credentials, and never in place of another refusal.
 #[tactic(auto, using(crate::proofs::Unwanted::late_has), unfolding(crate::specs::Creds::creds_of))]
 pub fn read_ts_credentials_from_slice(
     alloc: Global,

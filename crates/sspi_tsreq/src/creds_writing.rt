@@ -31,11 +31,11 @@ struct Texts<'a> {
     password: &'a [u8],
 }
 
-/// Writes TSCredentials (MS-CSSP 2.2.1.2) with a password, in their shortest spelling; without the credentials, in
+/// Writes TSCredentials (MS-CSSP 2.2.1.2) with a password, in their shortest encoding; without the credentials, in
 /// `CredentialLess`, with three empty texts.
 ///
 /// `UnsupportedPreAuth` comes exactly for a keytab, in both modes, and then no memory is taken; `InternalError` exactly where the
-/// content passes `sspi_ber::MAX_CONTENT`, 1048576 octets, which is measured before the texts are spelled. So want of memory comes only
+/// content passes `sspi_ber::MAX_CONTENT`, 1048576 octets, which is measured before the texts are encoded. So out of memory comes only
 /// where there is a text to be written.
 pub fn write_ts_credentials(
     alloc: Global,

@@ -58,7 +58,7 @@ impl EarlyUserAuthResult {
         }
     }
 
-    /// Writes the four bytes. `WriteFault` only where the sink failed; after it, and for want of memory, at most three of them
+    /// Writes the four bytes. `WriteFault` only where the sink failed; after it, and when out of memory, at most three of them
     /// were written, from the first on.
     pub fn to_buffer<W: Sink>(self, sink: &mut W) -> Result<(), WireKind>
         ensures wrote { Writes (W.written sink.old) (W.written sink.new) result (early_result_text self) }

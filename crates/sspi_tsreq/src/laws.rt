@@ -9,7 +9,7 @@ ghost use Rattle.sspi_tsreq.specs.Settled.{IsNoTag, IsSettled};
 ghost use Rattle.sspi_tsreq.specs.Spelling.{carried, fits, spelled};
 ghost use Rattle.sspi_tsreq.specs.declared.request.TsRequest.{TsRequest};
 
-/// What begins with the spelling of a request that fits is read as what is carried of it, and exactly the spelling is taken,
+/// What begins with the encoding of a request that fits is read as what is carried of it, and exactly the encoding is taken,
 /// whatever follows.
 #[tactic(auto, using(crate::proofs::RoundTrip::spelled_again))]
 pub fn spelled_is_read()
@@ -23,7 +23,7 @@ pub fn encoded_is_read()
     ensures { (r : TsRequest) → IsRequestValue r → IsTrue (fits r) → IsRequest (spelled r) (carried r) (length (spelled r)) }
 {}
 
-/// What is read of a spelling is spelled the same again.
+/// What is read of a encoding is encoded the same again.
 #[tactic(auto, using(crate::proofs::RoundTrip::carried_once, crate::proofs::RoundTrip::spelled_once))]
 pub fn carried_is_spelled_again()
     ensures carried { (r : TsRequest) → carried (carried r) ≡ carried r }
@@ -47,7 +47,7 @@ pub fn cut_request_has_ended()
     ensures { (bytes : List ℕ) (r : TsRequest) (count j : ℕ) → IsRequest bytes r count → j < count → fault (take j bytes) ≡ Some Ended }
 {}
 
-/// No proper front of a spelling is read.
+/// No proper prefix of a encoding is read.
 pub fn no_front_is_read()
     ensures { (r s : TsRequest) (j k : ℕ) → IsRequestValue r → IsTrue (fits r) → j < length (spelled r)
         → IsRequest (take j (spelled r)) s k → ⊥ }

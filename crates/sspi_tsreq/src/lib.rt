@@ -2,9 +2,9 @@
 //! server may send behind them (MS-RDPBCGR 2.2.10.2).
 //!
 //! `TsRequest::from_buffer` reads exactly the grammar of `specs/Grammar.antt`: it answers the request that the bytes begin
-//! with, or their first fault from the left. `encode_ts_request` writes exactly the shortest spelling of what the version
+//! with, or their first fault from the left. `encode_ts_request` writes exactly the shortest encoding of what the version
 //! carries, or refuses what is too long before a byte is written. `laws.rt` says what both give together: what was written is
-//! read again whatever follows, no proper front of it is read, and what the two faults mean.
+//! read again whatever follows, no proper prefix of it is read, and what the two faults mean.
 //! `write_ts_credentials` and `read_ts_credentials` do the same for the credentials that are delegated (`specs/CredsGrammar.antt`,
 //! `specs/Creds.antt`, `creds_laws.rt`), and `EarlyUserAuthResult` is the server's four bytes.
 //!
@@ -15,7 +15,7 @@
 //!
 //! `request.rt` has the message with its calls, `reading.rt` and `writing.rt` what stands behind them, one function for each
 //! field and for what follows it. What is in one piece is read without memory; `parts.rt` copies what was found whole.
-//! `specs/Reading.antt` has the same chain on lists, and `specs/Spelling.antt` the spelling.
+//! `specs/Reading.antt` has the same chain on lists, and `specs/Spelling.antt` the encoding.
 #![tactic(auto)]
 
 mod block;

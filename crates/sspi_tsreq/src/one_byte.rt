@@ -14,7 +14,7 @@ use crate::walk::put_byte;
 use sspi_types::{Bytes, NStatusCode};
 use std::alloc::{AllocError, Global};
 
-/// One byte behind those that the field has; where memory is wanting the field stays as it was.
+/// One byte behind those that the field has; where there is no memory the field stays as it was.
 fn push_octet(alloc: Global, field: &mut Option<Bytes>, byte: u8) -> Result<(), AllocError>
     ensures ok { OnOk result (field.new ≡ Some (octets_of field.old ++ byte ∷ [])) }
     ensures err { OnErr result (field.new ≡ field.old) }

@@ -54,7 +54,7 @@ fn settle(field: &mut Option<Bytes>, octets: Slot<'_>, copy: Option<Bytes>)
     }
 }
 
-/// The bytes behind those that the field has; where memory is wanting the field stays as it was.
+/// The bytes behind those that the field has; where there is no memory the field stays as it was.
 fn lengthen(alloc: Global, field: &mut Option<Bytes>, octets: &[u8]) -> Result<(), AllocError>
     ensures ok { OnOk result (field.new ≡ Some (octets_of field.old ++ octets.now)) }
     ensures err { OnErr result (field.new ≡ field.old) }

@@ -95,8 +95,8 @@ impl TsRequest {
     /// The request that `buffer` begins with; bytes after it are ignored, and so are bytes after its last field.
     ///
     /// `UnexpectedEof` where the outer header is bad, the buffer is shorter than header and content, or the content ends
-    /// inside an element; `InvalidData` where the first element that is not spelled as it must be is refused for another
-    /// reason. Lengths of tags are judged by their form alone. Want of memory is told only for the OCTET STRINGs of a request
+    /// inside an element; `InvalidData` where the first element that is malformed is refused for another
+    /// reason. Lengths of tags are judged by their form alone. Out of memory is told only for the OCTET STRINGs of a request
     /// that was found whole, so it never comes in place of a fault, nor for a request that has none.
     pub fn from_buffer(alloc: Global, buffer: &[u8]) -> Result<TsRequest, WireKind>
         ensures answer { IsAnswer buffer.now result }
@@ -123,8 +123,8 @@ impl TsRequest {
     }
 
     /// Writes the request. The code is left out below version 3 and at version 5, the nonce below version 5. `InvalidData`
-    /// exactly where the content passes the limit, and then nothing is written; after a `WriteFault` or want of memory a
-    /// proper front of the spelling was written, never all of it.
+    /// exactly where the content passes the limit, and then nothing is written; after a `WriteFault` or out of memory a
+    /// proper prefix of the encoding was written, never all of it.
     #[tactic(auto, using(crate::proofs::Capped::capped_fits, crate::proofs::Capped::capped_past))]
     pub fn encode_ts_request<W: Sink>(&self, sink: &mut W) -> Result<(), WireKind>
         ensures wrote { WritesIf (fits self.now) W.written sink.old sink.new result (spelled self.now) }

@@ -133,6 +133,6 @@ error_text error = error_kind_name error.error_type ++ codes ": " ++ reason_text
 abbrev pub internal_error : Reason → Error
 internal_error reason = record { error_type = InternalError; description = reason; nstatus = None }
 
--- what every call answers for want of memory
+-- what every call answers when out of memory
 abbrev pub memory_error : Error
 memory_error = record { error_type = InsufficientMemory; description = Memory; nstatus = None }

@@ -93,7 +93,7 @@ impl Bytes {
         self.content.is_empty()
     }
 
-    /// Appends `piece`, or leaves the list as it was where memory is wanting.
+    /// Appends `piece`, or leaves the list as it was where there is no memory.
     pub fn push_slice(&mut self, piece: &[u8]) -> Result<(), AllocError>
         ensures ok { OnOk result (self.new ≡ self.old ++ piece.now) }
         ensures err { OnErr result (self.new ≡ self.old) }
@@ -101,7 +101,7 @@ impl Bytes {
         self.content.extend_from_slice(piece)
     }
 
-    /// Appends one byte, or leaves the list as it was where memory is wanting. Room grows by doubling, from 8 bytes on.
+    /// Appends one byte, or leaves the list as it was where there is no memory. Room grows by doubling, from 8 bytes on.
     pub fn push(&mut self, byte: u8) -> Result<(), AllocError>
         ensures ok { OnOk result (self.new ≡ self.old ++ byte ∷ []) }
         ensures err { OnErr result (self.new ≡ self.old) }

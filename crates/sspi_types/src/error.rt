@@ -71,7 +71,7 @@ impl fmt::Display for Error {
 
 impl std::error::Error for Error {}
 
-/// Want of memory is `InsufficientMemory`, wherever it comes.
+/// Out of memory is `InsufficientMemory`, wherever it comes.
 impl From<AllocError> for Error {
     ghost use Rattle.sspi_types.specs.Errors.{memory_error};
 

@@ -8,7 +8,7 @@
 //! Promised of every table: the number, name and text of each value are those of its table in `specs/`,
 //! where each table stands once; a number outside it is `None`. What follows from the tables is in `laws`.
 //! `Bytes`, `Text` and `Rows` are a `Vec<u8>`, a `String` and a vector that contracts see as lists; copies are
-//! `clone(alloc)` calls that give an equal value or answer want of memory, which is `InsufficientMemory` everywhere.
+//! `clone(alloc)` calls that give an equal value or answer out of memory, which is `InsufficientMemory` everywhere.
 
 #![tactic(auto)]
 

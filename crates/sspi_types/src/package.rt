@@ -32,7 +32,7 @@ pub enum SecurityPackageType {
 }
 
 impl SecurityPackageType {
-    /// The package of this name: `NTLM`, `Kerberos` and `Negotiate` are this library's, spelled
+    /// The package of this name: `NTLM`, `Kerberos` and `Negotiate` are this library's, encoded
     /// exactly so, and take no memory; any other text names an `Other`.
     pub fn from_str(alloc: Global, name: &str) -> Result<SecurityPackageType, Error>
         ensures read { IfOk result (λ read. ReadsName name.now read) }

@@ -64,7 +64,7 @@ pub enum Reason {
     NotPassword,
     /// The look-up of credentials failed.
     Proxy,
-    /// A token is not spelled as it must be.
+    /// A token is malformed.
     TokenForm,
     /// No buffer is of the type that is needed.
     NoBuffer,

@@ -15,7 +15,7 @@ no1 012345 abcde a.delivered=B+00*1048554 a.ended=no
 no1 012345 abcde a.delivered=00*1048581 a.ended=no";
 
 /// A message of 1048581 bytes is compared with what was sent, and with what the next turn was given, to its last byte. A longer one
-/// has no spelling.
+/// has no encoding.
 const MESSAGES: &str = "\
 yes4 012345 abcde 4.message=E;auth=00*1048525 5.given=E;auth=00*1048525 e.sent=h+00*1048525+n e.delivered=h+00*1048525+n
 yes4 012345 abcde 4.message=E;auth=00*1048525 5.given=E;auth=00*1048525 e.sent=h+00*1048525+n e.delivered=h+00*1048525+n e.ended=no

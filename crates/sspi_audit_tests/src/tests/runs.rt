@@ -1,6 +1,6 @@
 //! What `audit_run` asks beside what `audit` does, on the exchange of `ntlm` and on those of `negotiated`, changed by hand.
 //!
-//! `U` to `Y` of that exchange are spelled by hand from its own messages.
+//! `U` to `Y` of that exchange are encoded by hand from its own messages.
 
 use crate::tests::negotiated;
 use crate::tests::ntlm::EXCHANGE;

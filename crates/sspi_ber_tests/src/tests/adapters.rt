@@ -166,7 +166,7 @@ fn a_writer_that_takes_nothing(rt: HostRuntime) {
     is(&rt, StdSink::new(&mut writer).write(&[]), Ok(0));
 }
 
-// A writer that fails inside an element: what it took is a front of the element.
+// A writer that fails inside an element: what it took is a prefix of the element.
 #[test]
 fn a_writer_that_fails(rt: HostRuntime) {
     let mut writer = choppy(rt.alloc(), 1, 3);

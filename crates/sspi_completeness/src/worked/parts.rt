@@ -130,7 +130,7 @@ fn client_first(alloc: Global) -> Result<ProtocolConfig, AllocError>
     Ok(ProtocolConfig::Ntlm(client_ntlm(alloc)?))
 }
 
-/// A client with NTLM in hand, which knows no KDC.
+/// A client with NTLM selected, which knows no KDC.
 pub(crate) fn client_with_ntlm(alloc: Global) -> Result<ClientMode, AllocError>
     ensures { IfOk result (λ mode. mode ≡ ClientMode.Negotiate (with_ntlm client_ntlm)) }
 {
@@ -139,7 +139,7 @@ pub(crate) fn client_with_ntlm(alloc: Global) -> Result<ClientMode, AllocError>
     Ok(ClientMode::Negotiate(config))
 }
 
-/// A server with NTLM in hand.
+/// A server with NTLM selected.
 pub(crate) fn server_with_ntlm(alloc: Global) -> Result<ServerMode, AllocError>
     ensures { IfOk result (λ mode. mode ≡ ServerMode.Negotiate (with_ntlm server_ntlm)) }
 {
@@ -154,7 +154,7 @@ fn client_kerberos(alloc: Global) -> Result<ProtocolConfig, AllocError>
     Ok(ProtocolConfig::Kerberos(realm_kerberos(alloc)?))
 }
 
-/// A client with Kerberos in hand, which finds its KDC by the realm of its name.
+/// A client with Kerberos selected, which finds its KDC by the realm of its name.
 pub(crate) fn client_with_kerberos(alloc: Global) -> Result<ClientMode, AllocError>
     ensures { IfOk result (λ mode. mode ≡ ClientMode.Negotiate with_kerberos) }
 {
@@ -171,7 +171,7 @@ fn server_kerberos(alloc: Global) -> Result<ProtocolConfig, AllocError>
     Ok(ProtocolConfig::KerberosServer(realm_kerberos(alloc)?, ticket))
 }
 
-/// A server with Kerberos in hand, which has a ticket.
+/// A server with Kerberos selected, which has a ticket.
 pub(crate) fn server_with_ticket(alloc: Global) -> Result<ServerMode, AllocError>
     ensures { IfOk result (λ mode. mode ≡ ServerMode.Negotiate with_ticket) }
 {

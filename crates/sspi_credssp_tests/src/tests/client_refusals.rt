@@ -16,7 +16,7 @@ kdc fails -> OutOfSequence/Sequence
 client new token=challenge auth=text:info code=0 -> reply version=6 token=third-token auth=text:info proof=third-proof code=0 nonce=00
 ";
 
-/// A refused call notes no version, and the first one that is answered notes none either.
+/// A refused call pins no version, and the first one that is answered pins none either.
 #[test]
 fn in_the_authentication(rt: HostRuntime) {
     plays::<Ntlm>(&rt, IN_THE_AUTHENTICATION);

@@ -14,7 +14,7 @@ client new version=4 token=challenge -> MessageAltered/PeerVersion did=nothing
 client new version=6 token=challenge -> MessageAltered/PeerVersion did=nothing
 ";
 
-/// A version that is too old is not noted, however often it comes; the first that is not is. The client's first message goes by no
+/// A version that is too old is not pinned, however often it comes; the first that is not is. The client's first message goes by no
 /// version of the server.
 #[test]
 fn of_a_client(rt: HostRuntime) {

@@ -1,4 +1,4 @@
-//! The message in hand: how the words of a step change it, and what the words of a check say of it.
+//! The current message: how the words of a step change it, and what the words of a check say of it.
 
 use crate::tests::words::{Test, code, field, nonce, number, octets};
 use sspi_tsreq::TsRequest;
@@ -11,7 +11,7 @@ fn read(rt: &impl Test, name: &str) -> TsRequest {
     }
 }
 
-/// Changes the message in hand as each of these words says.
+/// Changes the current message as each of these words says.
 pub fn compose(rt: &impl Test, message: &mut TsRequest, words: &str) {
     for word in words.split_whitespace() {
         match word.split_once('=') {

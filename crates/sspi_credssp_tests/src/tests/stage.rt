@@ -21,7 +21,7 @@ use sspi_tsreq::TsRequest;
 use sspi_types::Bytes;
 use std::mem::take;
 
-/// The two ends, the message in hand, and what the last call came to.
+/// The two ends, the current message, and what the last call came to.
 #[derive(Drop)]
 struct Stage<M> {
     client: Client<M>,

@@ -41,7 +41,7 @@ pub fn signed_verifies()
         kerberos_meaning.permits p (ToVerify mic text) }
 {}
 
-/// A call that may answer `Ok` is refused with no kind but want of memory.
+/// A call that may answer `Ok` is refused with no kind but out of memory.
 pub fn permitted_is_not_refused()
     ensures { (m : KerberosState) (call : Call) (kind : ErrorKind) →
         kerberos_meaning.permits m call → kerberos_meaning.refuses m call kind → ⊥ }

@@ -34,7 +34,7 @@ pub fn signed_verifies()
         ntlm_meaning.permits p (ToVerify mic text) }
 {}
 
-/// A call that may answer `Ok` is refused with no kind but want of memory.
+/// A call that may answer `Ok` is refused with no kind but out of memory.
 pub fn permitted_is_not_refused()
     ensures { (m : NtlmState) (call : Call) (kind : ErrorKind) → ntlm_meaning.permits m call → ntlm_meaning.refuses m call kind → ⊥ }
 {}

@@ -4,7 +4,7 @@
 //! A buffer is its type, `!` where it may only be read or `?` where a checksum covers it too, `:` and its bytes: hex, or `text`
 //! for those of `Devolutions/sspi-rs`, joined by `+`. Behind the arrow stands what the buffers are afterwards, `same`
 //! where that is what they were, or the text of a refusal, after which they are to be as before. The line `authenticate` has
-//! both ends authenticate, and `negotiation` tries the calls of the negotiations that they have in hand.
+//! both ends authenticate, and `negotiation` tries the calls of the negotiations that they have selected.
 
 use crate::tests::ends::{Context, Ends, Test, authenticate, given, holds};
 use crate::tests::negotiation::negotiated;

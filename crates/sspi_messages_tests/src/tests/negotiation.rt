@@ -85,7 +85,7 @@ fn protects(rt: &impl Test, client: &mut Negotiation, server: &mut Negotiation) 
     tells(rt, server);
 }
 
-/// The negotiations that both ends have in hand, once they have authenticated.
+/// The negotiations that both ends have selected, once they have authenticated.
 pub fn negotiated(rt: &impl Test, ends: &mut Ends) {
     let SspiContext::Negotiate(client) = &mut ends.client else {
         return holds(rt, false, "another client");

@@ -95,7 +95,7 @@ pub fn ask(rt: &impl Test, context: &Context, what: &str, told: &str) {
     }
 }
 
-/// What no package here has, and the name of the package in hand.
+/// What no package here has, and the name of the package selected.
 fn lacks(rt: &impl Test, context: &Context, what: &str, told: &str) {
     match what {
         "streams" => refused(rt, context.query_context_stream_sizes().err(), told),

@@ -31,7 +31,7 @@ pub trait End: Sized + Drop {
         credentials: Option<&Credentials>,
     ) -> Result<Option<CredentialsBuffers>, Error>;
 
-    /// The name of the mechanism in hand.
+    /// The name of the selected mechanism.
     fn hand(&self) -> &'static str;
 
     fn needs_mic(&self) -> bool;

@@ -5,7 +5,7 @@
 use crate::tests::script::run_plain;
 
 /// The questions for a first reply, and for a session key with the server's ticket and without one; the replies; the tokens of an
-/// exchange user to user, and of one to a service.
+/// exchange user-to-user, and of one to a service.
 const TOKENS: &str = r"
 FIRST-QUESTION = 'KA' 'ann@example.com'
 TICKET-QUESTION = 'KT' 11*32 07*32

@@ -1,4 +1,4 @@
-//! Package lists, and what the ends that are made of them have in hand.
+//! Package lists, and what the ends that are made of them have selected.
 
 use crate::tests::came::refusal;
 use crate::tests::checks::{Test, comes, halves, holds, joined, lend};
@@ -62,7 +62,7 @@ fn hand(rt: &impl Test, end: &impl End) -> String {
     joined(rt, end.hand(), need)
 }
 
-/// What a new end has in hand, with MICs needed, or how it is refused.
+/// What a new end has selected, with MICs needed, or how it is refused.
 fn begun<E: End>(rt: &impl Test, made: Result<E, Error>) -> String {
     match made {
         Ok(end) => hand(rt, &end),
@@ -97,7 +97,7 @@ fn begin<E: End>(
 
 const NO_PACKAGE: &str = "refuses NoCredentials NoPackage";
 
-/// An end that begins with NTLM has it in hand where its list allows it; else a client takes Kerberos, where that is allowed, and a
+/// An end that begins with NTLM has it selected where its list allows it; else a client takes Kerberos, where that is allowed, and a
 /// server is not made.
 fn beginning_with_ntlm(allowed: &str) -> (&'static str, &'static str) {
     match allowed {
@@ -108,7 +108,7 @@ fn beginning_with_ntlm(allowed: &str) -> (&'static str, &'static str) {
     }
 }
 
-/// One that begins with Kerberos has that in hand where its list allows it, and else NTLM, where that is allowed.
+/// One that begins with Kerberos has that selected where its list allows it, and else NTLM, where that is allowed.
 fn beginning_with_kerberos(allowed: &str) -> (&'static str, &'static str) {
     match allowed {
         "both" => ("Kerberos true", "Kerberos true"),

@@ -1,4 +1,4 @@
-//! When a client takes another mechanism in hand before a step: where a KDC serves the user's domain, and where the target is an
+//! When a client takes another selected mechanism before a step: where a KDC serves the user's domain, and where the target is an
 //! address.
 
 use crate::tests::script::run_beside_told;

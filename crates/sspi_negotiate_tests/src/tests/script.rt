@@ -8,7 +8,7 @@
 //!     handle DOMAIN USER PASSWORD the steps to come are handed these credentials, or `key-table NAME`, or `none`
 //!     flags FLAG                  the steps to come ask for this flag, or `none`, or all `others`
 //!     target NAME                 the steps to come are for this service
-//!     state HAND, MIC needed      which mechanism is in hand, and whether MICs are needed, or `no MIC`
+//!     state HAND, MIC needed      which mechanism is selected, and whether MICs are needed, or `no MIC`
 //!     questions 2, one waits      how often a KDC may still be asked, and whether one is asked
 //!
 //! and the calls, with what comes of each behind an arrow, where OCTETS are in the words of `octets`:

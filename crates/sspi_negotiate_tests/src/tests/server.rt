@@ -53,7 +53,7 @@ fn later_choices(rt: HostRuntime) {
     run_plain(&rt, LONGER_LISTS, LATER_CHOICES);
 }
 
-/// The MIC is over the list as it is kept, spelled anew, and not over the bytes that came: NTLM alone, once with a length of two
+/// The MIC is over the list as it is kept, encoded anew, and not over the bytes that came: NTLM alone, once with a length of two
 /// bytes where one would do, once with something after it that is no identifier, which ends the list.
 const SPELLINGS: &str = r"
 # The MIC over the shortest spelling.

@@ -51,7 +51,7 @@ fn plays(rt: &impl Test, key: &str, lines: &str) {
     }
 }
 
-/// The exchange itself, and fronts of it.
+/// The exchange itself, and prefixes of it.
 const EXCHANGES: &str = r"
 c: s:1 c:2 s:3 c:4 s:5 = cscscs running running ann
 c: s:1 c:2 s:3 c:4 = cscsc running running -

@@ -50,7 +50,7 @@ fn add_exchanges(alloc: Global, count: u32, tally: &mut Tally) -> Result<(), All
     Ok(())
 }
 
-/// Adds the exchange of a number. Fails also where memory was wanting in it.
+/// Adds the exchange of a number. Fails also where there was no memory in it.
 fn add_exchange(alloc: Global, number: u32, tally: &mut Tally) -> Result<(), AllocError>
     ensures { AreNumbered number tally.old → OnOk result (AreNumbered (number + 1) tally.new) }
 {

@@ -95,7 +95,7 @@ fn ends_with_kerberos(rt: HostRuntime) {
 const ENDS: &str = "mode negotiate\nuser ann@example.com\npassword pw\nkey 010203\n";
 
 /// Which URL is asked and what the KDC knows; a client that begins with NTLM takes Kerberos where its realm has a KDC, and a server
-/// without a ticket does not authenticate user to user.
+/// without a ticket does not authenticate user-to-user.
 const REALMS_AND_TICKETS: &str =
     "0 8|kdc EXAMPLE.COM tcp://kdc;kdc-user ann@example.com;server-protocol kerberos;ticket 1111111111111111111111111111111\
      111111111111111111111111111111111;|> 3049a003020106a1423040303ea03c043a603806062b0601050502a02e302ca024302206092a86488\

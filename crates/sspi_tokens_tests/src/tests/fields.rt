@@ -7,7 +7,7 @@ use sspi_types::Bytes;
 use std::alloc::Global;
 use std::process::Abort;
 
-/// The fields of a NegTokenTarg, each as it is spelled.
+/// The fields of a NegTokenTarg, each as it is encoded.
 const RESULT: [u8; 5] = [0xa0, 0x03, 0x0a, 0x01, 0x01];
 
 const MECH: [u8; 14] = [
@@ -58,7 +58,7 @@ fn push(rt: &impl Abort, text: &mut Bytes, is_set: bool, octets: &[u8]) {
     }
 }
 
-/// The spelling of these fields, one after the other.
+/// The encoding of these fields, one after the other.
 fn fields_of(rt: &impl Abort, alloc: Global, choice: u8) -> Bytes {
     let mut content = Bytes::new(alloc);
     push(rt, &mut content, choice & 1 != 0, &RESULT);
@@ -77,7 +77,7 @@ fn framed(rt: &impl Abort, alloc: Global, fields: &[u8]) -> Bytes {
     whole
 }
 
-/// The token is spelled as these bytes, is read from them, and has a copy.
+/// The token is encoded as these bytes, is read from them, and has a copy.
 fn both(rt: &impl Abort, alloc: Global, token: &NegTokenTarg, whole: &[u8]) {
     is_spelled(rt, token.encode(alloc), whole);
     equals(rt, NegTokenTarg::decode(alloc, whole), token);

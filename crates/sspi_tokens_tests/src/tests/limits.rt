@@ -19,7 +19,7 @@ fn answer(rt: &impl Abort, alloc: Global, len: usize) -> NegTokenTarg {
     }
 }
 
-/// The spelling has 1048581 bytes, and the token is read from it.
+/// The encoding has 1048581 bytes, and the token is read from it.
 fn fits(rt: &impl Abort, alloc: Global, token: &NegTokenTarg) {
     let text = given(rt, token.encode(alloc));
     is(rt, text.len(), 1048581);
@@ -72,7 +72,7 @@ fn many(rt: &impl Abort, alloc: Global) -> NegTokenInit {
     }
 }
 
-/// The offer is read from its spelling, and has a copy.
+/// The offer is read from its encoding, and has a copy.
 fn offered(rt: &impl Abort, alloc: Global, offer: &NegTokenInit) {
     let text = given(rt, offer.encode(alloc));
     equals(rt, NegTokenInit::decode(alloc, &text), offer);

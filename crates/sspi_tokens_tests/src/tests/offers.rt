@@ -13,7 +13,7 @@ fn offers(rt: &impl Abort, alloc: Global, bytes: &[u8], oids: &[&[u8]], mech_tok
     same(rt, &token.mech_token, mech_token);
 }
 
-/// The token is spelled as the bytes that it was read from, and has a copy.
+/// The token is encoded as the bytes that it was read from, and has a copy.
 fn is_written_again(rt: &impl Abort, alloc: Global, bytes: &[u8]) {
     let token = given(rt, NegTokenInit::decode(alloc, bytes));
     is_spelled(rt, token.encode(alloc), bytes);

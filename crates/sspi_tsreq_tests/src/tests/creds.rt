@@ -250,7 +250,7 @@ fn each_cut_is_refused(rt: &impl Abort, alloc: Global) {
     }
 }
 
-// A front is never read.
+// A prefix is never read.
 #[test]
 fn cut_texts(rt: HostRuntime) {
     each_cut_is_refused(&rt, rt.alloc());

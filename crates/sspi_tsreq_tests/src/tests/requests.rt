@@ -142,7 +142,7 @@ both|version=8388607|3007a00502037fffff
 both|version=8388608|3008a006020400800000
 both|version=4294967295|3008a0060204ffffffff";
 
-/// Numbers that are not in their shortest spelling, without sign; of eight bytes the low 32 bits count.
+/// Numbers that are not in their shortest encoding, without sign; of eight bytes the low 32 bits count.
 const LONGER_NUMBERS: &str = "\
 read|version=200|3005a0030201c8
 read||3006a00402020006

@@ -68,7 +68,7 @@ fn failing_sources(rt: HostRuntime) {
     length_fails_at(&rt, 2);
 }
 
-/// A sink that fails at this call has a front of the spelling.
+/// A sink that fails at this call has a prefix of the encoding.
 fn sink_fails_at(rt: &impl Abort, alloc: Global, call: u64) {
     let spelling = octets(rt, alloc, SECOND);
     let request = given(rt, TsRequest::from_buffer(alloc, &spelling));

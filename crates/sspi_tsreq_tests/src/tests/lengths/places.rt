@@ -46,7 +46,7 @@ struct Case<'a> {
 
 const LIMIT: usize = 1048576;
 
-/// No place of a text: each length is spelled shortest.
+/// No place of a text: each length is encoded shortest.
 const NOWHERE: usize = 99;
 
 // 7 where the text is no number, which no line has.
@@ -74,7 +74,7 @@ fn shortest(len: usize) -> usize {
     }
 }
 
-/// How many bytes stand inside the tag at this place, round so many octets, where all lengths within are spelled shortest.
+/// How many bytes stand inside the tag at this place, round so many octets, where all lengths within are encoded shortest.
 fn inside(levels: &str, place: usize, octets: usize) -> usize {
     let mut size = octets;
     for (at, line) in levels.lines().enumerate() {
