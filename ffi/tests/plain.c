@@ -1,4 +1,4 @@
-/* The exchange of docs/FORMATS.md, "An exchange by hand", over the plain mechanism: its five
+/* The exchange of docs/WIRE.md, "An exchange by hand", over the plain mechanism: its five
  * messages byte by byte, and what each turn says of itself. */
 #include <string.h>
 

@@ -1,6 +1,6 @@
 //! Each field of each turn and entry of exchanges by plain NTLM, changed by itself.
 //!
-//! The verdicts were found apart from this program, by the rules of the turns that docs/FORMATS.md and the definitions of an auditor
+//! The verdicts were found apart from this program, by the rules of the turns that docs/WIRE.md and the definitions of an auditor
 //! state.
 
 use crate::tests::ntlm::EXCHANGE;

@@ -1,5 +1,5 @@
 //! Plain Kerberos: `ann@example.com`, a KDC for the realm EXAMPLE.COM, and a server whose ticket is the bytes `40` to `5f`. What the KDC
-//! and the ends send was computed apart, with another SHA-256; docs/FORMATS.md derives it.
+//! and the ends send was computed apart, with another SHA-256; docs/WIRE.md derives it.
 
 use crate::tests::script::run_kerberos;
 

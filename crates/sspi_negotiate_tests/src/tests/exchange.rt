@@ -4,7 +4,7 @@
 use crate::tests::script::run_plain;
 
 /// The tokens and the first blobs of either end over a text, for `ann@example.com` and for `DOM\bob` without a password. They were
-/// computed apart, as docs/FORMATS.md shows for `DOM\ann`.
+/// computed apart, as docs/WIRE.md shows for `DOM\ann`.
 const TOKENS: &str = r"
 OFFER = 6022 0606 2b0601050502 a018 3016 a00e 300c 060a 2b06010401823702020a a204 0402 4e31
 PICK = a123 3021 a003 0a0101 a10c 060a 2b06010401823702020a a20c 040a 4e32 0000000000000000

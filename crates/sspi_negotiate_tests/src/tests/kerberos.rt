@@ -1,5 +1,5 @@
 //! Negotiations over plain Kerberos, for `ann@example.com`. The KDC's replies are told by hand: `11` 32 times, and a session key of `22`
-//! 32 times; the server's ticket is `07` 32 times. docs/FORMATS.md derives the tokens; the blobs and the proof of another key were
+//! 32 times; the server's ticket is `07` 32 times. docs/WIRE.md derives the tokens; the blobs and the proof of another key were
 //! computed apart in the same way.
 
 use crate::tests::script::run_plain;

@@ -1,4 +1,4 @@
-//! The tokens of `DOM\ann` with the password `pw`, where NTLM alone is offered and its challenge is zeros: docs/FORMATS.md derives
+//! The tokens of `DOM\ann` with the password `pw`, where NTLM alone is offered and its challenge is zeros: docs/WIRE.md derives
 //! them, each from the inside out.
 
 pub const NTLM: &str = r"
