@@ -1,3 +1,4 @@
+mod Wanted
 mod SourceTexts
 mod More
 mod Seen

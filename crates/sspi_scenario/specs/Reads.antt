@@ -43,8 +43,3 @@ lines_after (Some rest) = lines_of rest
 abbrev pub hex_refusal : FromHexError → LineError
 hex_refusal OutOfMemory = InsufficientMemory
 hex_refusal other = Fault
-
--- a value was put in its place
-abbrev pub was_put : Result (Unit {0}) LineError → Bool
-was_put (Ok done) = true
-was_put (Err error) = false

@@ -97,7 +97,7 @@ fault_text purpose line = fault_with purpose (before_space line) (after_space li
 
 abbrev pub line_text : Purpose → ℕ → Option (List ℕ) → List ℕ
 line_text purpose number None = []
-line_text purpose number (Some line) = codes "line " ++ decimal number ++ codes ": " ++ fault_text purpose line
+line_text purpose number (Some line) = codes "line " ++ (decimal number ++ (codes ": " ++ fault_text purpose line))
 
 -- the line of this number, from 1
 unfoldable pub numbered_text : Purpose → ℕ → List ℕ → List ℕ

@@ -2,7 +2,6 @@
 ghost use Rattle.std.specs.Prelude.{◌≡◌, ◌-◌, ◌++◌, None, string_bytes, IfOk, OnOk, option_copied};
 ghost use Rattle.std.specs.List.{list_all, slice_get};
 ghost use Rattle.sspi_scenario.specs.Lines.{lines_of};
-ghost use Rattle.sspi_scenario.specs.Reads.{was_put};
 ghost use Rattle.sspi_scenario.specs.Reasons.{fault_line, fault_text, is_plain, is_plain_byte, is_shown};
 ghost use Rattle.sspi_scenario.specs.Reasons.{key_text, line_text, missing_part, missing_text, names_key, numbered_text, reason_text};
 ghost use Rattle.sspi_scenario.specs.Reasons.{refusal_text, value_is_good, value_text, wanted, whole_text};
@@ -146,7 +145,7 @@ fn line_text(
     number: usize,
     line: Option<&str>,
 ) -> Result<String, AllocError>
-    ensures { IfOk result (λ told. string_bytes told ≡ line_text purpose number (option_copied line)) }
+    ensures { IfOk result (λ told. string_bytes told ≡ line_text purpose number (option_copied line.entry)) }
 {
     match line {
         Some(line) => {
@@ -205,25 +204,25 @@ fn key_text(
 }
 
 /// Whether a value is as the grammar of its key wants it.
+#[tactic(auto, using(crate::proofs::Wanted::there))]
 fn value_is_good(alloc: Global, key: Key, value: &str) -> Result<bool, AllocError>
     ensures { IfOk result (λ is. is ≡ value_is_good key value.now) }
 {
     let Ok(mut values) = Values::new(alloc) else {
         return Err(AllocError);
     };
-    let put = values.put(alloc, key, value);
-    judged_beside(values, put)
+    match values.put(alloc, key, value) {
+        Ok(()) => Ok(beside(values, true)),
+        Err(LineError::Fault) => Ok(beside(values, false)),
+        Err(LineError::InsufficientMemory) => Err(beside(values, AllocError)),
+    }
 }
 
 /// Generic, as `none_beside` is.
-fn judged_beside<T: Drop>(_values: T, put: Result<(), LineError>) -> Result<bool, AllocError>
-    ensures { IfOk result (λ is. is ≡ was_put put) }
+fn beside<T: Drop, A>(_values: T, answer: A) -> A
+    ensures { result ≡ answer }
 {
-    match put {
-        Ok(()) => Ok(true),
-        Err(LineError::Fault) => Ok(false),
-        Err(LineError::InsufficientMemory) => Err(AllocError),
-    }
+    answer
 }
 
 /// What the grammar of a key wants, and the value where it may be shown.
