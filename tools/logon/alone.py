@@ -100,8 +100,12 @@ def at_the_prompt(ours, port, typed):
 
     def echoes():
         return bool(termios.tcgetattr(master)[3] & termios.ECHO)
-    client = subprocess.Popen(words, stdin=slave, stdout=slave, stderr=slave, start_new_session=True,
-                              preexec_fn=lambda: fcntl.ioctl(slave, termios.TIOCSCTTY, 0))
+
+    def with_terminal():
+        fcntl.ioctl(slave, termios.TIOCSCTTY, 0)
+        # a shell's background job would hand on that it is ignored
+        signal.signal(signal.SIGINT, signal.SIG_DFL)
+    client = subprocess.Popen(words, stdin=slave, stdout=slave, stderr=slave, start_new_session=True, preexec_fn=with_terminal)
     seen = b""
     while b"Password: " not in seen:
         seen += os.read(master, 1024)
