@@ -110,7 +110,7 @@ impl Host {
     /// What is sent of the call that was made.
     fn sent(&mut self, last: &Last, acts: sspi_credssp::Acts) -> Result<TsRequest, Error> {
         let mut message = crate::host::sealed(&self.context, last, acts)?;
-        if let Some(token) = message.nego_tokens {
+        if let Some(token) = message.nego_tokens.take() {
             message.nego_tokens = Some(self.sent_token(token)?);
         }
         Ok(message)
