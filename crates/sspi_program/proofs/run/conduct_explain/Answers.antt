@@ -9,5 +9,6 @@ returns-in-Ok-clause-comes g c =
     (g.S.Source.faults c.read_text.new.source) c.in-Ok.text c.explain_bytes.result c.in-Ok.ensures.text
     (subst (λ (text : List ℕ). Explains text c.explain_bytes.result) c.deref.ensures.value c.explain_bytes.ensures)
 
-pub returns-in-TooLong-clause-comes : goal.returns-in-TooLong-clause-comes
-returns-in-TooLong-clause-comes g c = (refl, too_long_to_explain _ c.in-TooLong.ensures.text)
+pub returns-in-Err-TooLong-clause-comes : goal.returns-in-Err-TooLong-clause-comes
+returns-in-Err-TooLong-clause-comes g c =
+    let e = c.in-Err-TooLong in (refl, too_long_to_explain _ (rw e.field-0-is at e.ensures.text))
