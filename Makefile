@@ -11,7 +11,7 @@ run:
 explain:
 	@tools/run delegate examples/delegate.scenario | tools/run explain
 
-# Hands out the deliveries of a schedule, and shows what each end sent and how it stands.
+# Hands out the deliveries of a schedule, and shows what each end sent and its state.
 play:
 	@tools/run play examples/play.scenario
 
@@ -19,7 +19,7 @@ play:
 program:
 	@cd crates/sspi_run && rt run -- gen 1 > /dev/null
 
-# Every proof, every wrong body of must-fail/, every test and program.
+# Every proof, every mutant of must-fail/, every test and program.
 test:
 	@rt ci
 
@@ -39,7 +39,7 @@ fmt:
 size:
 	@tools/size
 
-# The spec files in which what public contracts reach stands beside what none of them reaches. Those that are left say why.
+# The spec files that mix what public contracts reach with what none of them reaches. Those that are left say why.
 apart:
 	@tools/apart
 
@@ -60,7 +60,7 @@ fuzz:
 logon:
 	@tools/logon/logon
 
-# The wrong bodies that the gate does not try, each of which must be refused. They take some hours.
+# The mutants that the gate does not try, each of which must be refused. They take some hours.
 wrong-bodies:
 	@tools/wrong-bodies
 

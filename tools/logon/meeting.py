@@ -1,4 +1,4 @@
-"""One logon: who meets whom, what stands between them, and how each side must end."""
+"""One logon: who meets whom, what is between them, and how each side must end."""
 import hashlib
 import re
 import ssl

@@ -1,4 +1,4 @@
-"""TSRequests as they lie on the wire: where one ends, where each field stands, and how one is edited in place."""
+"""TSRequests as they lie on the wire: where one ends, where each field is, and how one is edited in place."""
 
 # the fields, by their tags
 VERSION, NEGO_TOKENS, AUTH_INFO, PUB_KEY_AUTH = range(4)
