@@ -145,6 +145,7 @@ impl TsReader {
     }
 
     /// The first piece.
+    #[inline(never)]
     fn feed_first(&mut self, piece: &[u8]) -> Result<(), WireKind>
         // What must hold before.
         requires { self.old.stage ≡ Stage.OuterTag }
@@ -165,7 +166,7 @@ impl TsReader {
     }
 
     /// The request that `piece` has whole, with nothing before it.
-    #[inline(never)]
+    #[inline(always)]
     fn read_whole(&mut self, piece: &[u8]) -> Result<(), WireKind>
         ensures ok { OnOk result (Stands self.new piece.now) }
         ensures err { OnErr result (self.new ≡ self.old) }

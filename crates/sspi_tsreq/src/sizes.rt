@@ -1,6 +1,7 @@
 //! How many bytes the fields of TSRequest and TSCredentials take.
 
 ghost use Rattle.std.specs.Prelude.{◌≡◌, ℕ, ◌+◌, ◌≤◌, length, Option};
+ghost use Rattle.std.specs.Option.{option_copied};
 ghost use Rattle.sspi_ber.specs.Forms.{max_content};
 ghost use Rattle.sspi_ber.specs.Short.{element_size};
 ghost use Rattle.sspi_tsreq.specs.Size.{IsCapped};
@@ -84,11 +85,11 @@ pub(crate) fn carried_code(request: &TsRequest) -> Option<NStatusCode>
 }
 
 /// The nonce that is written.
-pub(crate) fn carried_nonce(request: &TsRequest) -> Option<[u8; 32]>
-    ensures value { result ≡ (carried request.now).client_nonce }
+pub(crate) fn carried_nonce(request: &TsRequest) -> Option<&[u8; 32]>
+    ensures value { option_copied result ≡ (carried request.now).client_nonce }
 {
     if request.version >= 5 {
-        request.client_nonce
+        request.client_nonce.as_ref()
     } else {
         None
     }
@@ -103,6 +104,6 @@ pub(crate) fn fields_size(request: &TsRequest) -> usize
     let auth = octets_field_size(&request.auth_info);
     let key = octets_field_size(&request.pub_key_auth);
     let code = code_field_size(carried_code(request));
-    let nonce = nonce_field_size(carried_nonce(request));
+    let nonce = nonce_field_size(carried_nonce(request).copied());
     version + nego + auth + key + code + nonce
 }

@@ -1,6 +1,7 @@
 //! Writes the fields of TSRequest.
 
 ghost use Rattle.std.specs.Prelude.{◌≡◌, ◌≤◌, length};
+ghost use Rattle.std.specs.Option.{option_copied};
 ghost use Rattle.sspi_ber.specs.Forms.{max_content};
 ghost use Rattle.sspi_ber.specs.Short.{element, int_short};
 ghost use Rattle.sspi_tsreq.specs.Size.{IsTokenSize};
@@ -118,13 +119,13 @@ fn write_code_field<W: Sink>(sink: &mut W, field: Option<NStatusCode>) -> Result
 }
 
 #[tactic(auto, using(sspi_ber::proofs::Written::writing), unfolding(crate::specs::Spelling::octets_field))]
-fn write_nonce_field<W: Sink>(sink: &mut W, field: Option<[u8; 32]>) -> Result<(), WireKind>
-    ensures wrote { Writes (W.written sink.old) (W.written sink.new) result (octets_field 0xA5 field) }
+fn write_nonce_field<W: Sink>(sink: &mut W, field: Option<&[u8; 32]>) -> Result<(), WireKind>
+    ensures wrote { Writes (W.written sink.old) (W.written sink.new) result (octets_field 0xA5 (option_copied field.entry)) }
     ensures cause { WriteCause (W.faults sink.old) (W.faults sink.new) result }
 {
     match field {
         None => Ok(()),
-        Some(nonce) => write_wrapped_octets(sink, 0xA5, &nonce),
+        Some(nonce) => write_wrapped_octets(sink, 0xA5, nonce),
     }
 }
 

@@ -11,4 +11,4 @@ returns c =
     fields_capped r _ _ _ _ _ _ version c.nego_field_size-nego.ensures.capped (c.octets_field_size-auth.ensures.capped 0xA2)
     (c.octets_field_size-key.ensures.capped 0xA3)
     (rw c.carried_code.ensures at c.code_field_size-code.ensures.size)
-    (rw c.carried_nonce.ensures.value at c.nonce_field_size-nonce.ensures.size)
+    (rw c.carried_nonce.ensures.value at (rw c.copied.ensures at c.nonce_field_size-nonce.ensures.size))
