@@ -163,12 +163,17 @@ fn last_line(written: &[u8]) -> Option<&str> {
     }
 }
 
-/// Identifiers: numbers of nine octets, the longest that are told, and what is none.
+/// Identifiers: the numbers 2^56 and 2^63 - 1, of nine octets; 2^63, of ten, which is not told; and
+/// what is none, once with a field behind it, since the reader takes any content.
 const IDENTIFIERS: &str =
-    "a110300ea10c060a2bffffffffffffffff7f|  4 supportedMech 1.3.9223372036854775807\n\
+    "a110300ea10c060a2b818080808080808000|  4 supportedMech 1.3.72057594037927936\n\
+    a110300ea10c060a2bffffffffffffffff7f|  4 supportedMech 1.3.9223372036854775807\n\
+    a111300fa10d060b2b81808080808080808000|  4 supportedMech invalid 11 bytes 2b81808080808080808000\n\
     a111300fa10d060b2bffffffffffffffffff7f|  4 supportedMech invalid 11 bytes 2bffffffffffffffffff7f\n\
+    a10f300da10b0609818080808080808000|  4 supportedMech 2.72057594037927856\n\
     a1063004a1020600|  4 supportedMech invalid 0 bytes\n\
     a1083006a10406022b80|  4 supportedMech invalid 2 bytes 2b80\n\
+    a10e300ca10406022b80a20404024e32|  10 responseToken 2 bytes 4e32\n\
     a1093007a10506032b8001|  4 supportedMech invalid 3 bytes 2b8001\n\
     a1083006a10406028837|  4 supportedMech 2.999\n\
     a1083006a10406022a03|  4 supportedMech 1.2.3";
