@@ -1,4 +1,4 @@
-.PHONY: run explain play program test check fmt size apart guide wrong-bodies hostile fuzz lib c rust install check-one
+.PHONY: run explain play program test check fmt size apart guide wrong-bodies hostile fuzz damages lib c rust install check-one
 
 PREFIX ?= /usr/local
 
@@ -54,6 +54,10 @@ hostile:
 # The built program on 100000 scenarios that a seed draws. They take about a quarter of an hour.
 fuzz:
 	@tools/hostile/fuzz 100000 1
+
+# What the word `explain` tells of each message of the tests, and of requests with one octet changed, beside what their readers answer.
+damages:
+	@tools/damages
 
 # Real logons on loopback, by NTLM and Kerberos of the system, with FreeRDP and with each other. It says what apt-get must install first.
 .PHONY: logon
