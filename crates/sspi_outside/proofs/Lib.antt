@@ -1,3 +1,7 @@
+mod Begins
+mod ClientRuns
 mod Mics
 mod Reported
+mod Runs
+mod ServerRuns
 mod Texts

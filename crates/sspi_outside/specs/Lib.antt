@@ -1,3 +1,5 @@
+pub mod Configured
+pub mod Course
 pub mod Ends
 pub mod Envelope
 pub mod Hosting
@@ -7,4 +9,5 @@ pub mod OutsideLaws
 pub mod Peers
 pub mod PeersMeaning
 pub mod Reported
+pub mod Runs
 pub mod Seen

@@ -8,10 +8,16 @@
 //!   tells each follow from what the host reported in that very call (`specs/Reported.antt`).
 //! - `handed_offer`, `handed_response`, `list_to_sign` and `signed`: the same of a token of SPNEGO and
 //!   its MIC (`specs/Negotiated.antt`).
+//! - `Course`: which of the host's contexts steps before a call of an end that negotiates, with which token, and over which list
+//!   it makes and verifies MICs (`specs/Course.antt`); `course_laws`: that each step of the negotiation asks just that
+//!   (`specs/Runs.antt`).
 //! - `Peers`: the users of a list, or whoever the mechanism names.
 #![tactic(auto)]
 
 pub mod client_end;
+pub mod configured;
+pub mod course;
+pub mod course_laws;
 mod envelope;
 pub mod last;
 pub mod laws;
@@ -19,9 +25,12 @@ pub mod negotiated;
 pub mod opened;
 pub mod outside;
 pub mod peers;
+mod picking;
 pub mod server_end;
 
 pub use client_end::ClientEnd;
+pub use configured::negotiation;
+pub use course::{Course, Due};
 pub use last::{Last, Owed};
 pub use negotiated::{handed_offer, handed_response, list_to_sign, signed};
 pub use opened::{Opened, handed};
