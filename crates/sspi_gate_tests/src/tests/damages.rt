@@ -2,8 +2,8 @@
 
 use crate::tests::words::{Answer, closed, relays, stopped, unmade};
 use sspi_ber::WireKind;
+use sspi_codec_tests::damages::{CODE_AND_NONCE, OCTETS, OUTER, TOKEN, VERSION};
 use sspi_gate::{Close, End, GateFault};
-use sspi_tsreq_tests::damages::{CODE_AND_NONCE, OCTETS, OUTER, TOKEN, VERSION};
 use std::alloc::Global;
 use std::process::Abort;
 

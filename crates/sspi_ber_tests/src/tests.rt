@@ -1,8 +1,0 @@
-//! Many like cases stand as the lines of a text, which costs a proof once.
-
-mod adapters;
-mod checks;
-mod elements;
-mod faults;
-mod limits;
-mod spellings;

@@ -1,0 +1,72 @@
+//! Messages with their lengths in every form.
+
+use crate::tests::tsreq::lengths::{Kind, again, unmade};
+use std::alloc::Global;
+use std::process::Abort;
+
+/// A request of version 6 with a token, credentials, a proof, a code and a nonce: its lengths in the shortest form, and then all in
+/// each of the long forms.
+const REQUEST: &str = "\
+3043a003020106a10930073005a003040141a203040142a303040143a403020105a52204204e4e4e4e4e4e4e4e4e4e4e4e4e4e4e4e4e4e\
+4e4e4e4e4e4e4e4e4e4e4e4e4e4e
+308152a0810402810106a1810d30810a308107a0810404810141a2810404810142a3810404810143a4810402810105a581230481204e4e\
+4e4e4e4e4e4e4e4e4e4e4e4e4e4e4e4e4e4e4e4e4e4e4e4e4e4e4e4e4e4e
+30820061a08200050282000106a18200113082000d30820009a08200050482000141a28200050482000142a38200050482000143a48200\
+050282000105a5820024048200204e4e4e4e4e4e4e4e4e4e4e4e4e4e4e4e4e4e4e4e4e4e4e4e4e4e4e4e4e4e4e4e
+3083000070a083000006028300000106a1830000153083000010308300000ba083000006048300000141a283000006048300000142a383\
+000006048300000143a483000006028300000105a58300002504830000204e4e4e4e4e4e4e4e4e4e4e4e4e4e4e4e4e4e4e4e4e4e4e4e4e\
+4e4e4e4e4e4e4e";
+
+/// TSCredentials of `D\a` with the password `1`, in the same forms.
+const CREDENTIALS: &str = "\
+301da003020101a11604143012a00404024400a10404026100a20404023100
+308128a0810402810101a1811e04811b308118a081050481024400a181050481026100a281050481023100
+30820033a08200050282000101a1820026048200223082001ea0820006048200024400a1820006048200026100a2820006048200023100
+308300003ea083000006028300000101a18300002e04830000293083000024a08300000704830000024400a18300000704830000026100\
+a28300000704830000023100";
+
+/// A NegTokenInit of NTLM alone with its token `N1`.
+const OFFER: &str = "\
+602206062b0601050502a0183016a00e300c060a2b06010401823702020aa20404024e31
+60812a0681062b0601050502a0811e30811ba0811030810d06810a2b06010401823702020aa281050481024e31
+60820032068200062b0601050502a082002430820020a08200123082000e0682000a2b06010401823702020aa2820006048200024e31
+608300003a06830000062b0601050502a08300002a3083000025a083000014308300000f068300000a2b06010401823702020aa2830000\
+0704830000024e31";
+
+/// A NegTokenTarg: accept-incomplete, NTLM, its token `N2`, and a MIC.
+const ANSWER: &str = "\
+a120301ea0030a0101a10c060a2b06010401823702020aa20404024e32a30304014d
+a18129308126a081040a810101a1810d06810a2b06010401823702020aa281050481024e32a381040481014d
+a18200323082002ea08200050a82000101a182000e0682000a2b06010401823702020aa2820006048200024e32a3820005048200014d
+a18300003b3083000036a0830000060a8300000101a18300000f068300000a2b06010401823702020aa28300000704830000024e32a383\
+00000604830000014d";
+
+/// Each line is read, and written again as the first one.
+fn each_is_read(rt: &impl Abort, alloc: Global, kind: Kind, lines: &str) {
+    match lines.lines().next() {
+        None => unmade(rt),
+        Some(shortest) => {
+            for line in lines.lines() {
+                is_read(rt, alloc, kind, line, shortest);
+            }
+        }
+    }
+}
+
+fn is_read(rt: &impl Abort, alloc: Global, kind: Kind, line: &str, shortest: &str) {
+    match (hex::decode(alloc, line), hex::decode(alloc, shortest)) {
+        (Ok(bytes), Ok(shortest)) => match again(alloc, kind, &bytes) {
+            Some(written) => assert!(rt; written == shortest, "{line}"),
+            None => assert!(rt; false, "{line}"),
+        },
+        _ => unmade(rt),
+    }
+}
+
+#[test]
+fn each_form_is_read(rt: HostRuntime) {
+    each_is_read(&rt, rt.alloc(), Kind::Request, REQUEST);
+    each_is_read(&rt, rt.alloc(), Kind::Credentials, CREDENTIALS);
+    each_is_read(&rt, rt.alloc(), Kind::Offer, OFFER);
+    each_is_read(&rt, rt.alloc(), Kind::Answer, ANSWER);
+}
