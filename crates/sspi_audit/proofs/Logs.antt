@@ -17,7 +17,7 @@ seam xs y ys =
     slice_get-get_or (xs ++ (y ∷ ys)) (length xs) y (rw (length-append xs (y ∷ ys)) (omega arith))
     ∙ ap Some (get_or-append_seam xs y ys y)
 
--- of a list that stands the newest first, read from its end
+-- of a list that has the newest first, read from its end
 pub at_place : {A : Type 0} (later : List A) (y : A) (before : List A) →
     slice_get (reverse (later ++ (y ∷ before))) (length before) ≡ Some y
 at_place later y before =

@@ -7,7 +7,7 @@ use Rattle.sspi_credssp.specs.declared.turn.Turn.{Turn}
 use Rattle.sspi_credssp.specs.Turn.{ShownFrame}
 use Rattle.sspi_delegate.specs.Turns.{client_state, client_noted, has_turn, server_state, server_noted}
 
--- an end's own version is that of its first message that reports no error
+-- which version an end speaks, as its first message without an error code shows it
 abbrev pub told_by : Option ℕ → Outcome → Option ℕ
 told_by (Some own) o = Some own
 told_by None (outcome.Reply r) = Some r.version

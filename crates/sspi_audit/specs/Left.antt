@@ -1,4 +1,4 @@
--- What an exchange leaves: its turns, and the entries that it added to the log of its link. Lists are the newest first.
+-- What an exchange leaves: its turns, and what its link's log grew by. Lists are the newest first.
 use Rattle.std.specs.Prelude.{◌≡◌, List, ◌++◌, reverse}
 use Rattle.sspi_credssp.specs.declared.turn.Turn.{Turn}
 use Rattle.sspi_delegate.specs.declared.carried.Carried.{Carried}

@@ -1,9 +1,11 @@
-//! Whether a turn may have done what it did, and gone on, by its end's state and the pinned version.
+//! Whether a turn may have done what it did, and gone on, by its end's state and the pinned
+//! version.
 ghost use Rattle.std.specs.Prelude.{◌≡◌, ◌↔◌, Some, true, false, length, IsTrue, IsSome, nat_lt};
 ghost use Rattle.sspi_types.specs.declared.security_status.SecurityStatus.TheVariants as statuses;
 ghost use Rattle.sspi_credssp.specs.declared.state.CredSspState.TheVariants.{AuthInfo, NegoToken};
 ghost use Rattle.sspi_credssp.specs.Requests.{is_code, IsLong};
-ghost use Rattle.sspi_credssp.specs.Turn.{IsOver, MayCheck, HasNonce, IsOwn, ShowsClientActs, ShowsServerActs, AtNoted, FitsNoted};
+ghost use Rattle.sspi_credssp.specs.Turn.{IsOver, MayCheck, HasNonce, IsOwn, ShowsClientActs};
+ghost use Rattle.sspi_credssp.specs.Turn.{ShowsServerActs, AtNoted, FitsNoted};
 ghost use Rattle.sspi_credssp.specs.Turn.{UnlessRefused};
 
 use crate::fields::{has_code, is_long};
@@ -20,7 +22,8 @@ fn fits_noted(looks: bool, noted: Option<u32>, version: u32) -> bool
 
 /// The delivered version, unless the turn was refused.
 pub(crate) fn heeds_version(frame: &Frame, turn: &Turn) -> bool
-    ensures { IsTrue result ↔ UnlessRefused turn.now.outcome (FitsNoted frame.now.looks frame.now.noted turn.now.delivered.version) }
+    ensures { IsTrue result ↔ UnlessRefused turn.now.outcome (FitsNoted frame.now.looks
+        frame.now.noted turn.now.delivered.version) }
 {
     match turn.outcome {
         Outcome::Refused(_, _) => true,
@@ -30,7 +33,8 @@ pub(crate) fn heeds_version(frame: &Frame, turn: &Turn) -> bool
 
 /// The peer reported no error, unless the turn was refused.
 pub(crate) fn heeds_code(turn: &Turn) -> bool
-    ensures { IsTrue result ↔ UnlessRefused turn.now.outcome (is_code turn.now.delivered.error_code ≡ false) }
+    ensures { IsTrue result ↔ UnlessRefused turn.now.outcome (is_code turn.now.delivered.error_code
+        ≡ false) }
 {
     match turn.outcome {
         Outcome::Refused(_, _) => true,
@@ -88,7 +92,8 @@ pub(crate) fn has_nonce(noted: Option<u32>, nonce: &Option<[u8; 32]>) -> bool
 
 /// A step is taken, and answered, only while the authentication goes on.
 fn steps_in_time(state: CredSspState, acts: Acts) -> bool
-    ensures { IsTrue result ↔ (acts.negotiated ≡ true → state ≡ NegoToken) × (IsSome acts.status → acts.negotiated ≡ true) }
+    ensures { IsTrue result ↔ (acts.negotiated ≡ true → state ≡ NegoToken) × (IsSome acts.status →
+        acts.negotiated ≡ true) }
 {
     if acts.negotiated {
         state == CredSspState::NegoToken
@@ -99,7 +104,8 @@ fn steps_in_time(state: CredSspState, acts: Acts) -> bool
 
 /// A client proves once its authentication has ended and it has pinned a version.
 fn may_prove(noted: Option<u32>, acts: Acts) -> bool
-    ensures { IsTrue result ↔ (acts.proved ≡ true → (acts.status ≡ Some statuses.Ok) × IsSome noted) }
+    ensures { IsTrue result ↔ (acts.proved ≡ true → (acts.status ≡ Some statuses.Ok) ×
+        IsSome noted) }
 {
     !acts.proved || (acts.status == Some(SecurityStatus::Ok) && noted.is_some())
 }
@@ -125,7 +131,8 @@ pub(crate) fn shows_client_acts(frame: &Frame, turn: &Turn) -> bool
 
 /// A server checks the client's proof once the authentication has ended.
 fn may_open_proof(frame: &Frame, turn: &Turn) -> bool
-    ensures { IsTrue result ↔ MayCheck frame.now.state turn.now.acts.status × IsLong turn.now.delivered.pub_key_auth }
+    ensures { IsTrue result ↔ MayCheck frame.now.state turn.now.acts.status ×
+        IsLong turn.now.delivered.pub_key_auth }
 {
     may_check(frame.state, turn.acts.status) && is_long(&turn.delivered.pub_key_auth)
 }

@@ -14,18 +14,20 @@ use std::alloc::Global;
 
 /// Judges recorded turns and the log of the link that carried their messages, the oldest first.
 ///
-/// `Yes` exactly where turns and log are shown right (`specs/Shown.antt`): the ends take turns from the client's first request on, each
-/// turn was given what the entry before it delivered, each did on its context only what its state permits, none but a refused one was
-/// told an error or a changed version, and each message has the fields that it owes. What two ends left of a run has all that; that
-/// each such record was made by two ends is not said. A blob may hold anything behind its tag of 16 octets: what was sealed no record
-/// shows, nor keys, nonces and contexts. The verdict names the only turn in which the client is recorded to have sealed its
-/// credentials.
+/// `Yes` exactly where turns and log are shown right (`specs/Shown.antt`): the ends take turns from
+/// the client's first request on, each turn was given what the entry before it delivered, each did
+/// on its context only what its state permits, none but a refused one was told an error or a
+/// changed version, and each message has the fields that it owes. What two ends left of a run has
+/// all that; that each such record was made by two ends is not said. A blob may hold anything
+/// behind its tag of 16 octets: what was sealed no record shows, nor keys, nonces and contexts. The
+/// verdict names the only turn in which the client is recorded to have sealed its credentials.
 ///
-/// `No` names the first turn at fault. An entry that is missing speaks against neither its own turn nor the next; where nothing
-/// else is wrong, the number of turns says that the entries are too many or too few.
+/// `No` names the first turn at fault. An entry that is missing speaks against neither its own turn
+/// nor the next; where nothing else is wrong, the number of turns says that the entries are too
+/// many or too few.
 ///
-/// The only refusal is `InsufficientMemory`, without a status. What no clause says: the time is linear in the octets of turns and log,
-/// and the memory at most that of one of their messages.
+/// The only refusal is `InsufficientMemory`, without a status. What no clause says: the time is
+/// linear in the octets of turns and log, and the memory at most that of one of their messages.
 pub fn audit(alloc: Global, turns: &[Turn], log: &[Carried]) -> Result<Verdict, Error>
     ensures judges { IfOk result (Judges turns.now log.now) }
     ensures only { IfErr result (λ error. error ≡ memory_error) }

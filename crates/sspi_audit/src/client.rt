@@ -1,7 +1,8 @@
 //! Whether recorded bytes show a client's turn (MS-CSSP 3.1.5.1).
 ghost use Rattle.std.specs.Prelude.{◌≡◌, ◌↔◌, None, Some, IsTrue};
 ghost use Rattle.sspi_credssp.specs.Requests.{unless_empty};
-ghost use Rattle.sspi_credssp.specs.Turn.{ShowsClient, ShowsFinal, ShowsNego, ShowsProof, ShowsReply, ShowsToken};
+ghost use Rattle.sspi_credssp.specs.Turn.{ShowsClient, ShowsFinal, ShowsNego, ShowsProof};
+ghost use Rattle.sspi_credssp.specs.Turn.{ShowsReply, ShowsToken};
 
 use crate::acts::{heeds_code, heeds_version, is_own, shows_client_acts};
 use crate::fields::{is_octets, same_code, same_nonce, same_octets};
@@ -12,7 +13,10 @@ use sspi_types::{Bytes, SecurityStatus};
 
 /// The delivered request, but for the version and the token.
 pub(crate) fn is_token_reply(reply: &TsRequest, delivered: &TsRequest, token: &Bytes) -> bool
-    ensures { IsTrue result ↔ (reply.now ≡ record delivered.now { version = reply.now.version; nego_tokens = Some token.now }) }
+    ensures { IsTrue result ↔ (reply.now ≡ record delivered.now {
+      version = reply.now.version;
+      nego_tokens = Some token.now;
+    }) }
 {
     is_octets(&reply.nego_tokens, token)
         && same_octets(&reply.auth_info, &delivered.auth_info)

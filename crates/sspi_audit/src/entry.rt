@@ -34,7 +34,8 @@ fn is_read(alloc: Global, octets: &[u8], request: &TsRequest) -> Result<bool, Er
 
 /// The delivery was taken to its end or to the limit and no further, and begins with this request.
 pub(crate) fn gives(alloc: Global, entry: &Carried, request: &TsRequest) -> Result<bool, Error>
-    ensures gives { IfOk result (λ given. IsTrue given ↔ (is_taken entry.now ≡ true) × IsRead entry.now.delivered request.now
+    ensures gives { IfOk result (λ given. IsTrue given ↔ (is_taken entry.now ≡ true) ×
+        IsRead entry.now.delivered request.now
         × (length entry.now.delivered ≤ delivery_limit)) }
     ensures only { IfErr result (λ error. error ≡ memory_error) }
 {

@@ -1,4 +1,5 @@
-//! Whether the fields of requests are equal. The nonce is read behind a slice, which keeps its length.
+//! Whether the fields of requests are equal. The nonce is read behind a slice, which keeps its
+//! length.
 ghost use Rattle.std.specs.Prelude.{◌≡◌, ◌↔◌, None, Some, IsTrue};
 ghost use Rattle.sspi_credssp.specs.Requests.{IsLong, is_code};
 

@@ -21,5 +21,10 @@ impl Model for Frame {
 
     ghost Value = { ShownFrame };
 
-    ghost view = { λ frame. record { state = frame.state; looks = frame.looks; noted = frame.noted; version = frame.version } };
+    ghost view = { λ frame. record {
+      state = frame.state;
+      looks = frame.looks;
+      noted = frame.noted;
+      version = frame.version;
+    } };
 }

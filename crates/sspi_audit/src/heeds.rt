@@ -4,7 +4,8 @@ ghost use Rattle.sspi_credssp.specs.Acts.{no_acts};
 ghost use Rattle.sspi_credssp.specs.Noted.{differs};
 ghost use Rattle.sspi_credssp.specs.Turn.{AtNoted, HasNonce};
 ghost use Rattle.sspi_audit.specs.Refusals.{ClientRefuses, ServerRefuses};
-ghost use Rattle.sspi_audit.specs.Run.{ClientHeeds, ErrorTells, IfRefused, ServerHeeds, TellsVersion};
+ghost use Rattle.sspi_audit.specs.Run.{ClientHeeds, ErrorTells, IfRefused, ServerHeeds};
+ghost use Rattle.sspi_audit.specs.Run.{TellsVersion};
 ghost use Rattle.sspi_audit.specs.Frames.{server_note};
 
 use crate::acts::has_nonce;
@@ -16,7 +17,8 @@ use sspi_credssp::{Outcome, Turn};
 
 /// Told another version than the pinned one, an end does nothing.
 fn heeds_version(frame: &Frame, turn: &Turn) -> bool
-    ensures { IsTrue result ↔ (differs frame.now.noted turn.now.delivered.version ≡ true → turn.now.acts ≡ no_acts) }
+    ensures { IsTrue result ↔ (differs frame.now.noted turn.now.delivered.version ≡ true →
+        turn.now.acts ≡ no_acts) }
 {
     !differs(frame.noted, turn.delivered.version) || are_none(turn.acts)
 }
@@ -37,7 +39,7 @@ fn client_refusal(frame: &Frame, turn: &Turn) -> bool
     }
 }
 
-/// A client, as it stands before this turn.
+/// The state of a client before this turn.
 pub(crate) fn client_heeds(frame: &Frame, turn: &Turn) -> bool
     ensures { IsTrue result ↔ ClientHeeds frame.now turn.now }
 {
@@ -90,7 +92,7 @@ fn error_tells(frame: &Frame, turn: &Turn) -> bool
     }
 }
 
-/// A server, as it stands before this turn.
+/// The state of a server before this turn.
 pub(crate) fn server_heeds(frame: &Frame, turn: &Turn) -> bool
     ensures { IsTrue result ↔ ServerHeeds frame.now turn.now }
 {

@@ -18,20 +18,23 @@ use sspi_credssp::{CredentialsProxy, SspiContext, context_keeps_laws};
 use sspi_delegate::Link;
 use sspi_mech::{Kdc, Mechanism};
 
-/// A run of two ends is shown right: of what `delegate` leaves of two fresh ends, its turns and the
-/// entries that it added to the log, `audit` says yes, or there was no memory.
+/// A run of two ends is shown right. Where `delegate` was called with two fresh ends, `audit` says
+/// yes of its turns and of what the log grew by, or there was no memory.
 pub fn delegation_is_shown<N: Mechanism, K: Mechanism, C: CredentialsProxy>()
-    ensures { (client client2 : ClientView (SspiContext N K)) (server server2 : ServerView (SspiContext N K) C) (base log : List Carried)
-        (turns : List Turn) → IsRun (either N.REQUESTS N.meaning K.meaning) client client2 server server2 base log turns →
+    ensures { (client client2 : ClientView (SspiContext N K)) (server server2 : ServerView
+        (SspiContext N K) C) (base log : List Carried)
+        (turns : List Turn) → IsRun (either N.REQUESTS N.meaning K.meaning)
+        client client2 server server2 base log turns →
         LeavesShown base log turns }
 {
     context_keeps_laws::<N, K>();
 }
 
-/// What `delegate` promises of two fresh ends, whatever its answer, is shown as a run: of its turns
-/// and the entries that it added to the log, `audit_run` says yes, or there was no memory.
+/// What `delegate` promises of two fresh ends, whatever its answer, is shown as a run. `audit_run`
+/// says yes of its turns and of what the log grew by, or there was no memory.
 pub fn delegation_is_a_shown_run<N: Mechanism, K: Mechanism, C: CredentialsProxy, L: Link, D: Kdc>()
-    ensures { (old new : Parties (SspiContext N K) C L D) (limit : ℕ) (result : Result Delegation DelegateError) →
+    ensures { (old new : Parties (SspiContext N K) C L D) (limit : ℕ)
+        (result : Result Delegation DelegateError) →
         IsFresh old.client old.server → Delegates (either N.REQUESTS N.meaning K.meaning)
         (around_by C.meaning L.log L.edits L.faults D.told D.asked D.faults) old limit result new →
         LeavesRun (L.log old.link) (L.log new.link) new.turns }
@@ -43,6 +46,8 @@ pub fn delegation_is_a_shown_run<N: Mechanism, K: Mechanism, C: CredentialsProxy
 /// turns, none after one that ended the exchange, and turns and log belong together as those of a
 /// run whose link had carried nothing before.
 pub fn a_shown_run_is_shown()
-    ensures shown { (turns : List Turn) (log : List Carried) → IsShownRun turns log → ShownRun turns log }
-    ensures run { (turns : List Turn) (log : List Carried) → IsShownRun turns log → Alternates turns × HasLog [] turns (reverse log) }
+    ensures shown { (turns : List Turn) (log : List Carried) → IsShownRun turns log →
+        ShownRun turns log }
+    ensures run { (turns : List Turn) (log : List Carried) → IsShownRun turns log →
+        Alternates turns × HasLog [] turns (reverse log) }
 {}

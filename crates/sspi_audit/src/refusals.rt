@@ -4,8 +4,10 @@ ghost use Rattle.sspi_credssp.specs.Acts.{no_acts};
 ghost use Rattle.sspi_credssp.specs.Exchange.{BlobStops};
 ghost use Rattle.sspi_credssp.specs.Noted.{differs, OrMemory};
 ghost use Rattle.sspi_credssp.specs.ServerCause.{lacks_nonce};
-ghost use Rattle.sspi_audit.specs.Refusals.{AreUnreadable, ClientRefuses, ClientStateRefuses, ClientStops, FindsOldServer, OpenedRefused};
-ghost use Rattle.sspi_audit.specs.Refusals.{ProofRefusedBack, ServerRefuses, ServerStateRefuses, ServerStops, TokenRefused, TokenRefusedBack};
+ghost use Rattle.sspi_audit.specs.Refusals.{AreUnreadable, ClientRefuses, ClientStateRefuses};
+ghost use Rattle.sspi_audit.specs.Refusals.{ClientStops, FindsOldServer, OpenedRefused};
+ghost use Rattle.sspi_audit.specs.Refusals.{ProofRefusedBack, ServerRefuses, ServerStateRefuses};
+ghost use Rattle.sspi_audit.specs.Refusals.{ServerStops, TokenRefused, TokenRefusedBack};
 
 use crate::fields::{has_code, is_long};
 use crate::frame::Frame;
@@ -105,7 +107,7 @@ fn token_refused_back(frame: &Frame, acts: Acts, kind: ErrorKind) -> bool
     }
 }
 
-/// From version 5 on the nonce is absent.
+/// A message of a version from 5 on that has no nonce.
 fn lacks_nonce(version: u32, nonce: &Option<[u8; 32]>) -> bool
     ensures { result ≡ lacks_nonce (nat_lt version 5) nonce.now }
 {
@@ -131,7 +133,8 @@ fn are_unreadable(kind: ErrorKind) -> bool
 }
 
 fn opened_refused(turn: &Turn, kind: ErrorKind) -> bool
-    ensures { IsTrue result ↔ BlobStops turn.now.delivered.auth_info kind (λ blob. OpenedRefused turn.now.acts.opened kind) }
+    ensures { IsTrue result ↔ BlobStops turn.now.delivered.auth_info kind
+        (λ blob. OpenedRefused turn.now.acts.opened kind) }
 {
     if is_long(&turn.delivered.auth_info) {
         !turn.acts.opened || kind == ErrorKind::InsufficientMemory || are_unreadable(kind)

@@ -1,6 +1,7 @@
 //! The auditor of whole runs: what `audit` asks, and all else that recorded bytes can show of two
 //! ends.
-ghost use Rattle.std.specs.Prelude.{◌≡◌, ◌↔◌, List, length, reverse, slice_get, false, [], IsTrue, IfOk, IfErr, IfSome};
+ghost use Rattle.std.specs.Prelude.{◌≡◌, ◌↔◌, List, length, reverse, slice_get, false, [], IsTrue};
+ghost use Rattle.std.specs.Prelude.{IfOk, IfErr, IfSome};
 ghost use Rattle.sspi_credssp.specs.declared.turn.Turn.{Turn};
 ghost use Rattle.sspi_audit.specs.Run.{IsLeftBehind, LastLeft, LogEnds};
 ghost use Rattle.sspi_audit.specs.RunVerdicts.{JudgesRun};

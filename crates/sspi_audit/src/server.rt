@@ -1,7 +1,8 @@
 //! Whether recorded bytes show a server's turn (MS-CSSP 3.1.5.2).
 ghost use Rattle.std.specs.Prelude.{◌≡◌, ◌↔◌, None, Some, IsTrue};
 ghost use Rattle.sspi_credssp.specs.Requests.{error_request, error_code_of, stripped};
-ghost use Rattle.sspi_credssp.specs.Turn.{IsVersionBack, ShowsAnswer, ShowsError, ShowsNegoBack, ShowsOver, ShowsProofBack, ShowsServer};
+ghost use Rattle.sspi_credssp.specs.Turn.{IsVersionBack, ShowsAnswer, ShowsError, ShowsNegoBack};
+ghost use Rattle.sspi_credssp.specs.Turn.{ShowsOver, ShowsProofBack, ShowsServer};
 ghost use Rattle.sspi_credssp.specs.Turn.{ShowsStateBack, ShowsTokenBack};
 
 use crate::acts::{heeds_version, is_own, shows_server_acts};
@@ -44,7 +45,8 @@ fn shows_proof_back(frame: &Frame, turn: &Turn, reply: &TsRequest) -> bool
 }
 
 fn shows_over(frame: &Frame, turn: &Turn, reply: &TsRequest) -> bool
-    ensures { IsTrue result ↔ ShowsOver frame.now turn.now turn.now.delivered.pub_key_auth reply.now }
+    ensures { IsTrue result ↔
+        ShowsOver frame.now turn.now turn.now.delivered.pub_key_auth reply.now }
 {
     match turn.delivered.pub_key_auth {
         None => shows_token_back(frame, turn, reply) && !turn.output.is_empty(),
@@ -98,7 +100,8 @@ fn is_error_request(
     reply: &TsRequest,
     delivered: &TsRequest,
 ) -> bool
-    ensures { IsTrue result ↔ (reply.now ≡ error_request state reply.now.version kind delivered.now) }
+    ensures { IsTrue result ↔
+        (reply.now ≡ error_request state reply.now.version kind delivered.now) }
 {
     reply.error_code == Some(code_of(kind))
         && same_nonce(&reply.client_nonce, &delivered.client_nonce)

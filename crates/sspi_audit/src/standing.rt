@@ -1,10 +1,12 @@
-//! How an exchange stands between two of its recorded turns.
-ghost use Rattle.std.specs.Prelude.{◌≡◌, ◌↔◌, false, true, List, [], ◌∷◌, length, slice_get, IsTrue, IfOk, IfErr, IfSome};
+//! The state of an exchange between two of its recorded turns.
+ghost use Rattle.std.specs.Prelude.{◌≡◌, ◌↔◌, false, true, List, [], ◌∷◌, length, slice_get};
+ghost use Rattle.std.specs.Prelude.{IsTrue, IfOk, IfErr, IfSome};
 ghost use Rattle.sspi_credssp.specs.declared.turn.Turn.{Turn};
 ghost use Rattle.sspi_delegate.specs.Turns.{client_state, is_over, server_state};
 ghost use Rattle.sspi_delegate.specs.Log.{IsEntry};
 ghost use Rattle.sspi_delegate.specs.Turns.{AllGoOn, GoesOn, next_end};
-ghost use Rattle.sspi_audit.specs.Frames.{client_before, client_frame, server_before, server_frame, server_note, told_by};
+ghost use Rattle.sspi_audit.specs.Frames.{client_before, client_frame, server_before, server_frame};
+ghost use Rattle.sspi_audit.specs.Frames.{server_note, told_by};
 ghost use Rattle.sspi_audit.specs.Run.{HeedsPeer, RunTurn};
 ghost use Rattle.sspi_audit.specs.Shown.{HasLongBlobs, IsGiven, ShownTurn, ShowsTurn};
 ghost use Rattle.sspi_audit.specs.Standings.{client_note, Stands};
@@ -60,7 +62,8 @@ fn before(looks: bool) -> Frame
 
 /// A client as its next turn finds it, which pins the version of its second request.
 fn client_at(before: &Frame, turn: &Turn) -> Frame
-    ensures { (past : List Turn) → before.now ≡ client_before past → result ≡ client_frame past turn.now }
+    ensures { (past : List Turn) → before.now ≡ client_before past →
+        result ≡ client_frame past turn.now }
 {
     Frame {
         state: before.state,
@@ -82,7 +85,8 @@ fn client_note(looks: bool, noted: Option<u32>, version: u32) -> Option<u32>
 
 /// A server as its next turn finds it, which pins the version of its first request.
 fn server_at(before: &Frame, turn: &Turn) -> Frame
-    ensures { (past : List Turn) → before.now ≡ server_before past → result ≡ server_frame past turn.now }
+    ensures { (past : List Turn) → before.now ≡ server_before past →
+        result ≡ server_frame past turn.now }
 {
     Frame {
         state: before.state,
@@ -115,7 +119,8 @@ fn version_after(version: Option<u32>, outcome: &Outcome) -> Option<u32>
 
 /// The client's state, once it has made this turn in the state given.
 fn client_state_after(state: CredSspState, turn: &Turn) -> CredSspState
-    ensures { (past : List Turn) → state ≡ client_state past → result ≡ client_state (turn.now ∷ past) }
+    ensures { (past : List Turn) → state ≡ client_state past →
+        result ≡ client_state (turn.now ∷ past) }
 {
     match &turn.outcome {
         Outcome::Final(_) => CredSspState::Final,
@@ -137,7 +142,8 @@ fn has_ended(status: Option<SecurityStatus>) -> bool
 
 /// The server's state, once it has made this turn in the state given.
 fn server_state_after(state: CredSspState, turn: &Turn) -> CredSspState
-    ensures { (past : List Turn) → state ≡ server_state past → result ≡ server_state (turn.now ∷ past) }
+    ensures { (past : List Turn) → state ≡ server_state past →
+        result ≡ server_state (turn.now ∷ past) }
 {
     match (state, &turn.outcome) {
         (CredSspState::Final, _) => CredSspState::Final,
@@ -151,7 +157,8 @@ fn server_state_after(state: CredSspState, turn: &Turn) -> CredSspState
 
 /// The client, once it has made this turn.
 fn client_after(before: &Frame, turn: &Turn) -> Frame
-    ensures { (past : List Turn) → before.now ≡ client_before past → result ≡ client_before (turn.now ∷ past) }
+    ensures { (past : List Turn) → before.now ≡ client_before past →
+        result ≡ client_before (turn.now ∷ past) }
 {
     Frame {
         state: client_state_after(before.state, turn),
@@ -163,7 +170,8 @@ fn client_after(before: &Frame, turn: &Turn) -> Frame
 
 /// The server, once it has made this turn.
 fn server_after(before: &Frame, turn: &Turn) -> Frame
-    ensures { (past : List Turn) → before.now ≡ server_before past → result ≡ server_before (turn.now ∷ past) }
+    ensures { (past : List Turn) → before.now ≡ server_before past →
+        result ≡ server_before (turn.now ∷ past) }
 {
     Frame {
         state: server_state_after(before.state, turn),
@@ -191,11 +199,12 @@ fn has_long_blobs(turn: &Turn) -> bool
     }
 }
 
-/// What the log has for the turn after so many: it was given the delivery of the entry before its own, and its own entry is of its
-/// message.
+/// What the log has for the next turn: it was given the delivery of the entry before its
+/// own, and its own entry is of its message.
 fn is_logged(alloc: Global, place: usize, turn: &Turn, log: &[Carried]) -> Result<bool, Error>
     ensures logged { IfOk result (λ logged. (past : List Turn) → length past ≡ place →
-        (IsTrue logged ↔ IsGiven past log.now turn.now.delivered × IfSome (slice_get log.now place) (IsEntry turn.now))) }
+        (IsTrue logged ↔ IsGiven past log.now turn.now.delivered ×
+        IfSome (slice_get log.now place) (IsEntry turn.now))) }
     ensures only { IfErr result (λ error. error ≡ memory_error) }
 {
     if is_given(alloc, place, &turn.delivered, log)? {
@@ -211,7 +220,8 @@ fn is_given(
     request: &TsRequest,
     log: &[Carried],
 ) -> Result<bool, Error>
-    ensures given { IfOk result (λ given. (past : List Turn) → length past ≡ place → (IsTrue given ↔ IsGiven past log.now request.now)) }
+    ensures given { IfOk result (λ given. (past : List Turn) → length past ≡ place → (IsTrue given ↔
+        IsGiven past log.now request.now)) }
     ensures only { IfErr result (λ error. error ≡ memory_error) }
 {
     match place.checked_sub(1) {
@@ -224,7 +234,8 @@ fn is_given(
 }
 
 fn is_entered(alloc: Global, place: usize, turn: &Turn, log: &[Carried]) -> Result<bool, Error>
-    ensures entered { IfOk result (λ entered. IsTrue entered ↔ IfSome (slice_get log.now place) (IsEntry turn.now)) }
+    ensures entered { IfOk result (λ entered. IsTrue entered ↔
+        IfSome (slice_get log.now place) (IsEntry turn.now)) }
     ensures only { IfErr result (λ error. error ≡ memory_error) }
 {
     match log.get(place) {
@@ -236,7 +247,8 @@ fn is_entered(alloc: Global, place: usize, turn: &Turn, log: &[Carried]) -> Resu
 impl Standing {
     /// By what is known of its end, the next turn may be this one.
     fn shows(&self, turn: &Turn) -> bool
-        ensures { (past : List Turn) → Stands past self.now → (IsTrue result ↔ ShowsTurn turn.now.end past turn.now) }
+        ensures { (past : List Turn) → Stands past self.now → (IsTrue result ↔
+            ShowsTurn turn.now.end past turn.now) }
     {
         match turn.end {
             End::Client => shows_client(&client_at(&self.client, turn), turn),
@@ -244,7 +256,7 @@ impl Standing {
         }
     }
 
-    /// The next turn, after so many, may be this one.
+    /// This turn may be the next one.
     pub fn judges(
         &self,
         alloc: Global,
@@ -252,7 +264,8 @@ impl Standing {
         turn: &Turn,
         log: &[Carried],
     ) -> Result<bool, Error>
-        ensures judges { IfOk result (λ shown. (past : List Turn) → Stands past self.now → length past ≡ place →
+        ensures judges { IfOk result (λ shown. (past : List Turn) → Stands past self.now →
+            length past ≡ place →
             (IsTrue shown ↔ ShownTurn log.now past turn.now)) }
         ensures only { IfErr result (λ error. error ≡ memory_error) }
     {
@@ -265,7 +278,8 @@ impl Standing {
 
     /// By what is known of its end before it, this turn heeds its peer.
     fn heeds(&self, turn: &Turn) -> bool
-        ensures { (past : List Turn) → Stands past self.now → (IsTrue result ↔ HeedsPeer turn.now.end past turn.now) }
+        ensures { (past : List Turn) → Stands past self.now → (IsTrue result ↔
+            HeedsPeer turn.now.end past turn.now) }
     {
         match turn.end {
             End::Client => client_heeds(&self.client, turn),
@@ -273,7 +287,7 @@ impl Standing {
         }
     }
 
-    /// The next turn of a run, after so many, may be this one.
+    /// This turn may be the next one of a run.
     pub fn judges_run(
         &self,
         alloc: Global,
@@ -281,7 +295,8 @@ impl Standing {
         turn: &Turn,
         log: &[Carried],
     ) -> Result<bool, Error>
-        ensures judges { IfOk result (λ shown. (past : List Turn) → Stands past self.now → length past ≡ place →
+        ensures judges { IfOk result (λ shown. (past : List Turn) → Stands past self.now →
+            length past ≡ place →
             (IsTrue shown ↔ RunTurn log.now past turn.now)) }
         ensures only { IfErr result (λ error. error ≡ memory_error) }
     {
@@ -295,7 +310,8 @@ impl Standing {
     /// It is this end's turn, the exchange goes on, and its end may have made this turn.
     fn allows(&self, turn: &Turn) -> bool
         ensures { (past : List Turn) → Stands past self.now →
-            (IsTrue result ↔ (turn.now.end ≡ next_end past) × AllGoOn past × ShowsTurn turn.now.end past turn.now) }
+            (IsTrue result ↔ (turn.now.end ≡ next_end past) × AllGoOn past ×
+            ShowsTurn turn.now.end past turn.now) }
     {
         self.going && turn.end == self.next && self.shows(turn)
     }

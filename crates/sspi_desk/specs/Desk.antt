@@ -36,7 +36,7 @@ module _ {C P : Type 0} where
     pub here : session s new ≡ server
     pub others : (other : ℕ) → other ≢ s → session other new ≡ session other old
 
-  -- so many were admitted, and so many are kept
+  -- how many were admitted, and how many are kept
   pub record Counts (desk : DeskView C P) (admitted kept : ℕ) : Type 0 where
     pub admitted_is : desk.admitted ≡ admitted
     pub kept_is : length desk.kept ≡ kept

@@ -12,18 +12,21 @@ use sspi_mech::Mechanism;
 use sspi_types::Error;
 use std::alloc::Global;
 
-/// Serves these calls in their order, one answer a call; a call that is not served does not stop the later ones.
+/// Serves these calls in their order, one answer a call; a call that is not served does not stop
+/// the later ones.
 ///
-/// For each session the answers at its calls are those that its server gives alone, whatever calls of others stand between.
+/// For each session the answers at its calls are those that its server gives alone, whatever calls
+/// of others stand between.
 ///
-/// The only refusal is `InsufficientMemory`, without a status, which comes before the first call: the desk is then unchanged. Where
-/// there is no memory in a call, that call has the answer.
+/// The only refusal is `InsufficientMemory`, without a status, which comes before the first call:
+/// the desk is then unchanged. Where there is no memory in a call, that call has the answer.
 pub fn serve_all<N: Mechanism, K: Mechanism, C: CredentialsProxy>(
     alloc: Global,
     desk: &mut Desk<N, K, C>,
     calls: &[Call],
 ) -> Result<Vec<Result<Served, DeskError>>, Error>
-    ensures served { IfOk result (λ answers. ServesAll (either N.REQUESTS N.meaning K.meaning) C.meaning calls.now answers.items
+    ensures served { IfOk result (λ answers. ServesAll (either N.REQUESTS N.meaning K.meaning)
+        C.meaning calls.now answers.items
         desk.old desk.new) }
     ensures only { IfErr result (λ error. error ≡ memory_error) }
     ensures unchanged { OnErr result (desk.new ≡ desk.old) }

@@ -5,7 +5,8 @@ use sspi_credssp::CredSspServer;
 use sspi_names::AuthIdentity;
 use sspi_types::{Bytes, Error};
 
-/// A message for a session: the number that `Desk::admit` answered, and the bytes that its client sent.
+/// A message for a session: the number that `Desk::admit` answered, and the bytes that its client
+/// sent.
 #[derive(Drop)]
 pub struct Call {
     pub session: u64,
@@ -17,8 +18,8 @@ pub struct Call {
 pub enum Served {
     /// The bytes of the server's message for its client.
     Answer(Bytes),
-    /// The credentials that the client delegated, which need not be those that it authenticated with. The session is kept until it
-    /// is closed.
+    /// The credentials that the client delegated, which need not be those that it authenticated
+    /// with. The session is kept until it is closed.
     Finished(AuthIdentity),
 }
 
@@ -27,15 +28,17 @@ pub enum Served {
 pub enum DeskError {
     /// No session of this number is kept.
     NoSession,
-    /// The bytes begin with no request. `UnexpectedEof` where they end too early or their header is at fault, and else
-    /// `InvalidData`. The session is unchanged.
+    /// The bytes begin with no request. `UnexpectedEof` where they end too early or their header is
+    /// at fault, and else `InvalidData`. The session is unchanged.
     Unread(WireKind),
-    /// The server refused with this error, and these are the bytes by which it tells its client; none where their content would
-    /// pass `sspi_ber::MAX_CONTENT`, 1048576 octets.
+    /// The server refused with this error, and these are the bytes by which it tells its client;
+    /// none where their content would pass `sspi_ber::MAX_CONTENT`, 1048576 octets.
     Refused(Error, Option<Bytes>),
-    /// The content of the server's message would pass `sspi_ber::MAX_CONTENT`, 1048576 octets. The server has made its turn.
+    /// The content of the server's message would pass `sspi_ber::MAX_CONTENT`, 1048576 octets. The
+    /// server has made its turn.
     TooLong,
-    /// There was no memory. The session is unchanged where it was wanting for the request, and else as the server's turn left it.
+    /// There was no memory. The session is unchanged where it was wanting for the request, and else
+    /// as the server's turn left it.
     InsufficientMemory,
 }
 

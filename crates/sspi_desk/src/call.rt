@@ -13,13 +13,15 @@ use sspi_tsreq::TsRequest;
 use sspi_types::ErrorKind;
 use std::alloc::Global;
 
-/// One call on a server: it takes the request that the bytes begin with, and its message is encoded.
+/// One call on a server: it takes the request that the bytes begin with, and its message is
+/// encoded.
 pub(crate) fn answer<N: Mechanism, K: Mechanism, C: CredentialsProxy>(
     alloc: Global,
     server: &mut CredSspServer<N, K, C>,
     bytes: &[u8],
 ) -> Result<Served, DeskError>
-    ensures { IsServed (either N.REQUESTS N.meaning K.meaning) C.meaning server.old bytes.now result server.new }
+    ensures { IsServed (either N.REQUESTS N.meaning K.meaning)
+        C.meaning server.old bytes.now result server.new }
 {
     let request = match TsRequest::from_buffer(alloc, bytes) {
         Ok(request) => request,

@@ -1,6 +1,7 @@
 //! Many server sessions under numbers, each as if it were alone.
 
-ghost use Rattle.std.specs.Prelude.{◌≡◌, ◌==◌, ℕ, ◌+◌, ◌^◌, ◌<◌, ◌≤◌, [], length, IsSome, MatchResult};
+ghost use Rattle.std.specs.Prelude.{◌≡◌, ◌==◌, ℕ, ◌+◌, ◌^◌, ◌<◌, ◌≤◌, [], length, IsSome};
+ghost use Rattle.std.specs.Prelude.{MatchResult};
 ghost use Rattle.sspi_credssp.specs.Context.{either};
 ghost use Rattle.sspi_desk.specs.Desk.{session, IsAdmitted, IsRefusedFor, IsClosed, Serves};
 
@@ -15,8 +16,8 @@ use std::marker::Model;
 
 /// Server sessions under numbers. What one session is sent changes no other.
 ///
-/// Sessions share the limit, so one that is kept may leave no room for another, and the numbers, which tell how many were admitted.
-/// They share memory and time as well.
+/// Sessions share the limit, so one that is kept may leave no room for another, and the numbers,
+/// which tell how many were admitted. They share memory and time as well.
 #[derive(Drop)]
 pub struct Desk<N, K, C> {
     alloc: Global,
@@ -53,7 +54,8 @@ impl<N, K, C> Desk<N, K, C> {
         }
     }
 
-    /// Ends a session and hands out its server as its last call left it; `None` exactly where the session is not kept.
+    /// Ends a session and hands out its server as its last call left it; `None` exactly where the
+    /// session is not kept.
     pub fn close(&mut self, session: u64) -> Option<CredSspServer<N, K, C>>
         ensures { IsClosed session result self.old self.new }
     {
@@ -85,15 +87,17 @@ impl<N, K, C> Desk<N, K, C> {
 }
 
 impl<N: Mechanism, K: Mechanism, C: CredentialsProxy> Desk<N, K, C> {
-    /// Keeps a server as a session, whose number is that of the sessions admitted before. No number is used twice, so fewer than
-    /// 2^64 - 1 may have been admitted before, which `admitted` tells.
+    /// Keeps a server as a session, whose number is that of the sessions admitted before. No number
+    /// is used twice, so fewer than 2^64 - 1 may have been admitted before, which `admitted` tells.
     ///
-    /// `Full` exactly where `limit` sessions are kept. A refusal hands the server back and changes nothing.
+    /// It is refused as `Full` once `limit` sessions are kept, and only then. The server comes
+    /// back, and the desk is as it was.
     pub fn admit(&mut self, server: CredSspServer<N, K, C>) -> Result<u64, Turned<N, K, C>>
         requires { self.old.admitted + 1 < 2 ^ 64 }
         ensures { MatchResult result
             (λ number. IsAdmitted server number self.old self.new)
-            (λ turned. (turned.server ≡ server) × IsRefusedFor turned.why self.old × (self.new ≡ self.old)) }
+            (λ turned. (turned.server ≡ server) × IsRefusedFor turned.why self.old ×
+            (self.new ≡ self.old)) }
     {
         if self.is_full() {
             return Err(Turned {
@@ -116,13 +120,16 @@ impl<N: Mechanism, K: Mechanism, C: CredentialsProxy> Desk<N, K, C> {
 
     /// Hands bytes to a session as what its client sent, and answers what its server makes of them.
     ///
-    /// `NoSession` exactly where the session is not kept; then nothing changes. Else, each exactly there, out of memory apart:
-    /// `Answer` where the server has a message, with its bytes, and `TooLong` where the content of these would pass
-    /// `sspi_ber::MAX_CONTENT`, 1048576 octets; `Finished` where the server has the client's credentials; `Unread` where the bytes
-    /// begin with no request; `Refused` where the server refused. A session stays until it is closed, whatever it came to. What no
-    /// clause says: the time does not grow with the number of sessions.
+    /// `NoSession` exactly where the session is not kept; then nothing changes. Else, each exactly
+    /// there, out of memory apart: `Answer` where the server has a message, with its bytes, and
+    /// `TooLong` where the content of these would pass `sspi_ber::MAX_CONTENT`, 1048576 octets;
+    /// `Finished` where the server has the client's credentials; `Unread` where the bytes begin
+    /// with no request; `Refused` where the server refused. A session stays until it is closed,
+    /// whatever it came to. What no clause says: the time does not grow with the number of
+    /// sessions.
     pub fn serve(&mut self, session: u64, bytes: &[u8]) -> Result<Served, DeskError>
-        ensures { Serves (either N.REQUESTS N.meaning K.meaning) C.meaning session bytes.now result self.old self.new }
+        ensures { Serves (either N.REQUESTS N.meaning K.meaning)
+            C.meaning session bytes.now result self.old self.new }
     {
         let alloc = self.alloc;
         let Some(server) = self.sessions.get_mut(&session) else {

@@ -5,7 +5,8 @@ ghost use Rattle.std.specs.Map.{lookup};
 
 use std::collections::HashMap;
 
-/// Keeps a session under a number that none has, or hands it back. Generic, since of a type parameter dropping is one step.
+/// Keeps a session under a number that none has, or hands it back. Generic, since of a type
+/// parameter dropping is one step.
 pub(crate) fn keep<S: Drop>(
     sessions: &mut HashMap<u64, S>,
     number: u64,
@@ -15,7 +16,8 @@ pub(crate) fn keep<S: Drop>(
     ensures count { OnOk result (length sessions.new.entries ≡ length sessions.old.entries + 1) }
     ensures kept { OnOk result ((q : ℕ) → lookup (nat_eq q) sessions.new.entries
         ≡ cond (nat_eq number q) (Some session) (lookup (nat_eq q) sessions.old.entries)) }
-    ensures back { IfErr result (λ back. (back ≡ session) × (sessions.new.entries ≡ sessions.old.entries)) }
+    ensures back { IfErr result (λ back. (back ≡ session) ×
+        (sessions.new.entries ≡ sessions.old.entries)) }
 {
     match sessions.insert(number, session) {
         Ok(_) => Ok(()),

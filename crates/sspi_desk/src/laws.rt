@@ -1,4 +1,5 @@
-//! What follows of a server that serves calls one after the other. Each law is the contract of a call that does nothing.
+//! What follows of a server that serves calls one after the other. Each law is the contract of a
+//! call that does nothing.
 
 ghost use Rattle.std.specs.Prelude.{◌≡◌, ℕ, List, Result, Ok};
 ghost use Rattle.sspi_names.specs.declared.identity.AuthIdentity.{AuthIdentity};
@@ -16,11 +17,14 @@ ghost use Rattle.sspi_desk.specs.Proving.{ProvesIn};
 use sspi_credssp::CredentialsProxy;
 use sspi_mech::Mechanism;
 
-/// A session finishes only once its server checked the client's proof and proved its own key, in one call that came before
-/// (MS-CSSP 3.1.5.2), of a server that began in the authentication.
+/// A session finishes only once its server checked the client's proof and proved its own key, in
+/// one call that came before (MS-CSSP 3.1.5.2), of a server that began in the authentication.
 pub fn a_session_proves_before_it_finishes<N: Mechanism, K: Mechanism, C: CredentialsProxy>()
     ensures { let c = either N.REQUESTS N.meaning K.meaning in
-        (first old new : ServerView (SspiContext N K) C) (calls : List (List ℕ)) (answers : List (Result Served DeskError))
-        (bytes : List ℕ) (identity : AuthIdentity) → first.state ≡ states.NegoToken → Alone c C.meaning first calls answers old →
-        IsServed c C.meaning old bytes (Ok (served.Finished identity)) new → ProvesIn c C.meaning first calls answers old }
+        (first old new : ServerView (SspiContext N K) C) (calls : List (List ℕ))
+        (answers : List (Result Served DeskError))
+        (bytes : List ℕ) (identity : AuthIdentity) → first.state ≡ states.NegoToken →
+        Alone c C.meaning first calls answers old →
+        IsServed c C.meaning old bytes (Ok (served.Finished identity)) new →
+        ProvesIn c C.meaning first calls answers old }
 {}

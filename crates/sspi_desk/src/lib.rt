@@ -1,13 +1,15 @@
 //! Many CredSSP server sessions (MS-CSSP 3.1.5) in one place, each served as if it were alone.
 //!
-//! - `Desk`: admits servers under numbers, serves their clients' messages in any order, and hands servers back.
-//! - `serve_all`: many calls in their order. To each session the answers are those of its server alone.
+//! - `Desk`: admits servers under numbers, serves their clients' messages in any order, and hands
+//!   servers back.
+//! - `serve_all`: many calls in their order. To each session the answers are those of its server
+//!   alone.
 //! - `spell`: the bytes of a message.
 //! - `laws`: that a session proves its key before it finishes.
 //!
-//! `specs/Call.antt` has one call on one server, `specs/Alone.antt` a server's calls one after the other and `specs/Proving.antt` what
-//! they show of one that finishes, `specs/Desk.antt` what a desk is and what its calls do, and `specs/All.antt` what many calls do to
-//! each session.
+//! `specs/Call.antt` has one call on one server, `specs/Alone.antt` a server's calls one after the
+//! other and `specs/Proving.antt` what they show of one that finishes, `specs/Desk.antt` what a
+//! desk is and what its calls do, and `specs/All.antt` what many calls do to each session.
 #![tactic(auto)]
 
 pub mod all;

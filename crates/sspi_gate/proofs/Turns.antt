@@ -57,7 +57,7 @@ first_on (first ∷ later) r may = ap (λ (v : ℕ). Some v) may
 
 -- ---- turns
 
--- so many turns were made, and the client's request is due
+-- this many turns were made, and the client's request is due
 pub record SoFar (done : ℕ) (up down up_now down_now : Way) (client_version server_version : Option ℕ) : Type 0 where
   pub sent : List TsRequest
   pub answered : List TsRequest

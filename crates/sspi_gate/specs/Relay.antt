@@ -29,9 +29,9 @@ pub record Passed (up down up_now down_now : Way) (sent answered : List TsReques
   pub client_version : HaveOneVersion sent
   pub server_version : HaveOneVersion answered
 
--- ---- where a relay stands once these requests were handed on
+-- ---- the state of a relay once these requests were handed on
 
--- The next request is due from the client where each of its requests was answered, and else from the server.
+-- Whose request comes next: the client's, if the server has answered them all, and otherwise the server's.
 abbrev pub IsDue : End → ℕ → ℕ → Type 0
 IsDue Client sent answered = sent ≡ answered
 IsDue Server sent answered = sent ≡ answered + 1

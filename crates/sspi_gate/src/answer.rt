@@ -34,8 +34,8 @@ pub struct GateError {
 /// Why a relay handed no further request on.
 #[derive(Clone, Copy, Debug, PartialEq, Eq)]
 pub enum GateFault {
-    /// What this end's stream has next is no request. `UnexpectedEof` where it ends too early or its header is at fault, and
-    /// else `InvalidData`.
+    /// What this end's stream has next is no request. `UnexpectedEof` where it ends too early or
+    /// its header is at fault, and else `InvalidData`.
     Bad(End, WireKind),
     /// This end's next request has another version than its first one.
     Version(End),

@@ -63,7 +63,8 @@ fn may_send(first: Option<u32>, version: u32) -> bool
     }
 }
 
-/// Reads the request of this end that these bytes are, and compares its version with that of the first.
+/// Reads the request of this end that these bytes are, and compares its version with that of the
+/// first.
 fn judge(alloc: Global, end: End, bytes: &[u8], first: Option<u32>) -> Result<Seen, GateFault>
     requires { IsWhole bytes.now }
     ensures { Judges end first bytes.now result }
@@ -82,8 +83,8 @@ fn judge(alloc: Global, end: End, bytes: &[u8], first: Option<u32>) -> Result<Se
     })
 }
 
-/// Takes the next request of this end and writes its bytes, as they came, to the other end. `first` is the version of the
-/// end's first request.
+/// Takes the next request of this end and writes its bytes, as they came, to the other end. `first`
+/// is the version of the end's first request.
 pub(crate) fn pass_next<S: Source, W: Sink>(
     alloc: Global,
     end: End,

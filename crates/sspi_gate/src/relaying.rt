@@ -9,26 +9,30 @@ use sspi_ber::{Sink, Source};
 use sspi_credssp::End;
 use std::alloc::Global;
 
-/// Hands the requests of a client on to a server and the server's on to the client, in turn, the client's first, at most
-/// `limit` of the client.
+/// Hands the requests of a client on to a server and the server's on to the client, in turn, the
+/// client's first, at most `limit` of the client.
 ///
-/// Each request is read before it is handed on, and is then written as its bytes came. A header is read byte by byte and then
-/// exactly its content, so no byte behind a request is taken, whatever the answer. No failed call hides behind another answer: each
-/// stream's count of faults is as it was, but for the one that `ReadFault` or `WriteFault` tells of. Of a request the order is: reading,
-/// grammar, version, writing; one that is refused is not written. What no clause says: memory is taken only for bytes that came, of one
-/// request at a time.
+/// Each request is read before it is handed on, and is then written as its bytes came. A header is
+/// read byte by byte and then exactly its content, so no byte behind a request is taken, whatever
+/// the answer. No failed call hides behind another answer: each stream's count of faults is as it
+/// was, but for the one that `ReadFault` or `WriteFault` tells of. Of a request the order is:
+/// reading, grammar, version, writing; one that is refused is not written. What no clause says:
+/// memory is taken only for bytes that came, of one request at a time.
 ///
-/// Ok: `Ended` where the stream of the end whose request is due is at its end; `Refused` where the server's last request
-/// carries a code other than `SUCCESS`, and then nothing more is read. Refused, each with the end at fault:
+/// Ok: `Ended` where the stream of the end whose request is due is at its end; `Refused` where the
+/// server's last request carries a code other than `SUCCESS`, and then nothing more is read.
+/// Refused, each with the end at fault:
 ///
-/// - `Bad`: what is next begins with no request. `UnexpectedEof` where it ends too early or its header is at fault, and else
-///   `InvalidData`. Header and content were taken; or the header up to the byte at fault; or all there was, if it ended sooner.
+/// - `Bad`: what is next begins with no request. `UnexpectedEof` where it ends too early or its
+///   header is at fault, and else `InvalidData`. Header and content were taken; or the header up to
+///   the byte at fault; or all there was, if it ended sooner.
 /// - `Version`: the request has another version than this end's first.
-/// - `ReadFault`, `WriteFault`: the stream from this end, or to it, failed. At `WriteFault` a prefix of the request was written,
+/// - `ReadFault`, `WriteFault`: the stream from this end, or to it, failed. At `WriteFault` a
+///   prefix of the request was written, never all of it.
+/// - `TurnsSpent`: `limit` requests of the client were handed on, each was answered, and no answer
+///   refused; at once where `limit` is 0. Nothing more is then read.
+/// - `InsufficientMemory`; a prefix of the next request may have been written, if it was read,
 ///   never all of it.
-/// - `TurnsSpent`: `limit` requests of the client were handed on, each was answered, and no answer refused; at once where
-///   `limit` is 0. Nothing more is then read.
-/// - `InsufficientMemory`; a prefix of the next request may have been written, if it was read, never all of it.
 pub fn relay<A: Source, B: Sink, C: Source, D: Sink>(
     alloc: Global,
     client_in: &mut A,

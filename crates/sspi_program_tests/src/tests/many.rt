@@ -6,7 +6,7 @@ use sspi_program::run::exit_status;
 use std::alloc::Global;
 use std::process::Abort;
 
-/// One of each remainder by eight: the logs have 5, 7, 5, 2, 4, 7, 4 and 2 entries.
+/// One of each remainder by eight. Their entries by hand: five and seven twice, four and two twice.
 const EIGHT: &str =
     "runs 8\nok 4\nclient 0\nserver 1\nread 2\nwrite 0\nlink 0\nturns 1\nmessages 36\n";
 
