@@ -41,3 +41,4 @@ pub mod ThreeTurns
 pub mod Examples
 pub mod WorkedEnds
 pub mod WorkedMatches
+pub mod LastMic

@@ -3,3 +3,4 @@ pub mod Matching
 pub mod Negotiating
 pub mod Worked
 pub mod Answered
+pub mod LastMic

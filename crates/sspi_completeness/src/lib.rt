@@ -4,6 +4,7 @@
 //! link disturbs nothing.
 #![tactic(auto)]
 
+pub mod last_mic;
 pub mod laws;
 pub mod plain;
 pub mod worked;
