@@ -55,7 +55,7 @@ no_digits radix (first ∷ digits) rest small numeral is =
     let digit : digit_value 104 < radix = subst (λ byte. digit_value byte < radix) (sym letter) numeral.1.0 in
     omega (arith, small, digit)
 
--- what stands behind the first number of an IPv4 address
+-- what follows the first number of an IPv4 address
 abbrev behind : ℕ → ℕ → ℕ → List ℕ → List ℕ
 behind b c d rest = 46 ∷ decimal b ++ (46 ∷ decimal c ++ (46 ∷ decimal d ++ rest))
 

@@ -68,7 +68,7 @@ module _ {C D P : Type 0} (c : Meaning ContextSetting C) (laws : IsContext c) (k
   abbrev last_of : TsRequest
   last_of = last_message c laws k p a b kdc_first j early it text identity alike
 
-  -- ---- where the client stands
+  -- ---- the state of the client
 
   -- the version that it is given next, and whether that is its first turn
   abbrev peer_version : ℕ → ℕ

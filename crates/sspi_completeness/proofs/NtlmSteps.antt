@@ -114,7 +114,7 @@ module _ (i : AuthIdentity) (challenge : List ℕ) where
   abbrev pub key : List ℕ
   key = key_for i challenge
 
-  -- a client that made its MIC, and took so many of the server's
+  -- a client that made its MIC, and took this many of the server's
   abbrev pub proved : List ℕ → ℕ → M
   proved own verified = hands.Ntlm (record {
     challenge = own;

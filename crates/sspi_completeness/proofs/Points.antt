@@ -92,7 +92,7 @@ module _ {C D P : Type 0} (c : Meaning ContextSetting C) (k : KdcCalls D) (p : P
     pub given_next : (i : Round) → is_last i ≡ false → given (next i) ≡ carried (down i)
     pub up_fits : (i : Round) → IsMessage (up i)
     pub down_fits : (i : Round) → is_last i ≡ false → IsMessage (down i)
-    -- where each end stands before it acts in a round
+    -- the state of each end before it acts in a round
     pub ClientAt : Round → CView → D → Type 0
     pub ServerAt : Round → SView → Type 0
     pub client_start : ClientAt start a kdc_first

@@ -104,7 +104,7 @@ abbrev pub peer_direction : M → Direction
 peer_direction (Ntlm m) = ntlm_stage.peer_direction m.stage
 peer_direction (Kerberos m) = kerberos_stage.peer_direction m.stage
 
--- an object of Kerberos, once it sealed and opened so many messages
+-- an object of Kerberos, once it sealed and opened this many messages
 abbrev pub used : KerberosState → ℕ → ℕ → KerberosState
 used m sealed unsealed = record m { protection = record m.protection { sealings = sealed; unsealings = unsealed } }
 

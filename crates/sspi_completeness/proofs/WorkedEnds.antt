@@ -1,10 +1,12 @@
 -- Ends made as an example has them match, and come to its answer.
-use Rattle.std.proofs.Common.{◌≡◌, ℕ, List, [], ◌∷◌, length, Option, None, Some, Result, refl, ap, sym, ◌∙◌, subst}
+use Rattle.std.proofs.Common.{◌≡◌, ℕ, List, [], ◌∷◌, length, Option, None, Some, Result, Ok, Err, refl, ap, sym, ◌∙◌, subst}
+use Rattle.std.specs.Prelude.{IfOk}
 use Rattle.std.proofs.Common.{arith}
 use Rattle.sspi_names.specs.declared.identity.AuthIdentity.{AuthIdentity}
 use Rattle.sspi_names.specs.Equality.{ignoring_case-equiv}
 use Rattle.sspi_names.specs.declared.network.NetworkRequest.{NetworkRequest}
 use Rattle.sspi_mech.specs.declared.step.Reply.{Reply}
+use Rattle.sspi_mech.specs.PlainKdc.{PlainKdcState}
 use Rattle.sspi_tsreq.specs.declared.mode.CredSspMode.{CredSspMode}
 use Rattle.sspi_credssp.specs.declared.mode.ClientMode.{ClientMode}
 use Rattle.sspi_credssp.specs.declared.mode.ServerMode.{ServerMode}
@@ -16,13 +18,14 @@ use Rattle.sspi_delegate.specs.declared.answer.DelegateError.{DelegateError}
 use Rattle.sspi_delegate.specs.declared.carried.Carried.{Carried}
 use Rattle.sspi_delegate.specs.declared.edit.Edit.{Edit}
 use Rattle.sspi_delegate.specs.Link.{MemoryLinkView}
-use Rattle.sspi_delegate.specs.Headline.{IsFresh}
+use Rattle.sspi_delegate.specs.Headline.{IsFresh, Parties, parties, Delegates}
 use Rattle.sspi_completeness.specs.Examples.{example_target}
 use Rattle.sspi_completeness.specs.Matching.{AreMatching, HasEntry, MatchModes, messages_of}
 use Rattle.sspi_completeness.specs.Matching.{messages_in}
 use Rattle.sspi_credssp.specs.Exchange.{delegated_as}
-use Rattle.sspi_completeness.specs.Matching.{AreWholePast, NoneFailed, none_told, IsUndisturbed, unedited}
+use Rattle.sspi_completeness.specs.Matching.{AreWholePast, NoneFailed, none_told, IsUndisturbed, unedited, NothingDisturbs}
 use Rattle.sspi_completeness.specs.Worked.{Example, IsClientOf, IsServerOf, Matches}
+use Rattle.sspi_completeness.specs.WorkedOut.{Plain, plain_meaning, kdc_told, in_memory, WorkedOut}
 use Rattle.sspi_completeness.specs.Answered.{AnswersIn}
 
 -- a table that begins with an identity has it
@@ -102,3 +105,36 @@ module _ {C : Type 0} (told : Option (ℕ → NetworkRequest → Reply)) (call m
       subst (λ (n : ℕ). AnswersIn n limit (delegated_as x.delegation x.identity) answer) counted
       (subst (λ (d : CredSspMode). AnswersIn (messages_in matched) limit (delegated_as d x.identity) answer) client_is.delegation
       (answers matched))
+
+-- what so made ends, which were run over a link without edits, leave
+pub worked_out : (x : Example) (messages limit : ℕ) (client : ClientView Plain) (server : ServerView Plain TableView) (kdc : PlainKdcState) →
+    IsClientOf x client → IsServerOf x server → Matches (kdc_told kdc) kdc.asked messages x → (link : MemoryLinkView) (edits : List Edit) →
+    link ≡ record { log = []; edits = edits; faults = 0; most = None } → edits ≡ [] →
+    (answer : Result Delegation DelegateError) (new : Parties Plain TableView MemoryLinkView PlainKdcState) →
+    (IsFresh client server → Delegates plain_meaning in_memory (parties client server link kdc []) limit answer new) →
+    ((m : AreMatching table_meaning (kdc_told kdc) kdc.asked client server) →
+    NothingDisturbs in_memory (parties client server link kdc []) new →
+    AnswersIn (messages_in m) limit (delegated_as client.settings.delegation m.identity) answer) →
+    WorkedOut x messages limit answer new
+worked_out x messages limit client server kdc client_is server_is matches link edits link_is none answer new delegates answers =
+    let told = kdc_told kdc in
+    let fresh = fresh_ends told kdc.asked messages x client server client_is server_is matches in
+    let calm : NothingDisturbs in_memory (parties client server link kdc []) new = record {
+      fresh = fresh;
+      link = undisturbed link edits link_is none;
+      proxy = none_fails told kdc.asked messages x client server client_is server_is matches;
+    } in
+    record {
+      old = parties client server link kdc [];
+      client_is = client_is;
+      server_is = server_is;
+      matching = matched told kdc.asked messages x client server client_is server_is matches;
+      undisturbed = calm;
+      delegates = delegates fresh;
+      answers = answered told kdc.asked messages x client server client_is server_is matches limit answer (λ m. answers m calm);
+    }
+
+-- what holds of each value holds of that of a result
+pub of_each : {A E : Type 0} (P : A → Type 0) (made : Result A E) → ((x : A) → P x) → IfOk made P
+of_each P (Ok x) all = all x
+of_each P (Err error) all = tt

@@ -98,7 +98,7 @@ pub data NoneFailed (failing : Option (List ℕ)) (before now : ℕ) : Type 0 wh
   none_told : failing ≡ Some [] → before < 2 ^ 64 - 1 → NoneFailed failing before now
   none_counted : IsCalm before now → NoneFailed failing before now
 
--- each entry of a log, but the oldest so many, delivers what was sent: a beginning of it, and the whole where the delivery has ended
+-- each entry of a log, but the oldest `count`, delivers what was sent: a beginning of it, and the whole where the delivery has ended
 abbrev pub AreWholePast : ℕ → List Carried → Type 0
 AreWholePast count [] = Unit {0}
 AreWholePast count (e ∷ log) = (count ≤ length log → Delivers (Some e.sent) e) × AreWholePast count log
@@ -117,7 +117,7 @@ pub record NothingDisturbs {C P L D : Type 0} (around : Around P L D) (old new :
   pub proxy : NoneFailed (around.proxy.told old.server.proxy).failing
       (around.proxy.faults old.server.proxy) (around.proxy.faults new.server.proxy)
 
--- so many messages of the client, and this identity; or there was no memory
+-- this many messages of the client, and this identity; or there was no memory
 abbrev pub ComesToOkIn : ℕ → AuthIdentity → Result Delegation DelegateError → Type 0
 ComesToOkIn messages identity (Ok delegation) = (delegation.rounds ≡ messages) × (delegation.credentials ≡ identity)
 ComesToOkIn messages identity (Err errors.InsufficientMemory) = Unit {0}

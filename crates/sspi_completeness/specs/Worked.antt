@@ -59,7 +59,7 @@ pub record IsServerOf {C : Type 0} (x : Example) (server : ServerView C TableVie
   pub least : server.settings.least ≡ x.least
   pub mode : server.settings.mode ≡ x.server
 
--- The ends match, and the client makes so many messages; `told` and `call` are what its KDC tells, and the number of its next call.
+-- The ends match, and the client makes this many messages; `told` and `call` are what its KDC tells, and the number of its next call.
 pub record Matches (told : Option (ℕ → NetworkRequest → Reply)) (call messages : ℕ) (x : Example) : Type 0 where
   pub identity_is : IsIdentity x.identity
   pub short : IsShort x.identity

@@ -1,7 +1,8 @@
-//! Completeness: what comes of a CredSSP delegation that nothing disturbs (MS-CSSP 3.1.5), between ends of the plain mechanisms.
+//! Completeness: what comes of a CredSSP delegation that nothing disturbs (MS-CSSP 3.1.5), between
+//! ends of the plain mechanisms.
 //!
-//! `specs/Matching.antt` says which ends match, `specs/Negotiating.antt` which of them that negotiate (MS-SPNG 3.1.5), and when a
-//! link disturbs nothing.
+//! `specs/Matching.antt` says which ends match, `specs/Negotiating.antt` which of them that
+//! negotiate (MS-SPNG 3.1.5), and when a link disturbs nothing.
 #![tactic(auto)]
 
 pub mod last_mic;

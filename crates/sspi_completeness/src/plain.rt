@@ -7,7 +7,8 @@ ghost use Rattle.sspi_delegate.specs.Headline.{IsFresh};
 ghost use Rattle.sspi_mech.specs.Kerberos.{kerberos_meaning};
 ghost use Rattle.sspi_mech.specs.Ntlm.{ntlm_meaning};
 ghost use Rattle.sspi_completeness.specs.Answered.{AnswersIn};
-ghost use Rattle.sspi_completeness.specs.Matching.{AreMatching, IsNtlmServer, messages_in, NothingDisturbs};
+ghost use Rattle.sspi_completeness.specs.Matching.{AreMatching, IsNtlmServer, messages_in};
+ghost use Rattle.sspi_completeness.specs.Matching.{NothingDisturbs};
 ghost use Rattle.sspi_credssp.specs.Exchange.{delegated_as};
 
 use sspi_credssp::{CredSspClient, CredSspServer, CredentialsProxy};
@@ -15,16 +16,18 @@ use sspi_delegate::{DelegateError, Delegation, Link, Transcript, delegate};
 use sspi_mech::{Kdc, Kerberos, Ntlm};
 use std::alloc::Global;
 
-/// `delegate` between two ends whose mechanisms are the plain ones: its promises, and what is so of these ends alone.
+/// `delegate` between two ends whose mechanisms are the plain ones: its promises, and what is so of
+/// these ends alone.
 ///
-/// Where the server does not negotiate, ends that made no call come to Ok only after three messages of the client, whatever the link
-/// delivers.
+/// Where the server does not negotiate, ends that made no call come to Ok only after three messages
+/// of the client, whatever the link delivers.
 ///
-/// Where the ends match and made no call, the link disturbs nothing and no look-up of the proxy fails, it is Ok with the identity that
-/// the client seals, or there was no memory. The client then makes three messages without a negotiation. In a negotiation it makes
-/// four, where the server picks the mechanism that the client began with, be that NTLM or Kerberos, and five, where the client began
-/// with Kerberos and the server picks NTLM. Where `limit` allows the client fewer messages, the turns are spent, or there was no
-/// memory.
+/// Where the ends match and made no call, the link disturbs nothing and no look-up of the proxy
+/// fails, it is Ok with the identity that the client seals, or there was no memory. The client then
+/// makes three messages without a negotiation. In a negotiation it makes four, where the server
+/// picks the mechanism that the client began with, be that NTLM or Kerberos, and five, where the
+/// client began with Kerberos and the server picks NTLM. Where `limit` allows the client fewer
+/// messages, the turns are spent, or there was no memory.
 pub fn delegate_plainly<C: CredentialsProxy, L: Link, D: Kdc>(
     alloc: Global,
     client: &mut CredSspClient<Ntlm, Kerberos>,
@@ -35,7 +38,8 @@ pub fn delegate_plainly<C: CredentialsProxy, L: Link, D: Kdc>(
     transcript: &mut Transcript,
 ) -> Result<Delegation, DelegateError>
     // What `delegate` promises.
-    ensures delegates { IsFresh client.old server.old → Delegates (either 0 ntlm_meaning kerberos_meaning)
+    ensures delegates { IsFresh client.old server.old →
+        Delegates (either 0 ntlm_meaning kerberos_meaning)
         (around_by C.meaning L.log L.edits L.faults D.told D.asked D.faults)
         (parties client.old server.old link.old kdc.old []) limit result
         (parties client.new server.new link.new kdc.new transcript.new.turns) }
@@ -49,11 +53,13 @@ pub fn delegate_plainly<C: CredentialsProxy, L: Link, D: Kdc>(
     // How many messages are too few, and to what ends that match come.
     ensures three { IsNtlmServer server.old.settings.mode → IsFresh client.old server.old →
         IfOk result (λ delegation. 3 ≤ delegation.rounds) }
-    ensures matched { (matching : AreMatching C.meaning (D.told kdc.old) (D.asked kdc.old) client.old server.old) →
+    ensures matched { (matching : AreMatching C.meaning (D.told kdc.old) (D.asked kdc.old)
+        client.old server.old) →
         NothingDisturbs (around_by C.meaning L.log L.edits L.faults D.told D.asked D.faults)
         (parties client.old server.old link.old kdc.old [])
         (parties client.new server.new link.new kdc.new transcript.new.turns) →
-        AnswersIn (messages_in matching) limit (delegated_as client.old.settings.delegation matching.identity) result }
+        AnswersIn (messages_in matching) limit
+        (delegated_as client.old.settings.delegation matching.identity) result }
 {
     delegate(alloc, client, server, link, kdc, limit, transcript)
 }

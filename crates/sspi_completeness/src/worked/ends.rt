@@ -1,23 +1,22 @@
 //! The ends of an exchange, and one that is run between them.
 
-ghost use Rattle.std.specs.Prelude.{◌≡◌, ◌∷◌, [], ℕ, Result, Ok, Err, IfOk, IfErr};
+ghost use Rattle.std.specs.Prelude.{◌≡◌, ◌∷◌, [], ℕ, Ok, IfOk};
 ghost use Rattle.sspi_names.specs.declared.identity.AuthIdentity.{AuthIdentity};
-ghost use Rattle.sspi_credssp.specs.Exchange.{delegated_as};
 ghost use Rattle.sspi_completeness.specs.Worked.{Example, IsClientOf, IsServerOf, Matches};
-ghost use Rattle.sspi_completeness.specs.Answered.{AnswersIn};
+ghost use Rattle.sspi_completeness.specs.WorkedOut.{IsWorked, kdc_told};
 
 use crate::plain::delegate_plainly;
 use sspi_credssp::{ClientMode, CredSspClient, CredSspMode, CredSspServer, ServerMode, TableProxy};
 use sspi_delegate::{DelegateError, Delegation, MemoryLink, Transcript};
-use sspi_mech::{Kdc, Kerberos, Ntlm};
+use sspi_mech::{Kerberos, Ntlm, PlainKdc};
 use sspi_names::{AuthIdentity, Credentials};
 use std::alloc::{AllocError, Global};
 
 /// The client of an example.
-pub(crate) type Client = CredSspClient<Ntlm, Kerberos>;
+pub type Client = CredSspClient<Ntlm, Kerberos>;
 
-/// The server of an example.
-pub(crate) type Server = CredSspServer<Ntlm, Kerberos, TableProxy>;
+/// The server of an example, whose proxy is a table.
+pub type Server = CredSspServer<Ntlm, Kerberos, TableProxy>;
 
 /// Both values, or that there was no memory for one of them.
 pub(crate) fn pair<A: Drop, B: Drop>(
@@ -39,8 +38,10 @@ pub(crate) fn client_of(
     least: u32,
     mode: Result<ClientMode, AllocError>,
 ) -> Result<Client, AllocError>
-    ensures { (x : Example) → IfOk key (λ key. key.items ≡ x.key) → IfOk identity (λ identity. identity ≡ x.identity) →
-        delegation ≡ x.delegation → version ≡ x.client_version → least ≡ x.least → IfOk mode (λ mode. mode ≡ x.client) →
+    ensures { (x : Example) → IfOk key (λ key. key.items ≡ x.key) →
+        IfOk identity (λ identity. identity ≡ x.identity) →
+        delegation ≡ x.delegation → version ≡ x.client_version → least ≡ x.least →
+        IfOk mode (λ mode. mode ≡ x.client) →
         IfOk result (IsClientOf x) }
 {
     let target = String::from_str(alloc, "TERMSRV/host.example.com");
@@ -67,8 +68,10 @@ pub(crate) fn server_of(
     least: u32,
     mode: Result<ServerMode, AllocError>,
 ) -> Result<Server, AllocError>
-    ensures { (x : Example) → IfOk key (λ key. key.items ≡ x.key) → IfOk identity (λ identity. identity ≡ x.identity) →
-        version ≡ x.server_version → least ≡ x.least → IfOk mode (λ mode. mode ≡ x.server) → IfOk result (IsServerOf x) }
+    ensures { (x : Example) → IfOk key (λ key. key.items ≡ x.key) →
+        IfOk identity (λ identity. identity ≡ x.identity) →
+        version ≡ x.server_version → least ≡ x.least → IfOk mode (λ mode. mode ≡ x.server) →
+        IfOk result (IsServerOf x) }
 {
     let ((key, proxy), mode) = pair(pair(key, proxy_of(alloc, identity)), mode)?;
     let server = CredSspServer::new_with_version(alloc, key, proxy, version, mode);
@@ -81,7 +84,12 @@ fn proxy_of(
     identity: Result<AuthIdentity, AllocError>,
 ) -> Result<TableProxy, AllocError>
     ensures { (known : AuthIdentity) → IfOk identity (λ identity. identity ≡ known) →
-        IfOk result (λ proxy. proxy ≡ record { entries = known ∷ []; failing = []; calls = 0; faults = 0 }) }
+        IfOk result (λ proxy. proxy ≡ record {
+          entries = known ∷ [];
+          failing = [];
+          calls = 0;
+          faults = 0;
+        }) }
 {
     let entries = alone(alloc, identity)?;
     Ok(TableProxy::new(alloc, entries, Vec::new(alloc)))
@@ -92,7 +100,8 @@ pub(crate) fn alone<T: Drop>(
     alloc: Global,
     value: Result<T, AllocError>,
 ) -> Result<Vec<T>, AllocError>
-    ensures { (x : T) → IfOk value (λ value. value ≡ x) → IfOk result (λ list. list.items ≡ x ∷ []) }
+    ensures { (x : T) → IfOk value (λ value. value ≡ x) →
+        IfOk result (λ list. list.items ≡ x ∷ []) }
 {
     let value = value?;
     let mut list = Vec::new(alloc);
@@ -100,58 +109,36 @@ pub(crate) fn alone<T: Drop>(
     Ok(list)
 }
 
+/// An exchange that was run: what it came to, and what took part in it as it is then.
+#[derive(Drop)]
+pub struct Exchanged<C, S> {
+    pub answer: Result<Delegation, DelegateError>,
+    pub client: C,
+    pub server: S,
+    pub kdc: PlainKdc,
+    pub link: MemoryLink,
+    pub transcript: Transcript,
+}
+
+/// An exchange that was worked by hand.
+pub type Worked = Exchanged<Client, Server>;
+
 /// What an exchange is run between: both ends, and the KDC that the client may ask.
 #[derive(Drop)]
-struct Ends<C, S, D> {
+struct Ends<C, S> {
     client: C,
     server: S,
-    kdc: D,
-}
-
-/// What comes to an answer when it is run.
-trait Runs: Drop {
-    ghost use Rattle.std.specs.Prelude.{ℕ, Result};
-    ghost use Rattle.sspi_delegate.specs.declared.answer.Delegation.{Delegation};
-    ghost use Rattle.sspi_delegate.specs.declared.answer.DelegateError.{DelegateError};
-
-    // what it answers, where the client may make so many messages
-    ghost Answers: { Self → ℕ → Result Delegation DelegateError → Type 0 };
-
-    fn run(&mut self, alloc: Global, limit: u32) -> Result<Delegation, DelegateError>
-        ensures { Answers self.old limit result };
-}
-
-impl<D: Kdc + Drop> Runs for Ends<Client, Server, D> {
-    ghost use Rattle.std.specs.Prelude.{ℕ};
-    ghost use Rattle.sspi_credssp.specs.Exchange.{delegated_as};
-    ghost use Rattle.sspi_completeness.specs.Worked.{Example, IsClientOf, IsServerOf, Matches};
-    ghost use Rattle.sspi_completeness.specs.Answered.{AnswersIn};
-
-    ghost Answers = { λ ends limit answer. (x : Example) → (messages : ℕ) → IsClientOf x ends.client → IsServerOf x ends.server →
-        Matches (D.told ends.kdc) (D.asked ends.kdc) messages x → AnswersIn messages limit (delegated_as x.delegation x.identity) answer };
-
-    fn run(&mut self, alloc: Global, limit: u32) -> Result<Delegation, DelegateError> {
-        let mut link = MemoryLink::new(alloc, Vec::new(alloc));
-        let mut transcript = Transcript::new(alloc);
-        delegate_plainly(
-            alloc,
-            &mut self.client,
-            &mut self.server,
-            &mut link,
-            &mut self.kdc,
-            limit,
-            &mut transcript,
-        )
-    }
+    kdc: PlainKdc,
 }
 
 /// All three, or that there was no memory for one of them.
-fn make_ends<C: Drop, S: Drop, D: Drop>(
+fn make_ends<C: Drop, S: Drop>(
     client: Result<C, AllocError>,
     server: Result<S, AllocError>,
-    kdc: Result<D, AllocError>,
-) -> Result<Ends<C, S, D>, AllocError>
-    ensures { IfOk result (λ ends. (client ≡ Ok ends.client) × (server ≡ Ok ends.server) × (kdc ≡ Ok ends.kdc)) }
+    kdc: Result<PlainKdc, AllocError>,
+) -> Result<Ends<C, S>, AllocError>
+    ensures { IfOk result (λ ends. (client ≡ Ok ends.client) × (server ≡ Ok ends.server) ×
+        (kdc ≡ Ok ends.kdc)) }
 {
     let ((client, server), kdc) = pair(pair(client, server), kdc)?;
     Ok(Ends {
@@ -161,32 +148,51 @@ fn make_ends<C: Drop, S: Drop, D: Drop>(
     })
 }
 
-/// What comes of it when it is run, where there was memory for it.
-fn answer_of<R: Runs>(
-    alloc: Global,
-    made: Result<R, AllocError>,
-    limit: u32,
-) -> Result<Delegation, DelegateError>
-    ensures made { IfOk made (λ made. R.Answers made limit result) }
-    ensures unmade { IfErr made (λ error. result ≡ Err DelegateError.InsufficientMemory) }
+/// Runs an exchange of these two ends in memory, over a link that changes nothing.
+fn carry_out(alloc: Global, ends: Ends<Client, Server>, limit: u32) -> Worked
+    ensures { (x : Example) → (messages : ℕ) → IsClientOf x ends.client → IsServerOf x ends.server →
+        Matches (kdc_told ends.kdc) ends.kdc.asked messages x → IsWorked x messages limit result }
 {
-    match made {
-        Ok(mut made) => made.run(alloc, limit),
-        Err(_) => Err(DelegateError::InsufficientMemory),
+    let Ends {
+        mut client,
+        mut server,
+        mut kdc,
+    } = ends;
+    let mut link = MemoryLink::new(alloc, Vec::new(alloc));
+    let mut transcript = Transcript::new(alloc);
+    let answer = delegate_plainly(
+        alloc,
+        &mut client,
+        &mut server,
+        &mut link,
+        &mut kdc,
+        limit,
+        &mut transcript,
+    );
+    Exchanged {
+        answer,
+        client,
+        server,
+        kdc,
+        link,
+        transcript,
     }
 }
 
-/// An exchange of these two ends in memory, over a link that changes nothing.
-pub(crate) fn run<D: Kdc + Drop>(
+/// An exchange of these two ends in memory, over a link that changes nothing; or there was no
+/// memory for one of them.
+pub(crate) fn run(
     alloc: Global,
     client: Result<Client, AllocError>,
     server: Result<Server, AllocError>,
-    kdc: Result<D, AllocError>,
+    kdc: Result<PlainKdc, AllocError>,
     limit: u32,
-) -> Result<Delegation, DelegateError>
-    ensures { (x : Example) → (messages : ℕ) → IfOk client (IsClientOf x) → IfOk server (IsServerOf x) →
-        IfOk kdc (λ kdc. Matches (D.told kdc) (D.asked kdc) messages x) →
-        AnswersIn messages limit (delegated_as x.delegation x.identity) result }
+) -> Result<Worked, AllocError>
+    ensures { (x : Example) → (messages : ℕ) → IfOk client (IsClientOf x) →
+        IfOk server (IsServerOf x) →
+        IfOk kdc (λ kdc. Matches (kdc_told kdc) kdc.asked messages x) →
+        IfOk result (IsWorked x messages limit) }
 {
-    answer_of(alloc, make_ends(client, server, kdc), limit)
+    let ends = make_ends(client, server, kdc)?;
+    Ok(carry_out(alloc, ends, limit))
 }

@@ -1,12 +1,15 @@
 //! What the ends of the examples are made of.
 
-ghost use Rattle.std.specs.Prelude.{◌≡◌, ℕ, List, Option, IfOk, IsSome, Some, None, codes, replicate};
+ghost use Rattle.std.specs.Prelude.{◌≡◌, ℕ, List, Option, IfOk, IsSome, Some, None, codes};
+ghost use Rattle.std.specs.Prelude.{replicate};
 ghost use Rattle.sspi_names.specs.Name.{parse_name};
 ghost use Rattle.sspi_names.specs.declared.kdc_table.KdcEntry.{KdcEntry};
 ghost use Rattle.sspi_negotiate.specs.declared.protocol_config.ProtocolConfig.{ProtocolConfig};
-ghost use Rattle.sspi_completeness.specs.Worked.{client_ntlm, server_ntlm, realm_table, negotiation};
+ghost use Rattle.sspi_completeness.specs.Worked.{client_ntlm, server_ntlm, realm_table};
+ghost use Rattle.sspi_completeness.specs.Worked.{negotiation};
 ghost use Rattle.sspi_completeness.specs.Answered.{ann};
-ghost use Rattle.sspi_completeness.specs.Worked.{with_ntlm, with_kerberos, with_ticket, with_ntlm_alone};
+ghost use Rattle.sspi_completeness.specs.Worked.{with_ntlm, with_kerberos, with_ticket};
+ghost use Rattle.sspi_completeness.specs.Worked.{with_ntlm_alone};
 ghost use Rattle.sspi_completeness.specs.Worked.{computer, realm_kerberos, realm_kdc};
 
 use crate::worked::ends::{alone, pair};
@@ -37,7 +40,8 @@ pub(crate) fn identity_of(
     password: &str,
 ) -> Result<AuthIdentity, AllocError>
     requires { IsSome (parse_name name.now) }
-    ensures { IfOk result (λ identity. (parse_name name.now ≡ Some identity.username) × (identity.password.value ≡ password.now)) }
+    ensures { IfOk result (λ identity. (parse_name name.now ≡ Some identity.username) ×
+        (identity.password.value ≡ password.now)) }
 {
     let (username, password) = pair(name_of(alloc, name), Text::from_text(alloc, password))?;
     Ok(AuthIdentity {
@@ -91,7 +95,8 @@ fn negotiation(
     packages: Result<Option<Text>, AllocError>,
     kdcs: Result<KdcTable, AllocError>,
 ) -> Result<NegotiateConfig, AllocError>
-    ensures { (p : ProtocolConfig) → (names : Option (List ℕ)) → (table : List KdcEntry) → IfOk first (λ first. first ≡ p) →
+    ensures { (p : ProtocolConfig) → (names : Option (List ℕ)) → (table : List KdcEntry) →
+        IfOk first (λ first. first ≡ p) →
         IfOk packages (λ packages. packages ≡ names) → IfOk kdcs (λ kdcs. kdcs ≡ table) →
         IfOk result (λ config. config ≡ negotiation p names table) }
 {
@@ -163,7 +168,8 @@ pub(crate) fn client_with_kerberos(alloc: Global) -> Result<ClientMode, AllocErr
 }
 
 fn server_kerberos(alloc: Global) -> Result<ProtocolConfig, AllocError>
-    ensures { IfOk result (λ first. first ≡ ProtocolConfig.KerberosServer realm_kerberos (record { ticket = Some (replicate 32 0x11) })) }
+    ensures { IfOk result (λ first. first ≡ ProtocolConfig.KerberosServer realm_kerberos
+        (record { ticket = Some (replicate 32 0x11) })) }
 {
     let ticket = KerberosServerConfig {
         ticket: Some([0x11; 32]),

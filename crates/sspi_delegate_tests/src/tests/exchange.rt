@@ -15,7 +15,8 @@ use sspi_types::{Error, ErrorKind, NStatusCode, Secret, Text};
 use std::alloc::{AllocError, Global};
 use std::process::Abort;
 
-/// The five messages of `DOM\ann` with the password `pw` and the key 010203: two tokens, two proofs and the credentials.
+/// The five messages of `DOM\ann` with the password `pw` and the key 010203: two tokens, two proofs
+/// and the credentials.
 fn plain_messages() -> [&'static str; 5] {
     [
         "3011a003020106a10a30083006a00404024e31",
@@ -30,7 +31,8 @@ fn plain_messages() -> [&'static str; 5] {
     ]
 }
 
-/// The messages of a client of version 4 with a key of 270 bytes, whose proof is altered for a server of version 6.
+/// The messages of a client of version 4 with a key of 270 bytes, whose proof is altered for a
+/// server of version 6.
 fn mixed_messages() -> [&'static str; 4] {
     [
         "3011a003020104a10a30083006a00404024e31",
@@ -46,7 +48,7 @@ fn mixed_messages() -> [&'static str; 4] {
 /// What two ends are made of, and what their link does.
 #[derive(Clone, Copy)]
 struct Setting {
-    /// The user's name is this text, so many times.
+    /// The user's name is this text, repeated.
     user: (&'static str, usize),
     /// The bytes of the key are the numbers from the first to before the second, modulo 251.
     key: (usize, usize),
@@ -56,14 +58,14 @@ struct Setting {
     least: u32,
     turns: u32,
     edit: Option<(u32, Kind)>,
-    /// A piece has at most so many bytes.
+    /// The most bytes of a piece.
     piece: usize,
 }
 
 /// What an exchange is to answer.
 #[derive(Clone, Copy)]
 enum Wanted {
-    /// The credentials of `DOM\ann`, after so many turns of the client.
+    /// The credentials of `DOM\ann`, after this many turns of the client.
     Credentials(u32),
     /// A refusal of this kind, with this NTSTATUS code.
     Client(ErrorKind, Option<NStatusCode>),
@@ -414,7 +416,8 @@ fn an_altered_proof_is_told_to_the_client(rt: HostRuntime) {
     assert_log(&rt, link.log(), &mixed_messages(), 0);
 }
 
-/// The server tells its client that its version is too old, and the client's own least version is not asked.
+/// The server tells its client that its version is too old, and the client's own least version is
+/// not asked.
 #[test]
 fn an_old_client_is_told_so(rt: HostRuntime) {
     let setting = Setting {
@@ -441,7 +444,8 @@ fn exchange_over_a_carrier(rt: HostRuntime) {
     assert!(rt; link.log().iter().all(|entry| is_whole(entry)));
 }
 
-/// The second message is not sent, or nothing of the first one is received: a call that is tried again would succeed.
+/// The second message is not sent, or nothing of the first one is received: a call that is tried
+/// again would succeed.
 #[test]
 fn a_fault_of_the_carrier_ends_the_exchange(rt: HostRuntime) {
     for (sends_left, receives_left, turns) in [(Some(1), None, 2), (None, Some(0), 1)] {

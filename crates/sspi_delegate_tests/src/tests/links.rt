@@ -1,5 +1,7 @@
 //! What the edits of a link give, row by row, and a link over a carrier.
 
+ghost use Rattle.std.specs.Prelude.{◌≡◌, Err, OnErr};
+
 use sspi_delegate::{Carried, Carrier, Edit, EditKind, End, KeptLink, Link, LinkError, MemoryLink};
 use sspi_types::Bytes;
 use std::alloc::{AllocError, Global};
@@ -154,6 +156,27 @@ fn pieces_are_limited(rt: HostRuntime) {
     }
 }
 
+/// Carries a message. Out of memory leaves a link in memory as it was.
+fn carry_or_keep(link: &mut MemoryLink, from: End, sent: &[u8]) -> Result<(), LinkError>
+    ensures { result ≡ Err LinkError.InsufficientMemory → link.new ≡ link.old }
+{
+    link.carry(from, sent)
+}
+
+/// Hands out the next bytes. Each refusal leaves a link in memory as it was.
+fn piece_or_keep(link: &mut MemoryLink, into: &mut [u8]) -> Result<usize, LinkError>
+    ensures { OnErr result (link.new ≡ link.old) }
+{
+    link.piece(into)
+}
+
+#[test]
+fn a_link_in_memory_is_kept(rt: HostRuntime) {
+    let mut link = MemoryLink::new(rt.alloc(), Vec::new(rt.alloc()));
+    assert_eq!(rt; carry_or_keep(&mut link, End::Client, b"abc"), Ok(()));
+    assert_eq!(rt; piece_or_keep(&mut link, &mut [0u8; 4]), Ok(3));
+}
+
 fn has_failed(rt: &impl Abort, answer: Result<Vec<Bytes>, LinkError>) {
     match answer {
         Ok(_) => assert!(rt; false),
@@ -181,7 +204,7 @@ pub struct Echo {
     faults: u64,
 }
 
-/// A carrier whose `send` fails once, after so many, and whose `receive` does.
+/// A carrier whose `send` and `receive` each fail once, after the given number of calls.
 pub fn echoing(alloc: Global, sends_left: Option<u32>, receives_left: Option<u32>) -> Echo {
     Echo {
         text: Bytes::new(alloc),

@@ -3,7 +3,7 @@ use Rattle.std.specs.Prelude.{IfOk}
 use Rattle.sspi_completeness.proofs.worked.exchange.Goals as goal
 
 pub returns : goal.returns
-returns g c x messages key_is name_is password_is delegation_is client_version_is server_version_is least_is client_is server_is matches =
+returns c x messages key_is name_is password_is delegation_is client_version_is server_version_is least_is client_is server_is matches =
     c.run.ensures x messages
     (c.client_of-client.ensures x (subst (λ (key : List ℕ). IfOk c.from_slice.result (λ copied. copied.items ≡ key)) key_is
     c.from_slice.ensures.items)
