@@ -77,11 +77,11 @@ fn push_request(
         lines_of (request_told request_page (spot message.now (length message.now)))) }
 {
     push_first(alloc, text, mark, "TSRequest", message)?;
-    let mut page = Page::new(alloc, Form::Request, Depth::One);
+    let mut page = Page::new(alloc, Form::Request, Depth::One)?;
     let mut place = Place::new(message, message.len());
     match tell_request(&mut page, &mut place) {
-        Ok(()) => text.extend_from_slice(&page.text),
-        Err(Stop::Refused(_)) => text.extend_from_slice(&page.text),
+        Ok(()) => text.extend_from_slice(page.text.as_bytes()),
+        Err(Stop::Refused(_)) => text.extend_from_slice(page.text.as_bytes()),
         Err(Stop::OutOfMemory) => Err(AllocError),
     }
 }
@@ -97,11 +97,11 @@ fn push_token(
         other_text mark.now (Some kind) message.now) }
 {
     push_first(alloc, text, mark, kind.name(), message)?;
-    let mut page = Page::new(alloc, Form::Token, Depth::One);
+    let mut page = Page::new(alloc, Form::Token, Depth::One)?;
     let mut place = Place::new(message, message.len());
     match tell_token(&mut page, &mut place, kind) {
-        Ok(()) => text.extend_from_slice(&page.text),
-        Err(Stop::Refused(_)) => text.extend_from_slice(&page.text),
+        Ok(()) => text.extend_from_slice(page.text.as_bytes()),
+        Err(Stop::Refused(_)) => text.extend_from_slice(page.text.as_bytes()),
         Err(Stop::OutOfMemory) => Err(AllocError),
     }
 }

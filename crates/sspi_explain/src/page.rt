@@ -1,5 +1,5 @@
 //! The page that an explanation is written on.
-ghost use Rattle.std.specs.Prelude.{◌≡◌, OnOk, []};
+ghost use Rattle.std.specs.Prelude.{◌≡◌, OnOk, IfOk, []};
 ghost use Rattle.sspi_explain.specs.Page.{refused, with_content, with_field, with_ignored};
 ghost use Rattle.sspi_explain.specs.Page.{with_line, with_text};
 ghost use Rattle.sspi_explain.specs.Told.{fault_of, IsRefused};
@@ -9,7 +9,11 @@ use crate::field::{Field, Form};
 use crate::stop::{Fault, Stop};
 use crate::texts::content_text;
 use std::alloc::{AllocError, Global};
+use std::fmt::Write;
 use std::marker::Model;
+
+/// How many bytes the lines of most messages take at most.
+const ROOM: usize = 512;
 
 /// What is told so far of a message, and how its fields are told.
 #[derive(Drop)]
@@ -17,27 +21,30 @@ pub(crate) struct Page {
     pub alloc: Global,
     pub form: Form,
     pub depth: Depth,
-    pub text: Vec<u8>,
+    pub text: String,
 }
 
 impl Model for Page {
+    ghost use Rattle.std.specs.Prelude.{string_bytes};
     ghost use Rattle.sspi_explain.specs.Page.{Sheet};
 
     ghost Value = { Sheet };
 
-    ghost view = { λ page. record { form = page.form; depth = page.depth; text = page.text.items } };
+    ghost view = { λ page.
+        record { form = page.form; depth = page.depth; text = string_bytes page.text } };
 }
 
 impl Page {
-    pub fn new(alloc: Global, form: Form, depth: Depth) -> Page
-        ensures { result ≡ record { form = form; depth = depth; text = [] } }
+    pub fn new(alloc: Global, form: Form, depth: Depth) -> Result<Page, AllocError>
+        ensures { IfOk result
+            (λ page. page ≡ record { form = form; depth = depth; text = [] }) }
     {
-        Page {
+        Ok(Page {
             alloc,
             form,
             depth,
-            text: Vec::new(alloc),
-        }
+            text: String::with_capacity(alloc, ROOM)?,
+        })
     }
 
     /// A line: its indentation, an offset, and what stands there.
@@ -45,15 +52,14 @@ impl Page {
         ensures { OnOk result (self.new ≡ with_line depth at said.now self.old) }
     {
         let blanks = depth.blanks();
-        let line = format!(in self.alloc; "{blanks}{at} {said}\n")?;
-        self.text.extend_from_slice(line.as_bytes())
+        write!(self.text, "{blanks}{at} {said}\n")
     }
 
     /// Lines that are told elsewhere.
-    pub fn push(&mut self, text: &[u8]) -> Result<(), AllocError>
+    pub fn push(&mut self, text: &str) -> Result<(), AllocError>
         ensures { OnOk result (self.new ≡ with_text text.now self.old) }
     {
-        self.text.extend_from_slice(text)
+        self.text.push_str(text)
     }
 
     /// A field with its value.

@@ -115,7 +115,7 @@ fn tell_nested(
     at: usize,
     kind: Kind,
     content: &[u8],
-    fields: &[u8],
+    fields: &str,
 ) -> Result<(), AllocError>
     ensures { OnOk result (page.new ≡ with_fields kind fields.now at content.now page.old) }
 {
@@ -141,11 +141,11 @@ fn nested(
     kind: Kind,
     content: &[u8],
     end: usize,
-) -> Result<Option<Vec<u8>>, AllocError>
+) -> Result<Option<String>, AllocError>
     ensures { IfOk result
-        (λ fields. option_map (λ v. v.items) fields ≡ nested_fields kind content.now end) }
+        (λ fields. option_map (λ t. string_bytes t) fields ≡ nested_fields kind content.now end) }
 {
-    let mut page = Page::new(alloc, Form::Token, Depth::Two);
+    let mut page = Page::new(alloc, Form::Token, Depth::Two)?;
     let mut place = Place::new(content, end);
     match token::tell_token(&mut page, &mut place, kind) {
         Ok(()) => Ok(Some(page.text)),
