@@ -66,9 +66,9 @@ impl Page {
     pub fn field(&mut self, at: usize, field: Field, value: &str) -> Result<(), AllocError>
         ensures { OnOk result (self.new ≡ with_field at field value.now self.old) }
     {
+        let blanks = self.depth.blanks();
         let name = field.name();
-        let said = format!(in self.alloc; "{name} {value}")?;
-        self.line(self.depth, at, &said)
+        write!(self.text, "{blanks}{at} {name} {value}\n")
     }
 
     /// A field with its content.
@@ -86,9 +86,9 @@ impl Page {
         if bytes.is_empty() {
             return Ok(());
         }
+        let blanks = depth.blanks();
         let content = content_text(self.alloc, bytes)?;
-        let said = format!(in self.alloc; "ignored {content}")?;
-        self.line(depth, at, &said)
+        write!(self.text, "{blanks}{at} ignored {content}\n")
     }
 
     /// Tells that the message is refused, where and why.
@@ -111,9 +111,9 @@ impl Page {
     ) -> Result<(), AllocError>
         ensures { OnOk result (self.new ≡ refused at field (fault_of fault) why.now self.old) }
     {
+        let blanks = self.depth.blanks();
         let kind = self.form.kind(field, fault);
         let name = field.name();
-        let said = format!(in self.alloc; "refused {kind} {name}: {why}")?;
-        self.line(self.depth, at, &said)
+        write!(self.text, "{blanks}{at} refused {kind} {name}: {why}\n")
     }
 }
