@@ -1,10 +1,9 @@
 //! TSRequest (MS-CSSP 2.2.1).
-ghost use Rattle.std.specs.Prelude.{◌≡◌, ℕ, List, true, Ok, Some, option_map, Result};
+ghost use Rattle.std.specs.Prelude.{◌≡◌, ℕ, List, Ok, Some, option_map, Result};
 ghost use Rattle.sspi_ber.specs.declared.wire_kind.WireKind.{WireKind as Kind};
 ghost use Rattle.sspi_tsreq.specs.Answer.{IsAnswer};
 ghost use Rattle.sspi_tsreq.specs.Grammar.{bare};
 ghost use Rattle.sspi_tsreq.specs.Header.{request_size_at};
-ghost use Rattle.sspi_tsreq.specs.Spelling.{fits};
 ghost use Rattle.sspi_tsreq.specs.declared.request.TsRequest.{TsRequest as Message};
 ghost use Rattle.newaksu_c.specs.declared.object.Object.TheVariants as objects;
 ghost use Rattle.newaksu_c.specs.Giving.{Answers, told, items_of};
@@ -16,10 +15,8 @@ use crate::giving::{answer, give_all};
 use crate::handle::Handle;
 use crate::object::{Object, request_of};
 use crate::putting::put;
-use crate::status::{
-    ABSENT, INSUFFICIENT_MEMORY, INVALID_HANDLE, INVALID_PARAMETER, OK, wire_status,
-};
-use sspi_ber::{SliceSource, VecSink};
+use crate::status::{ABSENT, INVALID_HANDLE, INVALID_PARAMETER, OK, wire_status};
+use sspi_ber::SliceSource;
 use sspi_tsreq::TsRequest;
 use sspi_types::{Bytes, NStatusCode};
 use std::alloc::Global;
@@ -102,21 +99,8 @@ fn encoded(alloc: Global, object: &Option<Box<Object>>) -> Result<Vec<u8>, u32>
 pub(crate) fn encoded_message(alloc: Global, request: &TsRequest) -> Result<Vec<u8>, u32>
     ensures { IsEncoded (Some request.now) (items_of result) }
 {
-    match request.buffer_len() {
-        Ok(size) => encoded_request(alloc, request, size as usize),
-        Err(kind) => Err(wire_status(kind)),
-    }
-}
-
-fn encoded_request(alloc: Global, request: &TsRequest, size: usize) -> Result<Vec<u8>, u32>
-    requires { fits request.now ≡ true }
-    ensures { IsEncoded (Some request.now) (items_of result) }
-{
-    let Ok(mut sink) = VecSink::with_capacity(alloc, size) else {
-        return Err(INSUFFICIENT_MEMORY);
-    };
-    match request.encode_ts_request(&mut sink) {
-        Ok(()) => Ok(sink.into_inner()),
+    match request.encode(alloc) {
+        Ok(text) => Ok(text),
         Err(kind) => Err(wire_status(kind)),
     }
 }
