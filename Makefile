@@ -47,11 +47,9 @@ apart:
 guide:
 	@tools/guide
 
-# The built program with each of its allocations, reads and writes failing in turn; then one end at a time, over channels that are cut
-# or changed, and both over two pipes.
+# The built program with each of its allocations, reads and writes failing in turn.
 hostile:
 	@tools/hostile/faults
-	@tools/hostile/ends
 
 # The built program on 100000 scenarios that a seed draws. They take about a quarter of an hour.
 fuzz:

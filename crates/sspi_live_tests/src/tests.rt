@@ -6,4 +6,3 @@ mod pipes;
 mod recorded;
 mod serving;
 mod stage;
-mod words;
