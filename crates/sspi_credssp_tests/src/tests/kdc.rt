@@ -6,7 +6,6 @@ use crate::tests::words::{Test, given, lend, parted};
 use sspi_delegate::{DelegateError, Delegation, MemoryLink, Transcript, delegate};
 use sspi_mech::{Kdc, KdcError, Mechanism};
 use sspi_names::NetworkRequest;
-use sspi_testing::Scripted;
 use std::alloc::Global;
 
 /// What a KDC does at each call.
@@ -146,7 +145,7 @@ fn an_exchange_asks_its_kdc(rt: HostRuntime) {
     for line in EXCHANGES.lines() {
         let (word, wanted) = parted(&rt, line, " -> ");
         assert!(&rt;
-            exchanged::<Scripted<Asks, 2>>(&rt, word).as_str() == wanted,
+            exchanged::<Asks<2>>(&rt, word).as_str() == wanted,
             "{line}"
         );
     }

@@ -1,0 +1,40 @@
+//! What every test is written with.
+
+use sspi_types::Text;
+use std::alloc::Global;
+use std::process::Abort;
+
+/// What a test runs on.
+pub trait Test: Abort + Alloc<A = Global> {}
+
+impl<R: Abort + Alloc<A = Global>> Test for R {}
+
+/// Ends the test unless this holds.
+pub fn holds(rt: &impl Abort, fact: bool, what: &str) {
+    assert!(rt; fact, "{what}");
+}
+
+/// The value of a call that is not to be refused.
+pub fn given<T, E: Drop>(rt: &impl Abort, answer: Result<T, E>) -> T {
+    match answer {
+        Ok(value) => value,
+        Err(_) => rt.abort(),
+    }
+}
+
+/// Puts a value in the place of another. Generic: to drop a value of a type parameter is one step of a proof.
+pub fn put<T: Drop>(place: &mut T, value: T) {
+    *place = value;
+}
+
+pub fn text(rt: &impl Test, text: &str) -> Text {
+    given(rt, Text::from_text(rt.alloc(), text))
+}
+
+/// The first word, and what follows it.
+pub fn halves(words: &str) -> (&str, &str) {
+    match words.split_once(' ') {
+        Some(halves) => halves,
+        None => (words, ""),
+    }
+}
