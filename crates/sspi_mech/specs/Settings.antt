@@ -1,4 +1,3 @@
--- What a mechanism is made of.
 use Rattle.sspi_mech.specs.declared.config.KerberosConfig.{KerberosConfig}
 use Rattle.sspi_mech.specs.declared.config.KerberosServerConfig.{KerberosServerConfig}
 use Rattle.sspi_mech.specs.declared.config.MechConfig.{MechConfig}

@@ -1,4 +1,3 @@
--- The number of each type of a buffer.
 use Rattle.std.specs.Prelude.{ℕ}
 use Rattle.sspi_types.specs.declared.buffer_type.BufferType.{BufferType}
 use Rattle.sspi_types.specs.declared.buffer_type.BufferType.TheVariants.{

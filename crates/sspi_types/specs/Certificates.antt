@@ -1,4 +1,3 @@
--- The number of each encoding of a certificate.
 use Rattle.std.specs.Prelude.{ℕ}
 use Rattle.sspi_types.specs.declared.certificate.CertEncodingType.{CertEncodingType}
 use Rattle.sspi_types.specs.declared.certificate.CertEncodingType.TheVariants.{Pkcs7AsnEncoding, X509AsnEncoding}

@@ -1,4 +1,3 @@
--- The number of each protocol of a connection.
 use Rattle.std.specs.Prelude.{ℕ}
 use Rattle.sspi_types.specs.declared.connection.ConnectionProtocol.{ConnectionProtocol}
 use Rattle.sspi_types.specs.declared.connection.ConnectionProtocol.TheVariants.{

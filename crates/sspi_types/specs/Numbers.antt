@@ -1,4 +1,3 @@
--- What reading a number gives, by a table of numbers.
 use Rattle.std.specs.Prelude.{◌≡◌, ◌≢◌, ◌==◌, ℕ, Bool, List, map, Option, Some, IfSome, IfNone}
 
 -- What reading a number gives, where each value of K has a number: the value that has it, and `None` where none has.

@@ -1,4 +1,3 @@
--- The number of each status.
 use Rattle.std.specs.Prelude.{ℕ}
 use Rattle.sspi_types.specs.declared.security_status.SecurityStatus.{SecurityStatus}
 use Rattle.sspi_types.specs.declared.security_status.SecurityStatus.TheVariants.{Ok, ContinueNeeded, CompleteNeeded}
