@@ -1,4 +1,3 @@
-pub mod Courses
 pub mod Credentials
 pub mod Early
 pub mod Giving
@@ -7,7 +6,6 @@ pub mod Identities
 pub mod Making
 pub mod MakingServers
 pub mod Names
-pub mod Negotiating
 pub mod Owned
 pub mod Processing
 pub mod Putting
