@@ -219,7 +219,7 @@ ShowsStateBack f t NegoToken r = ShowsNegoBack f t t.acts.status r
 ShowsStateBack f t PubKeyInfo r = ShowsProofBack f t r
 ShowsStateBack f t other r = ⊥
 
--- the version of an error request: the delivered one, or the server's own; any where that is not known
+-- which version an error request has: the one that was delivered, or that of the server; any where the latter is not known
 abbrev pub IsVersionBack : Option ℕ → ℕ → ℕ → Type 0
 IsVersionBack None delivered version = Unit {0}
 IsVersionBack (Some own) delivered version = (version ≡ delivered) ⊎ (version ≡ own)

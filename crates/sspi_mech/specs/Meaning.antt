@@ -1,3 +1,4 @@
+-- What the calls of a security context do, as relations over its state.
 use Rattle.std.specs.Prelude.{ℕ, List, Option, Result, Bool}
 use Rattle.sspi_types.specs.declared.context.ContextSizes.{ContextSizes}
 use Rattle.sspi_types.specs.declared.credential_use.CredentialUse.{CredentialUse}

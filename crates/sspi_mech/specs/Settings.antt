@@ -1,3 +1,4 @@
+-- What a mechanism is made of.
 use Rattle.sspi_mech.specs.declared.config.KerberosConfig.{KerberosConfig}
 use Rattle.sspi_mech.specs.declared.config.KerberosServerConfig.{KerberosServerConfig}
 use Rattle.sspi_mech.specs.declared.config.MechConfig.{MechConfig}

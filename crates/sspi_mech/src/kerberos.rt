@@ -47,7 +47,7 @@ use std::marker::Model;
 /// configuration, else to the KDC of the realm that is the domain of the name.
 ///
 /// A server without a ticket in its configuration takes a session key alone; one with a ticket sends it where it is asked
-/// first. `set_identities` takes any list with an identity, and changes nothing.
+/// first. `set_identities` changes nothing, and takes any list that is not empty.
 ///
 /// Refusals, of which the first that holds is answered:
 /// - OutOfSequence: a step of the other role, after the end, or while the KDC is waited for; `resume` while it is not; what

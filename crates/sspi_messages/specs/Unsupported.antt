@@ -1,3 +1,4 @@
+-- The answer to a query that a package does not support.
 use Rattle.std.specs.Prelude.{None}
 use Rattle.sspi_types.specs.declared.error.Error.{Error}
 use Rattle.sspi_types.specs.declared.error_kind.ErrorKind.TheVariants.{UnsupportedFunction}

@@ -19,11 +19,11 @@ pub data Origin : Type 0 where
   Configured : ProtocolConfig → Origin
   InPlaceOfNtlm : Option (List ℕ) → List KdcEntry → List ℕ → Origin
 
--- an NTLM that takes the place of a Kerberos: its challenge is eight zero bytes
+-- NTLM that comes in for Kerberos: its challenge is eight zero bytes
 abbrev pub in_place_of_kerberos : List ℕ → Origin
 in_place_of_kerberos computer = Configured (configs.Ntlm (record { client_computer_name = Some computer; challenge = replicate 8 0 }))
 
--- a Kerberos that takes the place of an NTLM
+-- Kerberos that comes in for NTLM
 abbrev pub kerberos_setting : Option (List ℕ) → List KdcEntry → List ℕ → Setting
 kerberos_setting url kdcs computer = OfKerberos (record { kdc_url = url; kdcs = kdcs; client_computer_name = computer })
 

@@ -1,3 +1,4 @@
+-- Which identities the selected mechanism does not take.
 use Rattle.std.specs.Prelude.{Bool, true, false}
 use Rattle.sspi_names.specs.declared.credentials.Credentials.{Credentials}
 use Rattle.sspi_names.specs.declared.credentials.Credentials.TheVariants.{AuthIdentity, Keytab}

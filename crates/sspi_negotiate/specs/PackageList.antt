@@ -1,3 +1,4 @@
+-- The text that says which packages may be used.
 use Rattle.std.specs.Prelude.{ℕ, Bool, true, false, not, ◌||◌, List, [], ◌∷◌, Option, Some}
 use Rattle.std.specs.Prelude.{None, unwrap_or, ◌==◌, reverse, map, codes, if◌then◌else◌}
 use Rattle.std.specs.List.{slice_split, find, list_all}

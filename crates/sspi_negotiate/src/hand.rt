@@ -48,7 +48,7 @@ fn kerberos_config(
 }
 
 impl<N: Mechanism, K: Mechanism> NegotiatedProtocol<N, K> {
-    /// An NTLM that takes the place of a Kerberos.
+    /// NTLM that comes in for Kerberos.
     pub(crate) fn new_ntlm(alloc: Global, client_computer_name: &Text) -> Result<Self, Refusal>
         ensures made { IfOk result (λ it. (hand N.meaning K.meaning).made (in_place_of_kerberos client_computer_name.now) it) }
         ensures fresh { IfOk result (λ it. (hand N.meaning K.meaning).counts it ≡ no_counts) }
@@ -60,7 +60,7 @@ impl<N: Mechanism, K: Mechanism> NegotiatedProtocol<N, K> {
         Ok(NegotiatedProtocol::Ntlm(ntlm))
     }
 
-    /// A Kerberos that takes the place of an NTLM.
+    /// Kerberos that comes in for NTLM.
     pub(crate) fn new_kerberos(
         alloc: Global,
         kdc_url: Option<&str>,

@@ -81,7 +81,7 @@ fn picked_targ(
 impl<N: Mechanism, K: Mechanism> Negotiate<N, K> {
     /// A server's step (AcceptSecurityContext).
     ///
-    /// `OutOfSequence` on a client and after the end. `InvalidToken` for a token of another form than the state has, for a
+    /// `OutOfSequence` for a client, and once the negotiation has ended. `InvalidToken` for a token of another form than the state has, for a
     /// list that is absent or has nothing to pick, and where a MIC is missing that is needed. `NoCredentials` where no known
     /// identity has the peer's name. `InternalError` for a token past `sspi_ber::MAX_CONTENT`, 1048576 octets. Else the refusals of the
     /// selected mechanism, which may have moved then; the state stays.

@@ -22,8 +22,8 @@ use std::alloc::Global;
 ///
 /// The first delivery to the client is its start, whose octets are not read; each other delivery is a request that its end
 /// makes a turn of. Where the client's context asks a KDC, `kdc` is asked and the turn goes on with its reply; a call that fails
-/// goes on as `Reply::Failed`. An end takes nothing more after its first refusal, or after the first delivery to it that is no
-/// request: what else comes for it is passed over. A server that has finished still takes a delivery, and refuses it.
+/// goes on as `Reply::Failed`. Once an end has refused, or was handed what is no request, each later delivery to it is passed
+/// over. A server that has finished still takes a delivery, and refuses it.
 ///
 /// Ok says how each end stands, and the identity that the server opened. The only error is `InsufficientMemory`, that of an end
 /// or of the KDC among it. The transcript lets go of the turns that it held before. Whatever the answer, it then has each turn that

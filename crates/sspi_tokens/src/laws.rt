@@ -31,7 +31,7 @@ pub fn targ_reads_back()
     ensures { (token : NegTokenTarg) (text more : List ℕ) → spelled_targ token ≡ Some text → targ_of (text ++ more) ≡ Some token }
 {}
 
-/// Two mechanism lists with the same encoding are equal, so a MIC over the encoding is one over the list.
+/// An encoding is that of one mechanism list at most, so a MIC over it is one over the list.
 pub fn list_is_known_by_spelling()
     ensures { (list other : List (List ℕ)) (text : List ℕ) → spelled_list list ≡ Some text → spelled_list other ≡ Some text → list ≡ other }
 {}

@@ -109,7 +109,7 @@ fn octets_of_field<'a>(text: Text, more: u32, body: &'a [u8]) -> (&'a [u8], Plac
 }
 
 impl TsReader {
-    /// A reader that was fed nothing. Takes no memory.
+    /// An empty reader. Takes no memory.
     pub fn new(alloc: Global) -> TsReader
         ensures { Stands result [] }
     {

@@ -1,3 +1,4 @@
+-- Names and numbers of the flags of a buffer.
 use Rattle.std.specs.Prelude.{ℕ, List, [], ◌∷◌, codes}
 
 -- what may be done with a buffer (sspi.h, SECBUFFER_READONLY*)

@@ -1,3 +1,4 @@
+-- The number of each type of a buffer.
 use Rattle.std.specs.Prelude.{ℕ}
 use Rattle.sspi_types.specs.declared.buffer_type.BufferType.{BufferType}
 use Rattle.sspi_types.specs.declared.buffer_type.BufferType.TheVariants.{

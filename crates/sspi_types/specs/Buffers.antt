@@ -1,3 +1,4 @@
+-- Buffers, and how one is found among several.
 use Rattle.std.specs.Prelude.{ℕ, List, Bool, None, Option, Result, ◌==◌, slice_set}
 use Rattle.std.specs.Borrow.{LendsIf, LendsIfOk, MutBor, Fml, Array, RattleType}
 use Rattle.std.specs.Vec.{with_item}

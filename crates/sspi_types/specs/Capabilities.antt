@@ -1,3 +1,4 @@
+-- Names and numbers of what a package can do.
 use Rattle.std.specs.Prelude.{ℕ, List, [], ◌∷◌, codes}
 
 -- what a package can do (sspi.h, SECPKG_FLAG_*)

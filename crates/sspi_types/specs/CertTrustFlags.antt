@@ -1,3 +1,4 @@
+-- Names and numbers of why a certificate chain is not trusted.
 use Rattle.std.specs.Prelude.{ℕ, List, [], ◌∷◌, codes}
 
 -- why a certificate chain is not trusted (wincrypt.h, dwErrorStatus of CERT_TRUST_STATUS)

@@ -1,3 +1,4 @@
+-- The number of each encoding of a certificate.
 use Rattle.std.specs.Prelude.{ℕ}
 use Rattle.sspi_types.specs.declared.certificate.CertEncodingType.{CertEncodingType}
 use Rattle.sspi_types.specs.declared.certificate.CertEncodingType.TheVariants.{Pkcs7AsnEncoding, X509AsnEncoding}

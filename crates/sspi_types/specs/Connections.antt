@@ -1,3 +1,4 @@
+-- The number of each protocol of a connection.
 use Rattle.std.specs.Prelude.{ℕ}
 use Rattle.sspi_types.specs.declared.connection.ConnectionProtocol.{ConnectionProtocol}
 use Rattle.sspi_types.specs.declared.connection.ConnectionProtocol.TheVariants.{

@@ -1,3 +1,4 @@
+-- The number of each data representation.
 use Rattle.std.specs.Prelude.{ℕ}
 use Rattle.sspi_types.specs.declared.data_representation.DataRepresentation.{DataRepresentation}
 use Rattle.sspi_types.specs.declared.data_representation.DataRepresentation.TheVariants.{Network, Native}

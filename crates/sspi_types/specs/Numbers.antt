@@ -1,3 +1,4 @@
+-- What reading a number gives, by a table of numbers.
 use Rattle.std.specs.Prelude.{◌≡◌, ◌≢◌, ◌==◌, ℕ, Bool, List, map, Option, Some, IfSome, IfNone}
 
 -- What reading a number gives, where each value of K has a number: the value that has it, and `None` where none has.

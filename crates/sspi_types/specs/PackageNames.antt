@@ -1,3 +1,4 @@
+-- The name of each package.
 use Rattle.std.specs.Prelude.{◌≡◌, ◌⊎◌, ℕ, List, codes}
 use Rattle.sspi_types.specs.declared.package.SecurityPackageType.{SecurityPackageType}
 use Rattle.sspi_types.specs.declared.package.SecurityPackageType.TheVariants.{Ntlm, Kerberos, Negotiate, Other}

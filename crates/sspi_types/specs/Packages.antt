@@ -1,3 +1,4 @@
+-- What is known of each package.
 use Rattle.std.specs.Prelude.{Option, None, Some, codes}
 use Rattle.sspi_types.specs.declared.error.Error.{Error}
 use Rattle.sspi_types.specs.declared.error_kind.ErrorKind.TheVariants.{Unknown}

@@ -1,3 +1,4 @@
+-- Names and numbers of the flags of sealing and opening.
 use Rattle.std.specs.Prelude.{ℕ, List, [], ◌∷◌, codes}
 
 -- how a message is to be sealed (sspi.h, SECQOP_WRAP_*)

@@ -1,3 +1,4 @@
+-- The text of each reason of a refusal.
 use Rattle.std.specs.Prelude.{ℕ, List, codes}
 use Rattle.sspi_types.specs.declared.reason.Reason.{Reason}
 use Rattle.sspi_types.specs.declared.reason.Reason.TheVariants.{

@@ -1,3 +1,4 @@
+-- Names and numbers of what each end asks of its context.
 use Rattle.std.specs.Prelude.{ℕ, List, [], ◌∷◌, codes}
 
 -- what a client asks of its context (sspi.h, ISC_REQ_*)

@@ -1,3 +1,4 @@
+-- Names and numbers of what the context of each end has.
 use Rattle.std.specs.Prelude.{ℕ, List, [], ◌∷◌, codes}
 
 -- what a client's context has (sspi.h, ISC_RET_*)

@@ -1,3 +1,4 @@
+-- How a secret lends its value.
 use Rattle.std.specs.Borrow.{Lends, MutBor, Fml, RattleType}
 use Rattle.sspi_types.specs.declared.secret.Secret.{Secret}
 use Rattle.sspi_types.specs.contracts.secret.Secret.{the_row}

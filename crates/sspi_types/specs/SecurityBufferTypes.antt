@@ -1,3 +1,4 @@
+-- A buffer's type and flags as one number.
 use Rattle.std.specs.Prelude.{◌≡◌, ◌≤◌, ℕ, Result, Ok, Err}
 use Rattle.std.specs.Int.RustNames.{bit_and, bit_or}
 use Rattle.sspi_types.specs.declared.error.Error.{Error}

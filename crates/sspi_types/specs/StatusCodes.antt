@@ -1,3 +1,4 @@
+-- NTSTATUS codes, and their names.
 use Rattle.std.specs.Prelude.{ℕ, List, [], ◌∷◌, ◌++◌, Option, Some, None, false, ◌==◌, if◌then◌else◌, codes}
 use Rattle.std.specs.Fmt.{digits}
 

@@ -54,8 +54,8 @@ impl Error {
     }
 }
 
-/// Writes the kind's name, `: `, the reason's text and, where there is a status, `; status is ` and
-/// the status.
+/// Writes the name of the kind, `: ` and the text of the reason. A status follows, where there is
+/// one, behind `; status is `.
 impl fmt::Display for Error {
     ghost output = { λ error. Some (error_text error) };
 

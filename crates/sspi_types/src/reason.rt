@@ -10,7 +10,7 @@ pub enum Reason {
     ErrorStatus,
     /// The peer's version is another than in its request before.
     PeerVersion,
-    /// The peer's version is below the least that the end takes.
+    /// The peer speaks a version that is too old for the end.
     OldPeer,
     /// A request lacks `pubKeyAuth` (MS-CSSP 2.2.1) where it has to come.
     NoPubKey,
@@ -78,7 +78,7 @@ pub enum Reason {
     Proof,
     /// A tag or a MIC is not the one that the bytes have.
     Tag,
-    /// The KDC refused, or could not be asked.
+    /// A refusal of the KDC, or one that was not reached.
     Kdc,
     /// A count of calls or messages is used up.
     Spent,

@@ -7,7 +7,7 @@
 //! - `kdc answers -> ..` and `kdc fails -> ..` give a suspended client its KDC's reply, which is empty.
 //! - `see -> CHECKS` calls nothing.
 //!
-//! What came is one word of `said.rt`. Each check is a word too: `did=ACTS`, what the last call did on its context; `gave=TOKEN`,
+//! What came is one word of `said.rt`. Each check is a word too: `did=ACTS`, the effects of the last call; `gave=TOKEN`,
 //! the token of its step, which is there once; `waits=yes` or `no` and `left=N`, the client's state; and else a field of the
 //! message that came, whose names `message.rt` has: `auth-text` and `proof-text` are what stands behind the tag of a sealed blob.
 
