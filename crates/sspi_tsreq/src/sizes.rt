@@ -96,6 +96,7 @@ pub(crate) fn carried_nonce(request: &TsRequest) -> Option<&[u8; 32]>
 }
 
 /// How many bytes the fields take that are written, or a number past the limit.
+#[inline(always)]
 pub(crate) fn fields_size(request: &TsRequest) -> usize
     ensures { IsCapped result (length (fields (carried request.now))) }
 {

@@ -20,6 +20,7 @@ use sspi_types::{Bytes, NStatusCode};
 
 /// An INTEGER inside another element.
 #[tactic(auto, using(sspi_ber::proofs::Written::writing), unfolding(sspi_ber::specs::Short::element))]
+#[inline(always)]
 fn write_wrapped_integer<W: Sink>(sink: &mut W, tag: u8, value: u32) -> Result<(), WireKind>
     ensures wrote { Writes (W.written sink.old) (W.written sink.new) result (element tag (int_short value)) }
     ensures cause { WriteCause (W.faults sink.old) (W.faults sink.new) result }
@@ -162,6 +163,7 @@ fn write_fields<W: Sink>(sink: &mut W, request: &TsRequest) -> Result<(), WireKi
 
 /// The whole request, where it fits; `size` is how many bytes its fields take.
 #[tactic(auto, using(sspi_ber::proofs::Written::writing), unfolding(crate::specs::Spelling::spelled, sspi_ber::specs::Short::element))]
+#[inline(always)]
 pub(crate) fn write_request<W: Sink>(
     sink: &mut W,
     request: &TsRequest,
