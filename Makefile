@@ -47,9 +47,11 @@ apart:
 guide:
 	@tools/guide
 
-# The built program with each of its allocations, reads and writes failing in turn.
+# The built program with each of its allocations, reads and writes failing in turn; then one end at a time, over channels that are cut
+# or changed, and both over two pipes.
 hostile:
 	@tools/hostile/faults
+	@tools/hostile/ends
 
 # The built program on 100000 scenarios that a seed draws. They take about a quarter of an hour.
 fuzz:

@@ -6,3 +6,4 @@ mod pipes;
 mod recorded;
 mod serving;
 mod stage;
+mod words;

@@ -19,3 +19,4 @@ pub mod Telling
 pub mod Seats
 pub mod Desk
 pub mod Making
+pub mod Keeping

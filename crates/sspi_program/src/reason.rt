@@ -20,6 +20,8 @@ usage: sspi_run WORD, which reads standard input and writes standard output
   desk N      of a scenario: N of its clients at one desk, N from 1 to 64
   gen N       reads nothing: delegate of scenarios 0 to N - 1, N from 1 to 10000
   explain     of any text: its messages in hex, or why a reader refuses them
+  serve FILE  of the scenario of FILE: its server, whose client is elsewhere
+  connect FILE  of the scenario of FILE: its client, whose server is elsewhere
 Exit status: 0 done, 1 refused, 2 no such text, 3 no input, 4 no output,
 5 no memory, 6 other words. docs/FORMATS.md has the scenarios and the reports.
 ";
