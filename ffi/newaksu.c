@@ -1,57 +1,18 @@
 /* The host: an end of libnewaksu over the caller's mechanism, one call a message (newaksu_host.h).
  */
-#define _DEFAULT_SOURCE
-#define _DARWIN_C_SOURCE
+#include "host.h"
 
-#include "bytes.h"
-
-#include <stdlib.h>
 #include <string.h>
-#include <unistd.h>
-#ifdef __APPLE__
-#include <sys/random.h>
-#endif
 
-#define NONCE_LENGTH 32
 /* A sealed blob has at least its signature. */
 #define SIGNATURE_LENGTH 16
 
-struct newaksu_host {
-    newaksu_handle end;
-    newaksu_mechanism mechanism;
-    void *context;
-    int is_server;
-    uint32_t version;
-    int started;
-    int refused;
-    int finished;
-    newaksu_bytes send;
-    newaksu_bytes user;
-    newaksu_bytes password;
-    newaksu_refusal refusal;
-    char name[64];
-    char reason[128];
-};
-
-/* What the mechanism made of a message: what one call of process is handed beside it. */
-typedef struct findings {
-    newaksu_bytes envelope;
-    uint32_t opened_field;
-    newaksu_bytes opened;
-    uint32_t status; /* why there was no way to go on */
-} findings;
-
-/* A pointer that the archive takes, which is never null. */
-static const uint8_t *octets(const void *at) {
+const uint8_t *octets(const void *at) {
     static const uint8_t none[1];
     return at != NULL ? at : none;
 }
 
-/* What a call of the archive writes: it is asked for the size first. */
-typedef uint32_t (*writer)(newaksu_handle *handle, uint32_t which, uint8_t *out, size_t capacity,
-                           size_t *written);
-
-static uint32_t fetch(writer write, newaksu_handle *handle, uint32_t which, newaksu_bytes *bytes) {
+uint32_t fetch(writer write, newaksu_handle *handle, uint32_t which, newaksu_bytes *bytes) {
     uint8_t none[1];
     size_t size = 0;
     uint32_t status = write(handle, which, none, 0, &size);
@@ -73,8 +34,8 @@ static uint32_t write_sealing(newaksu_handle *end, uint32_t which, uint8_t *out,
     return newaksu_end_sealing(end, &field, out, capacity, written);
 }
 
-static uint32_t write_request(newaksu_handle *request, uint32_t which, uint8_t *out,
-                              size_t capacity, size_t *written) {
+uint32_t write_request(newaksu_handle *request, uint32_t which, uint8_t *out, size_t capacity,
+                       size_t *written) {
     (void)which;
     return newaksu_request_encode(request, out, capacity, written);
 }
@@ -129,22 +90,34 @@ static void envelope_of(newaksu_host *host, uint32_t status, const newaksu_bytes
     newaksu_bytes_append(envelope, output->at, output->length);
 }
 
+int step_with(newaksu_host *host, const newaksu_bytes *token, newaksu_bytes *envelope) {
+    newaksu_bytes output = {0};
+    uint32_t status =
+        host->mechanism.step(host->context, octets(token->at), token->length, &output);
+    if (output.failed)
+        status = NEWAKSU_E_INSUFFICIENT_MEMORY;
+    envelope_of(host, status, &output, envelope);
+    bytes_release(&output);
+    return status == NEWAKSU_OK;
+}
+
 /* Steps with the request's token, if it has one. 1 where the context has ended. */
 static int step(newaksu_host *host, newaksu_handle *request, findings *found) {
-    newaksu_bytes token = {0}, output = {0};
+    newaksu_bytes token = {0};
     uint32_t status = NEWAKSU_ABSENT;
+    int ended = 0;
+    if (negotiates(host))
+        return negotiate(host, request, found);
     if (request->at != NULL)
         status = fetch(newaksu_request_field, request, NEWAKSU_NEGO_TOKENS, &token);
     if (status == NEWAKSU_OK || status == NEWAKSU_ABSENT)
-        status = host->mechanism.step(host->context, octets(token.at), token.length, &output);
-    if (output.failed)
-        status = NEWAKSU_E_INSUFFICIENT_MEMORY;
-    envelope_of(host, status, &output, &found->envelope);
+        ended = step_with(host, &token, &found->envelope);
+    else
+        envelope_of(host, status, &token, &found->envelope);
     if (found->envelope.failed)
         found->status = NEWAKSU_E_INSUFFICIENT_MEMORY;
     bytes_release(&token);
-    bytes_release(&output);
-    return status == NEWAKSU_OK;
+    return ended;
 }
 
 /* Opens a field of the request. One that is absent or too short is left to the end, which says so.
@@ -228,6 +201,8 @@ static uint32_t compose(newaksu_host *host, const newaksu_bytes *blob) {
                                      size, &size);
     if (status == NEWAKSU_OK)
         host->send.length = size;
+    if (status == NEWAKSU_OK && negotiates(host))
+        status = sign_message(host);
     return status == NEWAKSU_ABSENT ? NEWAKSU_OK : status;
 }
 
@@ -308,6 +283,8 @@ static uint32_t refuse(newaksu_host *host, uint32_t status, newaksu_turn *turn) 
 /* What the turn came to, once the end had taken the message. */
 static uint32_t conclude(newaksu_host *host, uint32_t status, newaksu_turn *turn) {
     uint32_t outcome = outcome_of(host);
+    if (status == NEWAKSU_OK && negotiates(host))
+        status = go_on(host);
     if (status == NEWAKSU_OK)
         status = outcome == NEWAKSU_OUTCOME_FINISHED ? keep_identity(host) : answer(host);
     if (status != NEWAKSU_OK)
@@ -320,7 +297,10 @@ static uint32_t take(newaksu_host *host, const uint8_t *message, size_t length,
                      newaksu_handle *request, newaksu_turn *turn) {
     findings found = {{0}, 0, {0}, NEWAKSU_OK};
     uint32_t state = NEWAKSU_STATE_FINAL;
-    uint32_t status = newaksu_end_state(&host->end, &state);
+    uint32_t status;
+    if (host->is_server && !host->started && negotiates(host))
+        choose_form(host, request);
+    status = newaksu_end_state(&host->end, &state);
     if (status == NEWAKSU_OK) {
         work(host, state, request, &found);
         host->started = 1;
@@ -331,7 +311,7 @@ static uint32_t take(newaksu_host *host, const uint8_t *message, size_t length,
     return conclude(host, status, turn);
 }
 
-static int is_there(const void *at, size_t length) {
+int is_there(const void *at, size_t length) {
     return at != NULL || length == 0;
 }
 
@@ -357,121 +337,6 @@ uint32_t newaksu_host_process(newaksu_host *host, const uint8_t *message, size_t
     return status;
 }
 
-/* Making and releasing. */
-
-void newaksu_client_settings_init(newaksu_client_settings *settings) {
-    *settings = (newaksu_client_settings){
-        .version = 6, .least_version = 5, .delegation = NEWAKSU_WITH_CREDENTIALS};
-}
-
-void newaksu_server_settings_init(newaksu_server_settings *settings) {
-    *settings = (newaksu_server_settings){.version = 6, .least_version = 5};
-}
-
-static newaksu_host *new_host(const newaksu_mechanism *mechanism, void *context, int is_server,
-                              uint32_t version) {
-    newaksu_host *host = calloc(1, sizeof *host);
-    if (host == NULL)
-        return NULL;
-    host->mechanism = *mechanism;
-    host->context = context;
-    host->is_server = is_server;
-    host->version = version;
-    return host;
-}
-
-/* Hands the host out, or releases it without its context. */
-static uint32_t hand_out(newaksu_host *made, uint32_t status, newaksu_host **host) {
-    if (status == NEWAKSU_OK) {
-        *host = made;
-    } else {
-        made->mechanism.release = NULL;
-        newaksu_host_release(made);
-    }
-    return status;
-}
-
-static int has_calls(const newaksu_mechanism *mechanism) {
-    return mechanism != NULL && mechanism->step != NULL && mechanism->seal != NULL &&
-           mechanism->unseal != NULL;
-}
-
-static uint32_t make_client(newaksu_host *host, const newaksu_client_settings *settings) {
-    newaksu_client_options options = {NEWAKSU_HOST, settings->version, settings->least_version,
-                                      settings->delegation};
-    uint8_t nonce[NONCE_LENGTH];
-    uint32_t status;
-    if (settings->nonce != NULL)
-        memcpy(nonce, settings->nonce, sizeof nonce);
-    else if (getentropy(nonce, sizeof nonce) != 0)
-        return NEWAKSU_E_INTERNAL_ERROR;
-    status = newaksu_client_new(&host->end, &options, octets(settings->public_key),
-                                settings->public_key_length, octets(NULL), 0, nonce, sizeof nonce,
-                                octets(settings->user), settings->user_length,
-                                octets(settings->password), settings->password_length);
-    wipe(nonce, sizeof nonce);
-    return status;
-}
-
-uint32_t newaksu_host_client(const newaksu_client_settings *settings,
-                             const newaksu_mechanism *mechanism, void *context,
-                             newaksu_host **host) {
-    newaksu_host *made;
-    *host = NULL;
-    if (settings == NULL || !has_calls(mechanism) ||
-        !is_there(settings->public_key, settings->public_key_length) ||
-        !is_there(settings->user, settings->user_length) ||
-        !is_there(settings->password, settings->password_length))
-        return NEWAKSU_E_INVALID_PARAMETER;
-    made = new_host(mechanism, context, 0, settings->version);
-    if (made == NULL)
-        return NEWAKSU_E_INSUFFICIENT_MEMORY;
-    return hand_out(made, make_client(made, settings), host);
-}
-
-/* The list of the users, which there is none of where anyone is taken. */
-static uint32_t list_users(newaksu_handle *identities, const newaksu_server_settings *settings) {
-    uint32_t status = NEWAKSU_OK;
-    if (settings->peers != NEWAKSU_PEERS_ANYONE || settings->users_count != 0)
-        status = newaksu_identities_new(identities);
-    for (size_t i = 0; status == NEWAKSU_OK && i < settings->users_count; i++) {
-        if (is_there(settings->users[i], settings->user_lengths[i]))
-            status = newaksu_identities_add(identities, octets(settings->users[i]),
-                                            settings->user_lengths[i], octets(NULL), 0);
-        else
-            status = NEWAKSU_E_INVALID_PARAMETER;
-    }
-    return status;
-}
-
-static uint32_t make_server(newaksu_host *host, const newaksu_server_settings *settings) {
-    newaksu_server_options options = {NEWAKSU_HOST, settings->version, settings->least_version,
-                                      settings->peers};
-    newaksu_handle identities = NEWAKSU_EMPTY;
-    uint32_t status = list_users(&identities, settings);
-    if (status == NEWAKSU_OK)
-        status = newaksu_server_new(&host->end, &identities, &options, octets(settings->public_key),
-                                    settings->public_key_length, octets(NULL), 0);
-    (void)newaksu_release(&identities);
-    return status;
-}
-
-uint32_t newaksu_host_server(const newaksu_server_settings *settings,
-                             const newaksu_mechanism *mechanism, void *context,
-                             newaksu_host **host) {
-    newaksu_host *made;
-    *host = NULL;
-    if (settings == NULL || !has_calls(mechanism) || mechanism->peer == NULL ||
-        !is_there(settings->public_key, settings->public_key_length) ||
-        !is_there(settings->users, settings->users_count) ||
-        !is_there(settings->user_lengths, settings->users_count))
-        return NEWAKSU_E_INVALID_PARAMETER;
-    made = new_host(mechanism, context, 1, settings->version);
-    if (made == NULL)
-        return NEWAKSU_E_INSUFFICIENT_MEMORY;
-    return hand_out(made, make_server(made, settings), host);
-}
-
 uint32_t newaksu_host_identity(const newaksu_host *host, const char **user, size_t *user_length,
                                const char **password, size_t *password_length) {
     if (!host->finished)
@@ -492,17 +357,4 @@ uint32_t newaksu_host_refusal(const newaksu_host *host, newaksu_refusal *refusal
 
 newaksu_handle *newaksu_host_end(newaksu_host *host) {
     return &host->end;
-}
-
-void newaksu_host_release(newaksu_host *host) {
-    if (host == NULL)
-        return;
-    if (host->mechanism.release != NULL)
-        host->mechanism.release(host->context);
-    (void)newaksu_release(&host->end);
-    bytes_release(&host->send);
-    bytes_release(&host->user);
-    bytes_release(&host->password);
-    wipe(host, sizeof *host);
-    free(host);
 }

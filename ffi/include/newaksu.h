@@ -118,6 +118,7 @@ uint32_t newaksu_kind(newaksu_handle *handle, uint32_t *kind);
 #define NEWAKSU_KIND_SERVER 8u
 #define NEWAKSU_KIND_PLAIN_CLIENT 9u
 #define NEWAKSU_KIND_PLAIN_SERVER 10u
+#define NEWAKSU_KIND_COURSE 11u
 
 /* TSRequest (MS-CSSP 2.2.1). */
 
@@ -450,6 +451,72 @@ uint32_t newaksu_end_reason(newaksu_handle *end, uint8_t *out, size_t capacity, 
  * is a client, or the name has no domain. NEWAKSU_E_INVALID_PARAMETER: `which` is above 3. */
 uint32_t newaksu_server_identity(newaksu_handle *server, uint32_t which, uint8_t *out,
                                  size_t capacity, size_t *written);
+
+/* Ends that negotiate (RFC 4178, MS-SPNG) over two mechanisms of the caller, in the places of NTLM
+ * and Kerberos. The proved end picks, and protects the pick by MICs; the caller steps, seals,
+ * opens, signs and verifies by the mechanism that was picked. A course is what the caller knows of
+ * its end's negotiation: kept beside the end, and asked before each call which mechanism steps. */
+
+#define NEWAKSU_NTLM_ALONE 1u
+#define NEWAKSU_KERBEROS_ALONE 2u
+#define NEWAKSU_NTLM_AND_KERBEROS 3u /* Kerberos first */
+
+/* As newaksu_client_new and newaksu_server_new, where `mechanism` of the options is one of these
+ * three, else NEWAKSU_E_INVALID_PARAMETER. `target` is looked at: an IP address behind its last
+ * slash is for NTLM, where that may be used. A server takes a MIC of the users of its list alone.
+ */
+uint32_t newaksu_client_negotiating(newaksu_handle *client, const newaksu_client_options *options,
+                                    const uint8_t *key, size_t key_length, const uint8_t *target,
+                                    size_t target_length, const uint8_t *nonce, size_t nonce_length,
+                                    const uint8_t *name, size_t name_length,
+                                    const uint8_t *password, size_t password_length);
+uint32_t newaksu_server_negotiating(newaksu_handle *server, newaksu_handle *identities,
+                                    const newaksu_server_options *options, const uint8_t *key,
+                                    size_t key_length);
+
+/* Of an end that has made no step: its mechanisms, and whether a client's target is named by its IP
+ * address, 0 or not. NEWAKSU_E_INVALID_PARAMETER: `mechanisms` is none of the three above.
+ * NEWAKSU_E_INSUFFICIENT_MEMORY. */
+uint32_t newaksu_course_new(newaksu_handle *course, uint32_t mechanisms, uint32_t by_address);
+
+/* Before a call of the end; each writes `*mechanism`: NEWAKSU_MECH_KERBEROS or NEWAKSU_MECH_NTLM
+ * steps, or NEWAKSU_MECH_OTHER, none does.
+ *
+ * first          a client's first call: the mechanism steps with no token, and its envelope itself
+ *                is handed to newaksu_client_process
+ * offer          a server's first: the mechanism steps with the token of the offer
+ * answer         a client's later: with the responseToken, or none where there is none.
+ *                NEWAKSU_E_INVALID_TOKEN: the server chose what may not be used
+ * continuation   a server's later: likewise
+ *
+ * NEWAKSU_E_INSUFFICIENT_MEMORY, of an offer. */
+uint32_t newaksu_course_first(newaksu_handle *course, uint32_t *mechanism);
+uint32_t newaksu_course_offer(newaksu_handle *course, newaksu_handle *init, uint32_t *mechanism);
+uint32_t newaksu_course_answer(newaksu_handle *course, newaksu_handle *targ, uint32_t *mechanism);
+uint32_t newaksu_course_continuation(newaksu_handle *course, newaksu_handle *targ,
+                                     uint32_t *mechanism);
+
+/* After it, where it was not refused: a client's offer was made; or, of each other call in which a
+ * step answered, whether the mechanism's context has ended, and the `status` of newaksu_end_acts.
+ * NEWAKSU_E_INSUFFICIENT_MEMORY, of an offer. */
+uint32_t newaksu_course_offered(newaksu_handle *course);
+uint32_t newaksu_course_go_on(newaksu_handle *course, uint32_t ended, uint32_t status);
+
+/* The list over which each MIC is made and verified, as newaksu_init_mech_list gives it. */
+uint32_t newaksu_course_list(newaksu_handle *course, uint8_t *out, size_t capacity,
+                             size_t *written);
+
+/* The token as the end is handed it: with the envelope of the step in the place of the mechanism's
+ * token, of length 0 where none was made; and in the place of a MIC the list over which the
+ * mechanism verified it, where `good` is not 0. Else no MIC verifies, whatever came.
+ * NEWAKSU_E_INSUFFICIENT_MEMORY. */
+uint32_t newaksu_init_hand(newaksu_handle *init, const uint8_t *step, size_t step_length);
+uint32_t newaksu_targ_hand(newaksu_handle *targ, const uint8_t *step, size_t step_length,
+                           uint32_t good, const uint8_t *list, size_t list_length);
+
+/* The list that the caller signs for a token that its end made; the MIC then takes its place by
+ * newaksu_targ_set_field, before the token is sent. NEWAKSU_ABSENT: the token has no MIC. */
+uint32_t newaksu_targ_signing(newaksu_handle *targ, uint8_t *out, size_t capacity, size_t *written);
 
 #ifdef __cplusplus
 }

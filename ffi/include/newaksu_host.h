@@ -61,6 +61,15 @@ typedef struct newaksu_mechanism {
 
     /* Called once with the pointer, when the host is released, or may be null. */
     void (*release)(void *context);
+
+    /* Of a mechanism that is negotiated alone, and else null: writes the MIC of a list of mechanisms
+     * (GSS_GetMIC, RFC 4178 section 5) as this end's next, once the authentication has ended here. */
+    uint32_t (*sign)(void *context, const uint8_t *list, size_t length, newaksu_bytes *mic);
+
+    /* Likewise: NEWAKSU_OK where this is the peer's next MIC of this list, else
+     * NEWAKSU_E_MESSAGE_ALTERED. What was agreed on rests on this answer. */
+    uint32_t (*verify)(void *context, const uint8_t *list, size_t length, const uint8_t *mic,
+                       size_t mic_length);
 } newaksu_mechanism;
 
 /* A client's settings. `newaksu_client_settings_init` gives each its usual value; all that they
@@ -141,6 +150,30 @@ uint32_t newaksu_host_client(const newaksu_client_settings *options,
 uint32_t newaksu_host_server(const newaksu_server_settings *options,
                              const newaksu_mechanism *mechanism, void *context,
                              newaksu_host **host);
+
+/* The mechanisms of an end that negotiates (RFC 4178, MS-SPNG), each with its context: one of them,
+ * or both, of which Kerberos is preferred. The other is null. */
+typedef struct newaksu_mechanisms {
+    const newaksu_mechanism *ntlm;
+    void *ntlm_context;
+    const newaksu_mechanism *kerberos;
+    void *kerberos_context;
+} newaksu_mechanisms;
+
+/* Makes an end that negotiates, by the proved SPNEGO of this library; answers as the two above, and
+ * NEWAKSU_E_INVALID_PARAMETER also where there is no mechanism, or one without `sign` or `verify`.
+ *
+ * A client offers what it has, with a token of Kerberos where it has one. It never falls back by
+ * itself: where its Kerberos refuses the first step, the exchange is refused, and the caller may
+ * make a client of NTLM alone. A server also takes NTLM that comes without SPNEGO, if it has it: the
+ * first token then begins with the octets "NTLMSSP" and a zero.
+ *
+ * A server that takes anyone whom its mechanism names finds no user for a MIC, and refuses where one
+ * is needed, as NEWAKSU_E_NO_CREDENTIALS: list the users. */
+uint32_t newaksu_host_negotiating_client(const newaksu_client_settings *options,
+                                         const newaksu_mechanisms *mechanisms, newaksu_host **host);
+uint32_t newaksu_host_negotiating_server(const newaksu_server_settings *options,
+                                         const newaksu_mechanisms *mechanisms, newaksu_host **host);
 
 /* Takes one whole message of the peer; a client's first call takes none (`length` 0), and is what
  * starts the exchange. NEWAKSU_OK: the turn is made, and `turn` says how it goes on. Else the

@@ -219,8 +219,36 @@ static uint32_t unseal(void *context, const uint8_t *blob, size_t length, newaks
     return newaksu_bytes_append(text, opened, length - CIPHER_TAG);
 }
 
+/* The nonces of MICs, which no text has. */
+static void mic_nonce(uint8_t nonce[CIPHER_NONCE], int by_server, uint64_t number) {
+    nonce_of(nonce, by_server, number);
+    nonce[0] |= 0x10;
+}
+
+static uint32_t sign(void *context, const uint8_t *list, size_t length, newaksu_bytes *mic) {
+    struct party *party = context;
+    uint8_t nonce[CIPHER_NONCE], tag[CIPHER_TAG];
+    CHECK(party->stage == 2);
+    mic_nonce(nonce, party->is_server, party->signs++);
+    cipher_seal(party->key, nonce, list, length, NULL, 0, tag);
+    return newaksu_bytes_append(mic, tag, sizeof tag);
+}
+
+static uint32_t verify(void *context, const uint8_t *list, size_t length, const uint8_t *mic,
+                       size_t mic_length) {
+    struct party *party = context;
+    uint8_t nonce[CIPHER_NONCE];
+    party->verifies_asked++;
+    CHECK(party->stage == 2);
+    mic_nonce(nonce, !party->is_server, party->verified);
+    if (mic_length != CIPHER_TAG || !cipher_open(party->key, nonce, list, length, mic, 0, NULL))
+        return NEWAKSU_E_MESSAGE_ALTERED;
+    party->verified++;
+    return NEWAKSU_OK;
+}
+
 static void release(void *context) {
     ((struct party *)context)->releases++;
 }
 
-const newaksu_mechanism party_mechanism = {step, peer, seal, unseal, release};
+const newaksu_mechanism party_mechanism = {step, peer, seal, unseal, release, sign, verify};

@@ -24,9 +24,11 @@ struct party {
     char peer_name[PARTY_NAME];
     uint64_t seals;
     uint64_t unseals;
+    uint64_t signs;
+    uint64_t verified;
 
     /* What was asked of it. */
-    unsigned steps_asked, seals_asked, unseals_asked, peers_asked, releases;
+    unsigned steps_asked, seals_asked, unseals_asked, peers_asked, verifies_asked, releases;
     /* A text that it was given to seal held the password, in UTF-16LE. */
     int saw_password;
     /* Statuses to refuse with in place of an answer; 0 for none. */

@@ -13,7 +13,7 @@ use Rattle.sspi_tsreq.specs.declared.reader.TsReader.{TsReader}
 use Rattle.sspi_tsreq.specs.declared.request.TsRequest.{TsRequest}
 use Rattle.newaksu_c.specs.declared.object.Object.{Object}
 use Rattle.newaksu_c.specs.declared.object.Object.TheVariants.{Request, Reader, Init, Targ, Credentials, Identities}
-use Rattle.newaksu_c.specs.declared.object.Object.TheVariants.{Client, Server, PlainClient, PlainServer}
+use Rattle.newaksu_c.specs.declared.object.Object.TheVariants.{Client, Server, PlainClient, PlainServer, Course}
 
 abbrev pub kind_in : Option Object → ℕ
 kind_in None = 0
@@ -27,6 +27,7 @@ kind_in (Some (Client e)) = 7
 kind_in (Some (Server e)) = 8
 kind_in (Some (PlainClient e)) = 9
 kind_in (Some (PlainServer e)) = 10
+kind_in (Some (Course c)) = 11
 
 abbrev pub request_in : Option Object → Option TsRequest
 request_in None = None
@@ -40,6 +41,7 @@ request_in (Some (Client e)) = None
 request_in (Some (Server e)) = None
 request_in (Some (PlainClient e)) = None
 request_in (Some (PlainServer e)) = None
+request_in (Some (Course c)) = None
 
 abbrev pub reader_in : Option Object → Option TsReader
 reader_in None = None
@@ -53,6 +55,7 @@ reader_in (Some (Client e)) = None
 reader_in (Some (Server e)) = None
 reader_in (Some (PlainClient e)) = None
 reader_in (Some (PlainServer e)) = None
+reader_in (Some (Course c)) = None
 
 abbrev pub init_in : Option Object → Option NegTokenInit
 init_in None = None
@@ -66,6 +69,7 @@ init_in (Some (Client e)) = None
 init_in (Some (Server e)) = None
 init_in (Some (PlainClient e)) = None
 init_in (Some (PlainServer e)) = None
+init_in (Some (Course c)) = None
 
 abbrev pub targ_in : Option Object → Option NegTokenTarg
 targ_in None = None
@@ -79,6 +83,7 @@ targ_in (Some (Client e)) = None
 targ_in (Some (Server e)) = None
 targ_in (Some (PlainClient e)) = None
 targ_in (Some (PlainServer e)) = None
+targ_in (Some (Course c)) = None
 
 abbrev pub credentials_in : Option Object → Option CredentialsBuffers
 credentials_in None = None
@@ -92,6 +97,7 @@ credentials_in (Some (Client e)) = None
 credentials_in (Some (Server e)) = None
 credentials_in (Some (PlainClient e)) = None
 credentials_in (Some (PlainServer e)) = None
+credentials_in (Some (Course c)) = None
 
 abbrev pub identities_in : Option Object → Option (List AuthIdentity)
 identities_in None = None
@@ -105,6 +111,7 @@ identities_in (Some (Client e)) = None
 identities_in (Some (Server e)) = None
 identities_in (Some (PlainClient e)) = None
 identities_in (Some (PlainServer e)) = None
+identities_in (Some (Course c)) = None
 
 -- ---- of an end: what its last call came to and did, what it waits for, and whether its mechanism is the host's
 
@@ -120,6 +127,7 @@ last_in (Some (Client e)) = Some e.value.last
 last_in (Some (Server e)) = Some e.value.last
 last_in (Some (PlainClient e)) = Some e.value.last
 last_in (Some (PlainServer e)) = Some e.value.last
+last_in (Some (Course c)) = None
 
 abbrev pub acts_in : Option Object → Option Acts
 acts_in None = None
@@ -133,6 +141,7 @@ acts_in (Some (Client e)) = Some e.value.client.acts
 acts_in (Some (Server e)) = Some e.value.server.acts
 acts_in (Some (PlainClient e)) = Some e.value.client.acts
 acts_in (Some (PlainServer e)) = Some e.value.server.acts
+acts_in (Some (Course c)) = None
 
 abbrev pub state_in : Option Object → Option CredSspState
 state_in None = None
@@ -146,6 +155,7 @@ state_in (Some (Client e)) = Some e.value.client.state
 state_in (Some (Server e)) = Some e.value.server.state
 state_in (Some (PlainClient e)) = Some e.value.client.state
 state_in (Some (PlainServer e)) = Some e.value.server.state
+state_in (Some (Course c)) = None
 
 abbrev pub is_hosted : Option Object → Bool
 is_hosted None = false
@@ -159,3 +169,4 @@ is_hosted (Some (Client e)) = true
 is_hosted (Some (Server e)) = true
 is_hosted (Some (PlainClient e)) = false
 is_hosted (Some (PlainServer e)) = false
+is_hosted (Some (Course c)) = false

@@ -1,3 +1,4 @@
+pub mod Courses
 pub mod Credentials
 pub mod Early
 pub mod Giving
@@ -6,6 +7,7 @@ pub mod Identities
 pub mod Making
 pub mod MakingServers
 pub mod Names
+pub mod Negotiating
 pub mod Owned
 pub mod Processing
 pub mod Putting

@@ -7,7 +7,7 @@ use Rattle.sspi_outside.specs.declared.last.Last.TheVariants.{Nothing}
 use Rattle.sspi_outside.specs.declared.peers.Peers.{Peers}
 use Rattle.sspi_outside.specs.declared.peers.Peers.TheVariants.{Listed, Anyone}
 use Rattle.newaksu_c.specs.declared.object.Object.{Object}
-use Rattle.newaksu_c.specs.declared.object.Object.TheVariants.{Client, Server, PlainClient, PlainServer}
+use Rattle.newaksu_c.specs.declared.object.Object.TheVariants.{Client, Server, PlainClient, PlainServer, Course}
 use Rattle.newaksu_c.specs.declared.object.Object.TheVariants.{Request, Reader, Init, Targ, Credentials, Identities}
 use Rattle.newaksu_c.specs.Status.{insufficient_memory, invalid_parameter}
 
@@ -33,6 +33,7 @@ MakesClient mechanism settings (Ok (Credentials c)) = ⊥
 MakesClient mechanism settings (Ok (Identities l)) = ⊥
 MakesClient mechanism settings (Ok (Server e)) = ⊥
 MakesClient mechanism settings (Ok (PlainServer e)) = ⊥
+MakesClient mechanism settings (Ok (Course c)) = ⊥
 MakesClient mechanism settings (Err status) = status ≢ insufficient_memory → settings_for mechanism settings ≡ Err status
 
 -- the peers that a server takes: those of the list, or anyone whom the host's mechanism names where none is chosen

@@ -2,7 +2,7 @@
 use Rattle.std.specs.Prelude.{◌≡◌, ◌≢◌, ℕ, ◌==◌, List, replicate, Option, None, Some, Result, Ok, Err, if◌then◌else◌}
 use Rattle.sspi_names.specs.declared.identity.AuthIdentity.{AuthIdentity}
 use Rattle.newaksu_c.specs.declared.object.Object.{Object}
-use Rattle.newaksu_c.specs.declared.object.Object.TheVariants.{Client, Server, PlainClient, PlainServer}
+use Rattle.newaksu_c.specs.declared.object.Object.TheVariants.{Client, Server, PlainClient, PlainServer, Course}
 use Rattle.newaksu_c.specs.declared.object.Object.TheVariants.{Request, Reader, Init, Targ, Credentials, Identities}
 use Rattle.newaksu_c.specs.declared.settings.ServerOptions.{ServerOptions}
 use Rattle.newaksu_c.specs.Held.{identities_in}
@@ -62,6 +62,7 @@ MakesServer options key challenge known (Ok (Credentials c)) = ⊥
 MakesServer options key challenge known (Ok (Identities l)) = ⊥
 MakesServer options key challenge known (Ok (Client e)) = ⊥
 MakesServer options key challenge known (Ok (PlainClient e)) = ⊥
+MakesServer options key challenge known (Ok (Course c)) = ⊥
 MakesServer options key challenge known (Err status) = status ≢ insufficient_memory →
     IsServerFault options.mechanism (of_versions options then_with λ _. hosted_peers options.peers known)
     (of_versions options then_with λ _. plain_fault options.peers (identities_in known) (challenge_of challenge)) status

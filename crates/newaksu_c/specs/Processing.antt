@@ -23,7 +23,7 @@ use Rattle.sspi_outside.specs.declared.last.Last.{Last}
 use Rattle.sspi_outside.specs.declared.peers.Peers.{Peers}
 use Rattle.sspi_outside.specs.declared.server_end.ServerEnd.{ServerEnd}
 use Rattle.newaksu_c.specs.declared.object.Object.{Object}
-use Rattle.newaksu_c.specs.declared.object.Object.TheVariants.{Client, Server, PlainClient, PlainServer}
+use Rattle.newaksu_c.specs.declared.object.Object.TheVariants.{Client, Server, PlainClient, PlainServer, Course}
 use Rattle.newaksu_c.specs.declared.object.Object.TheVariants.{Request, Reader, Init, Targ, Credentials, Identities}
 use Rattle.newaksu_c.specs.Putting.{kind_status}
 use Rattle.newaksu_c.specs.Status.{ok, insufficient_memory, invalid_handle, invalid_parameter, wire_status}
@@ -129,6 +129,7 @@ module _ (bytes step : List ℕ) (after : Option Object) (status : ℕ) where
   ProcessesClient field text (Some (Identities l)) = Unfit (Some (Identities l))
   ProcessesClient field text (Some (Server e)) = Unfit (Some (Server e))
   ProcessesClient field text (Some (PlainServer e)) = Unfit (Some (PlainServer e))
+  ProcessesClient field text (Some (Course c)) = Unfit (Some (Course c))
 
   abbrev pub ProcessesServer : ℕ → List ℕ → Option Object → Type 0
   ProcessesServer field text None = Unfit None
@@ -142,3 +143,4 @@ module _ (bytes step : List ℕ) (after : Option Object) (status : ℕ) where
   ProcessesServer field text (Some (Identities l)) = Unfit (Some (Identities l))
   ProcessesServer field text (Some (Client e)) = Unfit (Some (Client e))
   ProcessesServer field text (Some (PlainClient e)) = Unfit (Some (PlainClient e))
+  ProcessesServer field text (Some (Course c)) = Unfit (Some (Course c))

@@ -20,7 +20,7 @@ use sspi_names::Credentials;
 use sspi_outside::{ClientEnd, Outside};
 use std::alloc::Global;
 
-fn key_of(alloc: Global, key: &[u8]) -> Result<Vec<u8>, u32>
+pub(crate) fn key_of(alloc: Global, key: &[u8]) -> Result<Vec<u8>, u32>
     ensures ok { IfOk result (λ copy. copy.items ≡ key.now) }
     ensures err { IfErr result (λ status. status ≡ insufficient_memory) }
 {

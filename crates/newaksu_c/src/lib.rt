@@ -8,16 +8,20 @@
 //!   the names of codes.
 //! - `request`, `request_setting`, `reader`, `credentials`, `early`: the messages of CredSSP.
 //! - `init`, `init_setting`, `targ`, `targ_setting`: the tokens of SPNEGO.
+//! - `negotiating`: an end that negotiates over two mechanisms of the host; `course`: which of them steps before a call;
+//!   `handing`: tokens as such an end is handed them.
 //! - `identities`, `settings`, `client`, `server`: what an end is made of; `processing`: a message handed to it; `telling`:
 //!   what it came to; `sending`: what the host seals, and what goes to the peer.
 #![tactic(auto)]
 
 pub mod client;
+pub mod course;
 pub mod credentials;
 pub mod early;
 mod ends;
 pub mod general;
 pub mod giving;
+pub mod handing;
 pub mod handle;
 pub mod identities;
 pub mod identity_list;
@@ -25,6 +29,7 @@ pub mod init;
 pub mod init_setting;
 mod loose;
 pub mod names;
+pub mod negotiating;
 pub mod object;
 pub mod processing;
 mod putting;

@@ -1,13 +1,14 @@
 //! What can stand behind a handle.
 ghost use Rattle.std.specs.Prelude.{◌≡◌, option_copied, option_map, IfOk, IfErr};
 ghost use Rattle.newaksu_c.specs.Held.{kind_in, request_in, init_in, targ_in, credentials_in, identities_in};
+ghost use Rattle.newaksu_c.specs.Courses.{course_in};
 ghost use Rattle.newaksu_c.specs.Status.{insufficient_memory};
 
 use crate::identity_list::IdentityList;
 use crate::status::INSUFFICIENT_MEMORY;
 use sspi_mech::Ntlm;
 use sspi_names::CredentialsBuffers;
-use sspi_outside::{ClientEnd, Outside, Peers, ServerEnd};
+use sspi_outside::{ClientEnd, Course, Outside, Peers, ServerEnd};
 use sspi_tokens::{NegTokenInit, NegTokenTarg};
 use sspi_tsreq::{TsReader, TsRequest};
 use std::alloc::Global;
@@ -36,6 +37,8 @@ pub enum Object {
     PlainClient(Box<ClientEnd<Ntlm, Ntlm>>),
     /// A server over plain NTLM.
     PlainServer(Box<ServerEnd<Ntlm, Ntlm, Peers>>),
+    /// What a host knows of its negotiation.
+    Course(Course),
 }
 
 /// Moves an end to memory of its own.
@@ -67,6 +70,7 @@ pub(crate) fn kind_of(object: &Option<Box<Object>>) -> u32
         Object::Server(_) => 8,
         Object::PlainClient(_) => 9,
         Object::PlainServer(_) => 10,
+        Object::Course(_) => 11,
     }
 }
 
@@ -116,6 +120,16 @@ pub(crate) fn identities_of(object: &Option<Box<Object>>) -> Option<&IdentityLis
 {
     match &**object.as_ref()? {
         Object::Identities(identities) => Some(identities),
+        _ => None,
+    }
+}
+
+/// The course behind the handle, if such an object stands there.
+pub(crate) fn course_of(object: &Option<Box<Object>>) -> Option<&Course>
+    ensures { option_copied result ≡ course_in (option_map (λ b. b.value) object.now) }
+{
+    match &**object.as_ref()? {
+        Object::Course(course) => Some(course),
         _ => None,
     }
 }

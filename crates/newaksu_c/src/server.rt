@@ -70,7 +70,11 @@ fn hosted(
     Ok(ServerEnd::new(server_of(alloc, options, key, [0; 8], peers)?))
 }
 
-fn hosted_peers(alloc: Global, choice: u32, identities: &Option<Box<Object>>) -> Result<Peers, u32>
+pub(crate) fn hosted_peers(
+    alloc: Global,
+    choice: u32,
+    identities: &Option<Box<Object>>,
+) -> Result<Peers, u32>
     ensures ok { IfOk result (λ peers. ArePeers (taken_peers choice (option_map (λ b. b.value) identities.now)) peers) }
     ensures there { IfOk result (λ peers. hosted_peers choice (option_map (λ b. b.value) identities.now) ≡ Ok tt) }
     ensures cause { IfErr result (λ status. status ≢ insufficient_memory →

@@ -51,6 +51,11 @@ impl Context {
         Ok(envelope)
     }
 
+    /// Whether a second step was made, which is the last.
+    pub(crate) fn has_ended(&self) -> bool {
+        self.steps > 1
+    }
+
     fn seal(&self, text: &[u8]) -> Result<Vec<u8>, Error> {
         let mut blob = Vec::from_slice(self.alloc, b"0123456789abcdef")?;
         for byte in text {

@@ -1,50 +1,82 @@
-//! Both ends with the negotiation of this repository over a mechanism that the host keeps.
+//! Both ends with the negotiation of this repository over two mechanisms that the host keeps.
 
-use crate::delegation::{ann, carried, key, ntlm_config};
+use crate::delegation::{ann, carried, key};
 use crate::host::Context;
 use crate::part::{Part, pair};
 use sspi_credssp::{
-    ClientMode, CredSspClient, CredSspMode, CredSspServer, CredSspState, ServerMode, TableProxy,
+    Acts, ClientMode, CredSspClient, CredSspMode, CredSspServer, CredSspState, ServerMode,
+    TableProxy,
 };
-use sspi_names::{Credentials, KdcTable};
-use sspi_negotiate::{NegotiateConfig, ProtocolConfig};
+use sspi_names::Credentials;
+use sspi_negotiate::PackageListConfig;
+use sspi_negotiate::protocol::Protocol;
 use sspi_outside::{
-    ClientEnd, Last, Opened, Outside, Peers, ServerEnd, handed, handed_offer, handed_response,
-    list_to_sign, signed,
+    ClientEnd, Course, Due, Last, Opened, Outside, Peers, ServerEnd, handed, handed_offer,
+    handed_response, list_to_sign, negotiation, signed,
 };
 use sspi_tokens::{NegTokenInit, NegTokenTarg, encode_mech_types};
 use sspi_tsreq::TsRequest;
-use sspi_types::{Bytes, Error, ErrorKind, Reason, Text};
+use sspi_types::{Bytes, Error, ErrorKind, Reason};
 use std::alloc::Global;
 
-/// One end's host: its context, and the list of mechanisms over which the MICs are made.
+/// One end's host: its two contexts, and what it knows of its end's negotiation.
 #[derive(Drop)]
 struct Host {
     alloc: Global,
-    context: Context,
-    list: Vec<u8>,
+    ntlm: Context,
+    kerberos: Context,
+    course: Course,
     // how many MICs it found good
     verified: u32,
 }
 
+fn made_host(alloc: Global, packages: PackageListConfig) -> Host {
+    Host {
+        alloc,
+        ntlm: Context::new(alloc),
+        kerberos: Context::new(alloc),
+        course: Course::new(alloc, packages, false),
+        verified: 0,
+    }
+}
+
 impl Host {
-    fn new(alloc: Global) -> Host {
-        Host {
-            alloc,
-            context: Context::new(alloc),
-            list: Vec::new(alloc),
-            verified: 0,
+    fn step(&mut self, mechanism: Protocol) -> Result<Vec<u8>, Error> {
+        match mechanism {
+            Protocol::Ntlm => self.ntlm.step(),
+            Protocol::Kerberos => self.kerberos.step(),
         }
     }
 
-    /// A client's first token, which the server reads: the list is kept, and its token is stepped.
+    fn step_named(&mut self, mechanism: Protocol, name: &str) -> Result<Vec<u8>, Error> {
+        match mechanism {
+            Protocol::Ntlm => self.ntlm.step_named(name),
+            Protocol::Kerberos => self.kerberos.step_named(name),
+        }
+    }
+
+    /// The context of the selected mechanism, which seals, opens, signs and verifies.
+    fn selected(&self) -> &Context {
+        match self.course.hand {
+            Protocol::Ntlm => &self.ntlm,
+            Protocol::Kerberos => &self.kerberos,
+        }
+    }
+
+    /// A client's first step, which is no token of SPNEGO yet.
+    fn first(&mut self) -> Result<Vec<u8>, Error> {
+        self.course.address();
+        let mechanism = self.course.hand;
+        self.step(mechanism)
+    }
+
+    /// A client's first token, which the server reads.
     fn offer(&mut self, offer: &Bytes, name: &str) -> Result<Vec<u8>, Error> {
         let offer = NegTokenInit::decode(self.alloc, offer.as_slice())?;
-        if let Some(list) = &offer.mech_types {
-            self.list = encode_mech_types(self.alloc, list)?;
-        }
-        let step = match &offer.mech_token {
-            Some(_) => self.context.step_named(name)?,
+        let due = mechanism_of(self.course.offer_due(&offer));
+        self.course.take_offer(self.alloc, &offer)?;
+        let step = match due {
+            Some(mechanism) => self.step_named(mechanism, name)?,
             None => Vec::new(self.alloc),
         };
         handed_offer(self.alloc, offer, &step)?.encode(self.alloc)
@@ -52,24 +84,24 @@ impl Host {
 
     /// A later token, whose MIC is verified: `step` is the envelope of the step that was made with it.
     fn response(&mut self, response: NegTokenTarg, step: &[u8]) -> Result<Vec<u8>, Error> {
+        let list = encode_mech_types(self.alloc, &self.course.list)?;
         let good = match &response.mech_list_mic {
-            Some(mic) => self.context.sign(&self.list)?.as_slice() == mic.as_slice(),
+            Some(mic) => self.selected().sign(&list)?.as_slice() == mic.as_slice(),
             None => false,
         };
         self.verified = self.verified.saturating_add(u32::from(good));
-        let verified = if good {
-            Some(self.list.as_slice())
-        } else {
-            None
-        };
+        let verified = if good { Some(list.as_slice()) } else { None };
         handed_response(self.alloc, response, step, verified)?.encode(self.alloc)
     }
 
-    /// A later token that a client reads.
+    /// A later token that a client reads, whose choice is taken.
     fn answer(&mut self, token: &Bytes) -> Result<Vec<u8>, Error> {
         let response = NegTokenTarg::decode(self.alloc, token.as_slice())?;
-        let step = match &response.response_token {
-            Some(_) => self.context.step()?,
+        if !self.course.take_choice(&response) {
+            return Err(Error::new(ErrorKind::InvalidToken, Reason::NoSharedMech));
+        }
+        let step = match mechanism_of(self.course.continuation_due(&response)) {
+            Some(mechanism) => self.step(mechanism)?,
             None => Vec::new(self.alloc),
         };
         self.response(response, &step)
@@ -78,42 +110,51 @@ impl Host {
     /// A later token that a server reads.
     fn continuation(&mut self, token: &Bytes, name: &str) -> Result<Vec<u8>, Error> {
         let response = NegTokenTarg::decode(self.alloc, token.as_slice())?;
-        let step = match &response.response_token {
-            Some(_) => self.context.step_named(name)?,
+        let step = match mechanism_of(self.course.continuation_due(&response)) {
+            Some(mechanism) => self.step_named(mechanism, name)?,
             None => Vec::new(self.alloc),
         };
         self.response(response, &step)
     }
 
+    /// What is known once the end was called.
+    fn go_on(&mut self, acts: Acts, offered: bool) -> Result<(), Error> {
+        if offered {
+            self.course.make_offer(self.alloc)?;
+        } else if let Some(status) = acts.status {
+            let ended = self.selected().has_ended();
+            self.course.go_on(ended, status);
+        }
+        Ok(())
+    }
+
     /// The token that is sent in the place of the end's: with the host's MIC where the end signed.
-    fn sent_token(&mut self, token: Bytes) -> Result<Bytes, Error> {
+    fn sent_token(&self, token: Bytes) -> Result<Bytes, Error> {
         let Ok(response) = NegTokenTarg::decode(self.alloc, token.as_slice()) else {
-            return self.sent_offer(token);
+            return Ok(token);
         };
         let mic = match list_to_sign(&response) {
-            Some(list) => self.context.sign(list)?,
+            Some(list) => self.selected().sign(list)?,
             None => return Ok(token),
         };
         let sent = signed(response, Bytes::from_vec(mic));
         Ok(Bytes::from_vec(sent.encode(self.alloc)?))
     }
 
-    /// A client's offer, of which it keeps the list.
-    fn sent_offer(&mut self, token: Bytes) -> Result<Bytes, Error> {
-        let offer = NegTokenInit::decode(self.alloc, token.as_slice())?;
-        if let Some(list) = &offer.mech_types {
-            self.list = encode_mech_types(self.alloc, list)?;
-        }
-        Ok(token)
-    }
-
     /// What is sent of the call that was made.
-    fn sent(&mut self, last: &Last, acts: sspi_credssp::Acts) -> Result<TsRequest, Error> {
-        let mut message = crate::host::sealed(&self.context, last, acts)?;
+    fn sent(&self, last: &Last, acts: Acts) -> Result<TsRequest, Error> {
+        let mut message = crate::host::sealed(self.selected(), last, acts)?;
         if let Some(token) = message.nego_tokens.take() {
             message.nego_tokens = Some(self.sent_token(token)?);
         }
         Ok(message)
+    }
+}
+
+fn mechanism_of(due: Option<Due<'_>>) -> Option<Protocol> {
+    match due {
+        Some(due) => Some(due.mechanism),
+        None => None,
     }
 }
 
@@ -125,18 +166,19 @@ fn client_turn(
 ) -> Result<TsRequest, Error> {
     let token = match &came.nego_tokens {
         Some(token) => host.answer(token)?,
-        None if first => host.context.step()?,
+        None if first => host.first()?,
         None => Vec::new(host.alloc),
     };
     let proof = match end.client.state() {
         CredSspState::NegoToken => None,
-        _ => host.context.open(&came.pub_key_auth)?,
+        _ => host.selected().open(&came.pub_key_auth)?,
     };
     let opened = match &proof {
         Some(proof) => Opened::PubKeyAuth(proof),
         None => Opened::Neither,
     };
     end.process(handed(host.alloc, came, &token, opened)?)?;
+    host.go_on(end.client.last_acts(), first)?;
     host.sent(&end.last, end.client.last_acts())
 }
 
@@ -152,31 +194,36 @@ fn server_turn(
         None => Vec::new(host.alloc),
     };
     let text = match end.server.state() {
-        CredSspState::AuthInfo => host.context.open(&came.auth_info)?,
-        _ => host.context.open(&came.pub_key_auth)?,
+        CredSspState::AuthInfo => host.selected().open(&came.auth_info)?,
+        _ => host.selected().open(&came.pub_key_auth)?,
     };
     let opened = match (&text, end.server.state()) {
         (Some(text), CredSspState::AuthInfo) => Opened::AuthInfo(text),
         (Some(text), _) => Opened::PubKeyAuth(text),
         (None, _) => Opened::Neither,
     };
-    end.process(handed(host.alloc, came, &token, opened)?)
+    end.process(handed(host.alloc, came, &token, opened)?)?;
+    host.go_on(end.server.last_acts(), false)
 }
 
-fn negotiation(alloc: Global) -> Result<NegotiateConfig, Error> {
-    Ok(NegotiateConfig::new(
-        ProtocolConfig::Ntlm(ntlm_config(alloc)?),
-        Some(Text::from_text(alloc, "ntlm")?),
-        Text::from_text(alloc, "HOST")?,
-        KdcTable::new(alloc),
-    ))
-}
+const NTLM: PackageListConfig = PackageListConfig {
+    ntlm: true,
+    kerberos: false,
+};
 
-fn client(alloc: Global) -> Result<ClientEnd<Outside, Outside>, Error> {
+const BOTH: PackageListConfig = PackageListConfig {
+    ntlm: true,
+    kerberos: true,
+};
+
+fn client(
+    alloc: Global,
+    packages: PackageListConfig,
+) -> Result<ClientEnd<Outside, Outside>, Error> {
     let target = String::from_str(alloc, "TERMSRV/host")?;
     let key = key(alloc)?;
     let ann = ann(alloc)?;
-    let config = negotiation(alloc)?;
+    let config = negotiation(alloc, packages)?;
     Ok(ClientEnd::new(CredSspClient::new(
         alloc,
         key,
@@ -189,12 +236,15 @@ fn client(alloc: Global) -> Result<ClientEnd<Outside, Outside>, Error> {
 }
 
 /// A server of one listed user: MICs are taken of a peer that the list has.
-fn server(alloc: Global) -> Result<ServerEnd<Outside, Outside, Peers>, Error> {
+fn server(
+    alloc: Global,
+    packages: PackageListConfig,
+) -> Result<ServerEnd<Outside, Outside, Peers>, Error> {
     let key = key(alloc)?;
     let mut known = Vec::new(alloc);
     known.push(ann(alloc)?)?;
     let peers = Peers::Listed(TableProxy::new(alloc, known, Vec::new(alloc)));
-    let config = negotiation(alloc)?;
+    let config = negotiation(alloc, packages)?;
     Ok(ServerEnd::new(CredSspServer::new(alloc, key, peers, ServerMode::Negotiate(config))))
 }
 
@@ -208,24 +258,30 @@ pub struct Ends {
     changed: bool,
 }
 
-fn made(alloc: Global, changed: bool) -> Result<Ends, Error> {
-    let (client, server) = pair(client(alloc), server(alloc))?;
+fn made(alloc: Global, offered: PackageListConfig, changed: bool) -> Result<Ends, Error> {
+    let (client, server) = pair(client(alloc, offered), server(alloc, NTLM))?;
     Ok(Ends {
         client,
         server,
-        client_host: Host::new(alloc),
-        server_host: Host::new(alloc),
+        client_host: made_host(alloc, offered),
+        server_host: made_host(alloc, NTLM),
         changed,
     })
 }
 
 pub(crate) fn both(alloc: Global) -> Result<Ends, Error> {
-    made(alloc, false)
+    made(alloc, NTLM, false)
+}
+
+/// The same where the client likes Kerberos best, and the server has NTLM alone: another context
+/// of the host steps once that was picked.
+pub(crate) fn picked(alloc: Global) -> Result<Ends, Error> {
+    made(alloc, BOTH, false)
 }
 
 /// The same with another MIC in the place of each that is sent.
 pub(crate) fn changed(alloc: Global) -> Result<Ends, Error> {
-    made(alloc, true)
+    made(alloc, NTLM, true)
 }
 
 fn change(alloc: Global, message: &mut TsRequest) -> Result<(), Error> {

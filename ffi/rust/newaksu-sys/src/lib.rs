@@ -133,6 +133,14 @@ pub const NEWAKSU_KIND_SERVER: u32 = 8;
 pub const NEWAKSU_KIND_PLAIN_CLIENT: u32 = 9;
 /// A server over plain NTLM.
 pub const NEWAKSU_KIND_PLAIN_SERVER: u32 = 10;
+/// What the caller knows of the negotiation of its end.
+pub const NEWAKSU_KIND_COURSE: u32 = 11;
+/// The caller has an NTLM and no Kerberos.
+pub const NEWAKSU_NTLM_ALONE: u32 = 1;
+/// The caller has a Kerberos and no NTLM.
+pub const NEWAKSU_KERBEROS_ALONE: u32 = 2;
+/// The caller has both, Kerberos first.
+pub const NEWAKSU_NTLM_AND_KERBEROS: u32 = 3;
 /// The first token; further ones are not read.
 pub const NEWAKSU_NEGO_TOKENS: u32 = 1;
 /// The sealed TSCredentials.
@@ -507,6 +515,88 @@ extern "C" {
     pub fn newaksu_server_identity(
         server: *mut newaksu_handle,
         which: u32,
+        out: *mut u8,
+        capacity: usize,
+        written: *mut usize,
+    ) -> u32;
+    /// A client that negotiates over two mechanisms of the caller.
+    pub fn newaksu_client_negotiating(
+        client: *mut newaksu_handle,
+        options: *const newaksu_client_options,
+        key: *const u8,
+        key_length: usize,
+        target: *const u8,
+        target_length: usize,
+        nonce: *const u8,
+        nonce_length: usize,
+        name: *const u8,
+        name_length: usize,
+        password: *const u8,
+        password_length: usize,
+    ) -> u32;
+    /// A server that negotiates over two mechanisms of the caller.
+    pub fn newaksu_server_negotiating(
+        server: *mut newaksu_handle,
+        identities: *mut newaksu_handle,
+        options: *const newaksu_server_options,
+        key: *const u8,
+        key_length: usize,
+    ) -> u32;
+    /// What the caller knows of the negotiation of an end that has made no step.
+    pub fn newaksu_course_new(
+        course: *mut newaksu_handle,
+        mechanisms: u32,
+        by_address: u32,
+    ) -> u32;
+    /// Which mechanism makes a client's first step.
+    pub fn newaksu_course_first(course: *mut newaksu_handle, mechanism: *mut u32) -> u32;
+    /// Which mechanism steps with the token of an offer.
+    pub fn newaksu_course_offer(
+        course: *mut newaksu_handle,
+        init: *mut newaksu_handle,
+        mechanism: *mut u32,
+    ) -> u32;
+    /// Which mechanism steps with a server's token on a client.
+    pub fn newaksu_course_answer(
+        course: *mut newaksu_handle,
+        targ: *mut newaksu_handle,
+        mechanism: *mut u32,
+    ) -> u32;
+    /// Which mechanism steps with a client's later token on a server.
+    pub fn newaksu_course_continuation(
+        course: *mut newaksu_handle,
+        targ: *mut newaksu_handle,
+        mechanism: *mut u32,
+    ) -> u32;
+    /// A client's offer was made.
+    pub fn newaksu_course_offered(course: *mut newaksu_handle) -> u32;
+    /// Another call was made.
+    pub fn newaksu_course_go_on(course: *mut newaksu_handle, ended: u32, status: u32) -> u32;
+    /// The list over which each MIC is made and verified.
+    pub fn newaksu_course_list(
+        course: *mut newaksu_handle,
+        out: *mut u8,
+        capacity: usize,
+        written: *mut usize,
+    ) -> u32;
+    /// The offer as a server is handed it.
+    pub fn newaksu_init_hand(
+        init: *mut newaksu_handle,
+        step: *const u8,
+        step_length: usize,
+    ) -> u32;
+    /// A later token as an end is handed it.
+    pub fn newaksu_targ_hand(
+        targ: *mut newaksu_handle,
+        step: *const u8,
+        step_length: usize,
+        good: u32,
+        list: *const u8,
+        list_length: usize,
+    ) -> u32;
+    /// The list that the caller signs for a token that its end made.
+    pub fn newaksu_targ_signing(
+        targ: *mut newaksu_handle,
         out: *mut u8,
         capacity: usize,
         written: *mut usize,
