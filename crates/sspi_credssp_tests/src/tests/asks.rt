@@ -1,81 +1,13 @@
-//! A mechanism that asks a KDC a chosen number of times and protects nothing.
+//! A client that asks a KDC once in each of its first steps.
 
-ghost use Rattle.std.specs.Prelude.{◌≡◌, ◌<◌, ◌≤◌, ◌-◌, None, Some, false, true, refl, length, drop, IfErr, OnOk, OnErr};
-ghost use Rattle.std.proofs.Common.{ap, arith};
-ghost use Rattle.sspi_types.specs.Packages.{ntlm_entry};
-ghost use Rattle.sspi_mech.specs.Ntlm.{ntlm_sizes};
-ghost use Rattle.sspi_mech.specs.declared.step.Answer.TheVariants as answers;
+use sspi_testing::{Script, Told};
+use sspi_types::{ErrorKind, Reason, SecurityStatus};
 
-use sspi_mech::{
-    AcceptSecurityContext, Answer, InitializeSecurityContext, MechConfig, Mechanism, Reply, Step,
-};
-use sspi_names::{Credentials, CredentialsBuffers, NetworkProtocol, NetworkRequest, Username};
-use sspi_types::{
-    Bytes, ContextSizes, CredentialUse, Error, ErrorKind, PackageInfo, Reason, SecurityPackageType,
-    SecurityStatus, SessionKeys, Text, query_security_package_info,
-};
-use std::alloc::Global;
-
-/// A mechanism that protects nothing: a blob is sixteen zeros and the text. A client asks a KDC once in each of its first
-/// `TIMES` steps, and ends with the last of them; with 0 it ends in its first step. Each of its steps wants the credentials
-/// that it acquired. Each step of a server is its last, but has a status of its own where the token is `odd`.
+/// A client asks a KDC once in each of its first steps, and ends with the last of them; with no question it ends in its first step.
+/// Each of its steps wants the credentials that it acquired. Each step of a server is its last, but has a status of its own where
+/// the token is `odd`.
 #[derive(Drop)]
-pub struct Asks<const TIMES: u32> {
-    alloc: Global,
-    left: u32,
-    waiting: bool,
-    peer: Option<Username>,
-    sealings: u64,
-    unsealings: u64,
-    signings: u64,
-    verifications: u64,
-}
-
-impl<const TIMES: u32> Asks<TIMES> {
-    fn ask(&mut self) -> Result<NetworkRequest, Error>
-        requires { 0 < self.old.left }
-        ensures asked { OnOk result (self.new ≡ record self.old { left = self.old.left - 1; waiting = true }) }
-        ensures err { OnErr result (self.new ≡ self.old) }
-        ensures codeless { IfErr result (λ error. error.nstatus ≡ None) }
-    {
-        let url = Text::from_text(self.alloc, "tcp://kdc")?;
-        self.left -= 1;
-        self.waiting = true;
-        Ok(NetworkRequest {
-            protocol: NetworkProtocol::Tcp,
-            url,
-            payload: Bytes::new(self.alloc),
-        })
-    }
-
-    /// The step, once the KDC answered.
-    fn answered(&mut self) -> Result<Step, Error>
-        ensures done { OnOk result (self.new ≡ record self.old { waiting = false }) }
-        ensures err { OnErr result (self.new ≡ self.old) }
-        ensures codeless { IfErr result (λ error. error.nstatus ≡ None) }
-    {
-        let output = Bytes::from_slice(self.alloc, b"asked")?;
-        self.waiting = false;
-        let status = if self.left == 0 {
-            SecurityStatus::Ok
-        } else {
-            SecurityStatus::ContinueNeeded
-        };
-        Ok(Step { status, output })
-    }
-}
-
-fn out_of_sequence() -> Error
-    ensures { result.nstatus ≡ None }
-{
-    Error::new(ErrorKind::OutOfSequence, Reason::Sequence)
-}
-
-fn spent() -> Error
-    ensures { result.nstatus ≡ None }
-{
-    Error::new(ErrorKind::ContextExpired, Reason::Spent)
-}
+pub struct Asks;
 
 fn status_after(token: &[u8]) -> SecurityStatus {
     if token == b"odd".as_slice() {
@@ -85,230 +17,27 @@ fn status_after(token: &[u8]) -> SecurityStatus {
     }
 }
 
-impl<const TIMES: u32> Mechanism for Asks<TIMES> {
-    const REQUESTS: u32 = TIMES;
-
-    ghost REQUESTS = { TIMES };
-
-    ghost meaning = { record {
-      made = λ _ m. (m.left ≡ TIMES) × (m.sealings ≡ 0) × (m.unsealings ≡ 0) × (m.signings ≡ 0) × (m.verifications ≡ 0);
-      unmade = λ _ _. ⊥;
-      acquires = λ m _ _ _ m2. m2 ≡ m;
-      steps = λ m _ answer m2. (m2 ≡ record m { left = m2.left; waiting = m2.waiting }) × (m2.left ≤ m.left)
-          × elim answer as (λ _. Type 0) [
-            | answers.Done _ ↦ m2.waiting ≡ false
-            | answers.Ask _ ↦ (m2.left < m.left) × (m2.waiting ≡ true)
-            | answers.Refused _ ↦ m2 ≡ m
-          ];
-      resumes = λ m _ answer m2. (m2 ≡ record m { left = m2.left; waiting = m2.waiting }) × (m2.left ≤ m.left)
-          × elim answer as (λ _. Type 0) [
-            | answers.Done _ ↦ m2.waiting ≡ false
-            | answers.Ask _ ↦ (m2.left < m.left) × (m2.waiting ≡ true)
-            | answers.Refused _ ↦ m2 ≡ m
-          ];
-      accepts = λ m _ answer m2. (m2 ≡ record m { peer = m2.peer }) × OnOk answer (m2.waiting ≡ false) × OnErr answer (m2 ≡ m);
-      identifies = λ m _ m2. m2 ≡ m;
-      names = λ m. m.peer;
-      keyed = λ _. true;
-      session_key = λ _. None;
-      waits = λ m. m.waiting;
-      left = λ m. m.left;
-      pairs = λ _. false;
-      counts = λ m. record { sealings = m.sealings; unsealings = m.unsealings; signings = m.signings; verifications = m.verifications };
-      counted = λ m n.
-          record m { sealings = n.sealings; unsealings = n.unsealings; signings = n.signings; verifications = n.verifications };
-      seals = λ _ _ _ blob. 16 ≤ length blob;
-      opens = λ _ _ blob text. text ≡ drop 16 blob;
-      signs = λ _ _ _ _. Unit {0};
-      verifies = λ _ _ _ _. Unit {0};
-      permits = λ _ _. Unit {0};
-      refuses = λ _ _ _. Unit {0};
-      entry = λ _. ntlm_entry;
-      sizes = λ _. ntlm_sizes;
-    } };
-
-    fn make(alloc: Global, _config: &MechConfig<'_>) -> Result<Self, Error> {
-        Ok(Asks {
-            alloc,
-            left: TIMES,
-            waiting: false,
-            peer: None,
-            sealings: 0,
-            unsealings: 0,
-            signings: 0,
-            verifications: 0,
-        })
-    }
-
-    fn acquire(
-        &mut self,
-        _credential_use: CredentialUse,
-        auth_data: Option<&Credentials>,
-    ) -> Result<Option<CredentialsBuffers>, Error> {
-        match auth_data {
-            None => Ok(None),
-            Some(credentials) => Ok(Some(credentials.to_buffers(self.alloc)?)),
+impl Script for Asks {
+    fn initialize<'a>(left: u32, has_credentials: bool, _token: &'a [u8]) -> Option<Told<'a>> {
+        if !has_credentials {
+            return Some(Told::Refused(ErrorKind::OutOfSequence, Reason::Sequence));
         }
-    }
-
-    fn initialize(&mut self, args: &InitializeSecurityContext<'_>) -> Answer {
-        if self.waiting || args.credentials_handle.is_none() {
-            return Answer::Refused(out_of_sequence());
+        if left == 0 {
+            return Some(Told::Made(SecurityStatus::Ok, b""));
         }
-        if self.left == 0 {
-            return Answer::Done(Step {
-                status: SecurityStatus::Ok,
-                output: Bytes::new(self.alloc),
-            });
-        }
-        match self.ask() {
-            Ok(question) => Answer::Ask(question),
-            Err(error) => Answer::Refused(error),
-        }
+        None
     }
 
-    fn resume(&mut self, reply: &Reply) -> Answer {
-        match reply {
-            Reply::Answered(_) if self.waiting => match self.answered() {
-                Ok(step) => Answer::Done(step),
-                Err(error) => Answer::Refused(error),
-            },
-            Reply::Answered(_) => Answer::Refused(out_of_sequence()),
-            Reply::Failed => Answer::Refused(Error::new(
-                ErrorKind::NoAuthenticatingAuthority,
-                Reason::Kdc,
-            )),
-        }
-    }
-
-    fn accept(&mut self, args: &AcceptSecurityContext<'_>) -> Result<Step, Error> {
-        if self.waiting {
-            return Err(out_of_sequence());
-        }
-        let output = Bytes::from_slice(self.alloc, b"last")?;
-        match Username::parse(self.alloc, "DOM\\ann") {
-            Ok(name) => {
-                self.peer = Some(name);
-                Ok(Step {
-                    status: status_after(args.input),
-                    output,
-                })
-            }
-            Err(_) => Err(out_of_sequence()),
-        }
-    }
-
-    fn waiting(&self) -> bool {
-        self.waiting
-    }
-
-    fn requests_left(&self) -> u32 {
-        self.left
-    }
-
-    fn complete(&mut self) -> Result<SecurityStatus, Error> {
-        Ok(SecurityStatus::Ok)
-    }
-
-    fn names(&self) -> Result<Username, Error> {
-        match &self.peer {
-            Some(name) => Ok(name.clone(self.alloc)?),
-            None => Err(out_of_sequence()),
-        }
-    }
-
-    fn set_identities(&mut self, _identities: &[Credentials]) -> Result<(), Error> {
-        Ok(())
-    }
-
-    fn seal(&mut self, text: &[u8]) -> Result<Vec<u8>, Error> {
-        let Some(count) = self.sealings.checked_add(1) else {
-            return Err(spent());
+    fn resume<'a>(left: u32, _reply: &'a [u8]) -> Option<Told<'a>> {
+        let status = if left == 0 {
+            SecurityStatus::Ok
+        } else {
+            SecurityStatus::ContinueNeeded
         };
-        let mut blob = Vec::from_slice(self.alloc, &[0; 16])?;
-        blob.extend_from_slice(text)?;
-        self.sealings = count;
-        Ok(blob)
+        Some(Told::Made(status, b"asked"))
     }
 
-    fn unseal(&mut self, blob: &[u8]) -> Result<Vec<u8>, Error> {
-        let Some(count) = self.unsealings.checked_add(1) else {
-            return Err(spent());
-        };
-        if blob.len() < 16 {
-            return Err(out_of_sequence());
-        }
-        let text = Vec::from_slice(self.alloc, &blob[16..])?;
-        self.unsealings = count;
-        Ok(text)
+    fn accept<'a>(token: &'a [u8]) -> Told<'a> {
+        Told::Made(status_after(token), b"last")
     }
-
-    fn sign(&mut self, _text: &[u8]) -> Result<Vec<u8>, Error> {
-        Err(out_of_sequence())
-    }
-
-    fn verify(&mut self, _mic: &[u8], _text: &[u8]) -> Result<(), Error> {
-        Err(out_of_sequence())
-    }
-
-    fn user_to_user(&self) -> bool {
-        false
-    }
-
-    fn package_info(&self) -> Result<PackageInfo, Error> {
-        query_security_package_info(self.alloc, &SecurityPackageType::Ntlm)
-    }
-
-    fn sizes(&self) -> ContextSizes {
-        ContextSizes {
-            max_token: 2010,
-            max_signature: 16,
-            block: 0,
-            security_trailer: 16,
-        }
-    }
-
-    fn session_key(&self) -> Result<SessionKeys, Error> {
-        Err(out_of_sequence())
-    }
-
-    ghost laws = { record {
-      made_fresh = λ s m made. Prim.cc;
-      made_left = λ s m made. Prim.omega (arith, made.0);
-      step_refused = λ m m2 a e stepped. stepped.2;
-      resume_refused = λ m m2 b e resumed. resumed.2;
-      accept_refused = λ m m2 a e accepted. accepted.2;
-      step_asks = λ m m2 a q stepped. stepped.2.0;
-      resume_asks = λ m m2 b q resumed. resumed.2.0;
-      acquire_left = λ m m2 u d b acquired. Prim.omega (arith, ap (λ x. x.left) acquired);
-      step_left = λ m m2 a r stepped. stepped.1;
-      resume_left = λ m m2 b r resumed. resumed.1;
-      accept_left = λ m m2 a r accepted. Prim.omega (arith, ap (λ x. x.left) accepted.0);
-      identify_left = λ m m2 ids is. Prim.omega (arith, ap (λ x. x.left) is);
-      step_waits = λ m m2 a q stepped. stepped.2.1;
-      resume_waits = λ m m2 b q resumed. resumed.2.1;
-      step_done = λ m m2 a s stepped. stepped.2;
-      resume_done = λ m m2 b s resumed. resumed.2;
-      accept_done = λ m m2 a s accepted. accepted.1;
-      acquire_counts = λ m m2 u d b acquired. Prim.cc;
-      step_counts = λ m m2 a r stepped. Prim.cc;
-      resume_counts = λ m m2 b r resumed. Prim.cc;
-      accept_counts = λ m m2 a r accepted. Prim.cc;
-      identify_counts = λ m m2 ids is. Prim.cc;
-      counts_counted = λ m n. refl;
-      counted_counted = λ m n k. refl;
-      counted_counts = λ m. refl;
-      names_counted = λ m n. refl;
-      keyed_counted = λ m n. refl;
-      session_key_counted = λ m n. refl;
-      waits_counted = λ m n. refl;
-      left_counted = λ m n. refl;
-      pairs_counted = λ m n. refl;
-      seals_counted = λ m n i text blob sealed. sealed;
-      opens_counted = λ m n i blob text opened. opened;
-      signs_counted = λ m n i text mic signed. signed;
-      verifies_counted = λ m n i mic text verified. verified;
-      one_text = λ m i blob text other opened again. Prim.cc;
-      long_blob = λ m i text blob sealed. sealed;
-    } };
 }

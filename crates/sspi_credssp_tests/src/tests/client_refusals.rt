@@ -3,6 +3,7 @@
 use crate::tests::asks::Asks;
 use crate::tests::stage::plays;
 use sspi_mech::Ntlm;
+use sspi_testing::Scripted;
 
 const IN_THE_AUTHENTICATION: &str = "
 ends
@@ -85,7 +86,7 @@ client new proof=bare:server-proof nonce=00 -> UnsupportedPreAuth/Keytab did=che
 /// A mechanism may take a key table, but CredSSP has no text for it.
 #[test]
 fn of_a_key_table_to_delegate(rt: HostRuntime) {
-    plays::<Asks<0>>(&rt, OF_A_KEY_TABLE_TO_DELEGATE);
+    plays::<Scripted<Asks, 0>>(&rt, OF_A_KEY_TABLE_TO_DELEGATE);
 }
 
 const OF_CREDENTIALS_PAST_THE_LIMIT: &str = "
@@ -105,5 +106,5 @@ client new proof=bare:server-proof nonce=00 -> last auth-length=1048581
 /// 1048576 is not.
 #[test]
 fn of_credentials_past_the_limit(rt: HostRuntime) {
-    plays::<Asks<0>>(&rt, OF_CREDENTIALS_PAST_THE_LIMIT);
+    plays::<Scripted<Asks, 0>>(&rt, OF_CREDENTIALS_PAST_THE_LIMIT);
 }

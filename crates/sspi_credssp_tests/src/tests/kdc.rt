@@ -6,6 +6,7 @@ use crate::tests::words::{Test, given, lend, parted};
 use sspi_delegate::{DelegateError, Delegation, MemoryLink, Transcript, delegate};
 use sspi_mech::{Kdc, KdcError, Mechanism};
 use sspi_names::NetworkRequest;
+use sspi_testing::Scripted;
 use std::alloc::Global;
 
 /// What a KDC does at each call.
@@ -145,7 +146,7 @@ fn an_exchange_asks_its_kdc(rt: HostRuntime) {
     for line in EXCHANGES.lines() {
         let (word, wanted) = parted(&rt, line, " -> ");
         assert!(&rt;
-            exchanged::<Asks<2>>(&rt, word).as_str() == wanted,
+            exchanged::<Scripted<Asks, 2>>(&rt, word).as_str() == wanted,
             "{line}"
         );
     }

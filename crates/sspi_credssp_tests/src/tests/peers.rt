@@ -3,6 +3,7 @@
 use crate::tests::asks::Asks;
 use crate::tests::stage::plays;
 use sspi_mech::Ntlm;
+use sspi_testing::Scripted;
 
 const THAT_ARE_UNKNOWN: &str = "
 ends account=DOM\\ann:other
@@ -54,5 +55,5 @@ server new token=text:first -> NoCredentials/NoIdentity did=step+Ok code=C007030
 /// does not.
 #[test]
 fn that_are_looked_up_again(rt: HostRuntime) {
-    plays::<Asks<0>>(&rt, THAT_ARE_LOOKED_UP_AGAIN);
+    plays::<Scripted<Asks, 0>>(&rt, THAT_ARE_LOOKED_UP_AGAIN);
 }

@@ -3,6 +3,7 @@
 use crate::tests::asks::Asks;
 use crate::tests::stage::plays;
 use sspi_mech::Ntlm;
+use sspi_testing::Scripted;
 
 const BEFORE_THE_END_OF_THE_AUTHENTICATION: &str = "
 ends
@@ -81,7 +82,7 @@ server new token=text:more proof=bare:client-proof nonce=00 -> reply proof-text=
 /// proof by it, and hands neither token nor proof back.
 #[test]
 fn where_the_proof_comes_by_itself(rt: HostRuntime) {
-    plays::<Asks<0>>(&rt, WHERE_THE_PROOF_COMES_BY_ITSELF);
+    plays::<Scripted<Asks, 0>>(&rt, WHERE_THE_PROOF_COMES_BY_ITSELF);
 }
 
 const WHERE_THE_PROOF_COMES_WITH_THE_TOKEN: &str = "
@@ -96,7 +97,7 @@ server new auth=bare:credentials -> identity:DOM\\ann:pw gave=none
 /// credentials are read.
 #[test]
 fn where_the_proof_comes_with_the_token(rt: HostRuntime) {
-    plays::<Asks<0>>(&rt, WHERE_THE_PROOF_COMES_WITH_THE_TOKEN);
+    plays::<Scripted<Asks, 0>>(&rt, WHERE_THE_PROOF_COMES_WITH_THE_TOKEN);
 }
 
 const OF_THE_CREDENTIALS: &str = "
@@ -141,5 +142,5 @@ server new auth=bare:credentials -> identity:DOM\\ann:pw gave=none
 /// A smart card, a name of both forms and a text of half a code unit; after each of them the right ones end the exchange.
 #[test]
 fn of_what_the_credentials_say(rt: HostRuntime) {
-    plays::<Asks<0>>(&rt, OF_WHAT_THE_CREDENTIALS_SAY);
+    plays::<Scripted<Asks, 0>>(&rt, OF_WHAT_THE_CREDENTIALS_SAY);
 }

@@ -2,6 +2,7 @@
 
 use crate::tests::asks::Asks;
 use crate::tests::stage::plays;
+use sspi_testing::Scripted;
 
 const OF_A_MECHANISM_THAT_ASKS: &str = "
 ends
@@ -22,7 +23,7 @@ client new proof=bare:server-proof nonce=00 -> last auth-length=41
 /// A suspended turn goes on with its own request, whatever was refused in between.
 #[test]
 fn of_a_mechanism_that_asks(rt: HostRuntime) {
-    plays::<Asks<2>>(&rt, OF_A_MECHANISM_THAT_ASKS);
+    plays::<Scripted<Asks, 2>>(&rt, OF_A_MECHANISM_THAT_ASKS);
 }
 
 const OF_A_MECHANISM_THAT_ENDS_IN_ITS_FIRST_STEP: &str = "
@@ -38,5 +39,5 @@ client new version=4 proof=bare:020203 nonce=00 -> last auth-length=41
 /// credentials that it acquired.
 #[test]
 fn of_a_mechanism_that_ends_in_its_first_step(rt: HostRuntime) {
-    plays::<Asks<0>>(&rt, OF_A_MECHANISM_THAT_ENDS_IN_ITS_FIRST_STEP);
+    plays::<Scripted<Asks, 0>>(&rt, OF_A_MECHANISM_THAT_ENDS_IN_ITS_FIRST_STEP);
 }

@@ -1,0 +1,12 @@
+//! Scripts of calls on the plain mechanisms, with what each has to answer.
+
+mod asks;
+mod configurations;
+mod kdc;
+mod kerberos;
+mod kerberos_refusals;
+mod ntlm;
+mod object;
+mod plain_kdc;
+mod scene;
+mod script;
