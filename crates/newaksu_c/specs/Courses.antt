@@ -1,18 +1,22 @@
 -- What the calls on a course do: on what a host knows of the negotiation of its end.
-use Rattle.std.specs.Prelude.{◌≡◌, ◌≢◌, ℕ, ◌==◌, Bool, true, false, not, List, length, Option, None, Some, Result, Ok, Err, if◌then◌else◌}
+use Rattle.std.specs.Prelude.{◌≡◌, ◌≢◌, ℕ, ◌==◌, Bool, true, false, not, List, length, Option, None}
+use Rattle.std.specs.Prelude.{Some, Result, Ok, Err, if◌then◌else◌}
 use Rattle.sspi_types.specs.declared.security_status.SecurityStatus.{SecurityStatus}
 use Rattle.sspi_types.specs.declared.security_status.SecurityStatus.TheVariants as statuses
 use Rattle.sspi_negotiate.specs.declared.package_list.PackageListConfig.{PackageListConfig}
 use Rattle.sspi_negotiate.specs.declared.protocol.Protocol.{Protocol}
 use Rattle.sspi_negotiate.specs.declared.protocol.Protocol.TheVariants as protocols
-use Rattle.sspi_outside.specs.Course.{Asking, addressed, continuation_due, new_course, offer_due, take_choice, take_offer}
+use Rattle.sspi_outside.specs.Course.{Asking, addressed, continuation_due, new_course, offer_due}
+use Rattle.sspi_outside.specs.Course.{take_choice, take_offer}
 use Rattle.sspi_outside.specs.Negotiated.{handed_offer, handed_response, list_to_sign}
 use Rattle.sspi_outside.specs.declared.course.Course.{Course as Known}
 use Rattle.sspi_tokens.specs.declared.neg_token_init.NegTokenInit.{NegTokenInit}
 use Rattle.sspi_tokens.specs.declared.neg_token_targ.NegTokenTarg.{NegTokenTarg}
 use Rattle.newaksu_c.specs.declared.object.Object.{Object}
-use Rattle.newaksu_c.specs.declared.object.Object.TheVariants.{Request, Reader, Init, Targ, Credentials, Identities}
-use Rattle.newaksu_c.specs.declared.object.Object.TheVariants.{Client, Server, PlainClient, PlainServer, Course}
+use Rattle.newaksu_c.specs.declared.object.Object.TheVariants.{Request, Reader, Init, Targ}
+use Rattle.newaksu_c.specs.declared.object.Object.TheVariants.{Credentials, Identities}
+use Rattle.newaksu_c.specs.declared.object.Object.TheVariants.{Client, Server, PlainClient}
+use Rattle.newaksu_c.specs.declared.object.Object.TheVariants.{PlainServer, Course}
 use Rattle.newaksu_c.specs.Requests.{present}
 use Rattle.newaksu_c.specs.Settings.{◌then_with◌}
 use Rattle.newaksu_c.specs.Status.{ok, insufficient_memory, invalid_handle, invalid_parameter}
@@ -48,7 +52,8 @@ is_set number = not (number == 0)
 
 abbrev pub course_by : ℕ → ℕ → Result Object ℕ
 course_by mechanisms by_address =
-    packages_by mechanisms then_with λ packages. Ok (Course (new_course packages (is_set by_address)))
+    packages_by mechanisms then_with λ packages. Ok
+    (Course (new_course packages (is_set by_address)))
 
 -- a mechanism by the number that its identifier has, and 0 where none steps
 abbrev pub mechanism_number : Protocol → ℕ
@@ -73,13 +78,16 @@ module _ (before after : Option Object) (told now status : ℕ) where
   TakesOffer None offer = Misses
   TakesOffer (Some c) None = Misses
   TakesOffer (Some c) (Some offer) =
-      (status ≡ ok → (after ≡ Some (Course (take_offer offer c))) × (now ≡ due_number (offer_due c offer))) ×
+      (status ≡ ok → (after ≡ Some (Course (take_offer offer c))) ×
+      (now ≡ due_number (offer_due c offer))) ×
       (status ≢ ok → (status ≡ insufficient_memory) × (after ≡ before) × (now ≡ told))
 
   -- the server's choice is taken, if it may be used; else a course stands there still
   abbrev pub Chooses : Option Known → NegTokenTarg → Type 0
-  Chooses None token = (status ≡ invalid_token) × (now ≡ told) × ((kept : Known) × (after ≡ Some (Course kept)))
-  Chooses (Some c) token = (status ≡ ok) × (after ≡ Some (Course c)) × (now ≡ due_number (continuation_due c token))
+  Chooses None token = (status ≡ invalid_token) × (now ≡ told) ×
+      ((kept : Known) × (after ≡ Some (Course kept)))
+  Chooses (Some c) token = (status ≡ ok) × (after ≡ Some (Course c)) ×
+      (now ≡ due_number (continuation_due c token))
 
   abbrev pub TakesAnswer : Option Known → Option NegTokenTarg → Type 0
   TakesAnswer None token = Misses
@@ -90,12 +98,14 @@ module _ (before after : Option Object) (told now status : ℕ) where
   abbrev pub TellsContinuation : Option Known → Option NegTokenTarg → Type 0
   TellsContinuation None token = Misses
   TellsContinuation (Some c) None = Misses
-  TellsContinuation (Some c) (Some token) = (status ≡ ok) × (after ≡ before) × (now ≡ due_number (continuation_due c token))
+  TellsContinuation (Some c) (Some token) = (status ≡ ok) × (after ≡ before) ×
+      (now ≡ due_number (continuation_due c token))
 
   -- the mechanism that makes a client's first step
   abbrev pub TellsFirst : Option Known → Type 0
   TellsFirst None = Misses
-  TellsFirst (Some c) = (status ≡ ok) × (after ≡ Some (Course (addressed c))) × (now ≡ mechanism_number (addressed c).hand)
+  TellsFirst (Some c) = (status ≡ ok) × (after ≡ Some (Course (addressed c))) ×
+      (now ≡ mechanism_number (addressed c).hand)
 
 abbrev pub list_of : Known → Result (List (List ℕ)) ℕ
 list_of c = Ok c.list

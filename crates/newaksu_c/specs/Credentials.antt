@@ -1,11 +1,13 @@
 -- What the calls on TSCredentials and on the early result answer.
 use Rattle.std.specs.Global.{Vec}
-use Rattle.std.specs.Prelude.{◌≡◌, ◌≢◌, ℕ, ◌==◌, List, Option, None, Some, Result, Ok, Err, if◌then◌else◌}
+use Rattle.std.specs.Prelude.{◌≡◌, ◌≢◌, ℕ, ◌==◌, List, Option, None, Some, Result, Ok, Err}
+use Rattle.std.specs.Prelude.{if◌then◌else◌}
 use Rattle.sspi_types.specs.declared.error.Error.{Error}
 use Rattle.sspi_ber.specs.Pieces.{Read, Ended, Invalid}
 use Rattle.sspi_names.specs.Utf16.{bytes_le}
 use Rattle.sspi_names.specs.declared.credentials.CredentialsBuffers.{CredentialsBuffers}
-use Rattle.sspi_names.specs.declared.credentials.CredentialsBuffers.TheVariants.{AuthIdentity, Keytab}
+use Rattle.sspi_names.specs.declared.credentials.CredentialsBuffers.TheVariants.{AuthIdentity}
+use Rattle.sspi_names.specs.declared.credentials.CredentialsBuffers.TheVariants.{Keytab}
 use Rattle.sspi_names.specs.declared.identity.AuthIdentityBuffers.{AuthIdentityBuffers}
 use Rattle.sspi_tsreq.specs.Creds.{creds_text}
 use Rattle.sspi_tsreq.specs.CredsAnswers.{IsOrMemory}
@@ -13,7 +15,8 @@ use Rattle.sspi_tsreq.specs.Early.{result_of, early_result_text}
 use Rattle.sspi_tsreq.specs.declared.early.EarlyUserAuthResult.{EarlyUserAuthResult}
 use Rattle.sspi_tsreq.specs.declared.mode.CredSspMode.TheVariants.{WithCredentials}
 use Rattle.newaksu_c.specs.Putting.{spelled}
-use Rattle.newaksu_c.specs.Status.{ok, absent, invalid_handle, invalid_parameter, insufficient_memory}
+use Rattle.newaksu_c.specs.Status.{ok, absent, invalid_handle, invalid_parameter}
+use Rattle.newaksu_c.specs.Status.{insufficient_memory}
 
 -- the texts by the tags of TSPasswordCreds (MS-CSSP 2.2.1.2.1): domainName, userName and password
 abbrev pub text_at : ℕ → AuthIdentityBuffers → Result (List ℕ) ℕ
@@ -37,7 +40,8 @@ OrMemory (Err status) answer = status ≢ insufficient_memory → answer ≡ Err
 abbrev pub IsWritten : Option CredentialsBuffers → Result (List ℕ) ℕ → Type 0
 IsWritten None answer = answer ≡ Err invalid_handle
 IsWritten (Some buffers) answer =
-    (text : Result (Vec ℕ) Error) × IsOrMemory (λ t. t.items) text (creds_text buffers WithCredentials) × (answer ≡ spelled text)
+    (text : Result (Vec ℕ) Error) × IsOrMemory (λ t. t.items) text
+    (creds_text buffers WithCredentials) × (answer ≡ spelled text)
 
 -- ---- the early result (MS-RDPBCGR 2.2.10.2)
 

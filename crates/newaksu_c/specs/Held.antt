@@ -12,8 +12,10 @@ use Rattle.sspi_tokens.specs.declared.neg_token_targ.NegTokenTarg.{NegTokenTarg}
 use Rattle.sspi_tsreq.specs.declared.reader.TsReader.{TsReader}
 use Rattle.sspi_tsreq.specs.declared.request.TsRequest.{TsRequest}
 use Rattle.newaksu_c.specs.declared.object.Object.{Object}
-use Rattle.newaksu_c.specs.declared.object.Object.TheVariants.{Request, Reader, Init, Targ, Credentials, Identities}
-use Rattle.newaksu_c.specs.declared.object.Object.TheVariants.{Client, Server, PlainClient, PlainServer, Course}
+use Rattle.newaksu_c.specs.declared.object.Object.TheVariants.{Request, Reader, Init, Targ}
+use Rattle.newaksu_c.specs.declared.object.Object.TheVariants.{Credentials, Identities}
+use Rattle.newaksu_c.specs.declared.object.Object.TheVariants.{Client, Server, PlainClient}
+use Rattle.newaksu_c.specs.declared.object.Object.TheVariants.{PlainServer, Course}
 
 abbrev pub kind_in : Option Object → ℕ
 kind_in None = 0

@@ -17,4 +17,5 @@ coded_held = coded_option the_row.coded
 -- null where there is nothing, and else the box of what there is
 abbrev pub owned : Global → Ptr → Option Object → Fml
 owned a null_ptr held = fex (held ≡ None) (λ _. ftrue)
-owned a (block_ptr b o) held = fex Object (λ t. fsep (fex (held ≡ Some t) (λ _. ftrue)) (box_owns (ghosts.dealloc_token a) the_row (block_ptr b o) t))
+owned a (block_ptr b o) held = fex Object (λ t. fsep (fex (held ≡ Some t) (λ _. ftrue))
+    (box_owns (ghosts.dealloc_token a) the_row (block_ptr b o) t))

@@ -1,5 +1,6 @@
 -- What a call that hands an end a message does.
-use Rattle.std.specs.Prelude.{◌≡◌, ◌≢◌, ℕ, ◌==◌, ◌&&◌, List, [], ◌∷◌, length, Bool, true, false, Option, None, Some, Result, Ok, Err}
+use Rattle.std.specs.Prelude.{◌≡◌, ◌≢◌, ℕ, ◌==◌, ◌&&◌, List, [], ◌∷◌, length, Bool, true, false}
+use Rattle.std.specs.Prelude.{Option, None, Some, Result, Ok, Err}
 use Rattle.std.specs.Prelude.{if◌then◌else◌}
 use Rattle.std.specs.Global.{Box}
 use Rattle.std_alloc.specs.Box.{with_value}
@@ -23,10 +24,13 @@ use Rattle.sspi_outside.specs.declared.last.Last.{Last}
 use Rattle.sspi_outside.specs.declared.peers.Peers.{Peers}
 use Rattle.sspi_outside.specs.declared.server_end.ServerEnd.{ServerEnd}
 use Rattle.newaksu_c.specs.declared.object.Object.{Object}
-use Rattle.newaksu_c.specs.declared.object.Object.TheVariants.{Client, Server, PlainClient, PlainServer, Course}
-use Rattle.newaksu_c.specs.declared.object.Object.TheVariants.{Request, Reader, Init, Targ, Credentials, Identities}
+use Rattle.newaksu_c.specs.declared.object.Object.TheVariants.{Client, Server, PlainClient}
+use Rattle.newaksu_c.specs.declared.object.Object.TheVariants.{PlainServer, Course}
+use Rattle.newaksu_c.specs.declared.object.Object.TheVariants.{Request, Reader, Init, Targ}
+use Rattle.newaksu_c.specs.declared.object.Object.TheVariants.{Credentials, Identities}
 use Rattle.newaksu_c.specs.Putting.{kind_status}
-use Rattle.newaksu_c.specs.Status.{ok, insufficient_memory, invalid_handle, invalid_parameter, wire_status}
+use Rattle.newaksu_c.specs.Status.{ok, insufficient_memory, invalid_handle, invalid_parameter}
+use Rattle.newaksu_c.specs.Status.{wire_status}
 
 -- the contexts: of the host's mechanism, and of plain NTLM
 abbrev pub hosted : Meaning ContextSetting (SspiContext OutsideState OutsideState)
@@ -40,7 +44,8 @@ plain = either 0 ntlm_meaning ntlm_meaning
 -- the request that the message begins with, or its fault
 abbrev pub IsRead : List ℕ → Result TsRequest ℕ → Type 0
 IsRead bytes (Ok d) = IsAnswer bytes (Ok d)
-IsRead bytes (Err status) = (kind : WireKind) × IsAnswer bytes (Err kind) × (status ≡ wire_status kind)
+IsRead bytes (Err status) = (kind : WireKind) × IsAnswer bytes (Err kind) ×
+    (status ≡ wire_status kind)
 
 -- a client's first call has no message
 abbrev pub IsDelivered : List ℕ → Result TsRequest ℕ → Type 0
@@ -65,17 +70,22 @@ said_status (Ok (Err error)) = kind_status error.error_type
 said_status (Err status) = status
 
 module _ {C : Type 0} (c : Meaning ContextSetting C) (handing : TsRequest → TsRequest) where
-  -- one call of the client on what was delivered, as it is handed in; or none, where the message is no request or there is no memory
-  abbrev pub ClientDoes : List ℕ → ClientView C → Last → Result (Result (Unit {0}) Error) ℕ → ClientView C → Last → Type 0
+  -- one call of the client on what was delivered, as it is handed in; or none, where the message is
+  -- no request or there is no memory
+  abbrev pub ClientDoes : List ℕ → ClientView C → Last → Result (Result (Unit {0}) Error) ℕ →
+      ClientView C → Last → Type 0
   ClientDoes bytes old before (Ok said) new last =
       (d : TsRequest) × IsDelivered bytes (Ok d) × ClientCalled c old (handing d) said new last
   ClientDoes bytes old before (Err status) new last =
-      (new ≡ old) × (last ≡ before) × (status ≢ insufficient_memory → IsDelivered bytes (Err status))
+      (new ≡ old) × (last ≡ before) × (status ≢ insufficient_memory →
+      IsDelivered bytes (Err status))
 
   -- the same of the server
-  abbrev pub ServerDoes : List ℕ → ServerView C Peers → Last → Result (Result (Unit {0}) Error) ℕ → ServerView C Peers → Last → Type 0
+  abbrev pub ServerDoes : List ℕ → ServerView C Peers → Last → Result (Result (Unit {0}) Error) ℕ →
+      ServerView C Peers → Last → Type 0
   ServerDoes bytes old before (Ok said) new last =
-      (d : TsRequest) × IsRead bytes (Ok d) × ServerCalled c peers_meaning old (handing d) said new last
+      (d : TsRequest) × IsRead bytes (Ok d) ×
+      ServerCalled c peers_meaning old (handing d) said new last
   ServerDoes bytes old before (Err status) new last =
       (new ≡ old) × (last ≡ before) × (status ≢ insufficient_memory → IsRead bytes (Err status))
 
@@ -89,27 +99,35 @@ abbrev pub is_bare : List ℕ → ℕ → List ℕ → Bool
 is_bare step field text = (length step == 0) && (field == 0) && (length text == 0)
 
 module _ (bytes step : List ℕ) (after : Option Object) (status : ℕ) where
-  abbrev pub HostedClient : Box (ClientEnd OutsideState OutsideState) → Option (Option (List ℕ) × Option (List ℕ)) → Type 0
+  abbrev pub HostedClient : Box (ClientEnd OutsideState OutsideState) →
+      Option (Option (List ℕ) × Option (List ℕ)) → Type 0
   HostedClient end None = (status ≡ invalid_parameter) × (after ≡ Some (Client end))
-  HostedClient end (Some texts) = (said : Result (Result (Unit {0}) Error) ℕ) × (next : ClientEnd OutsideState OutsideState) ×
-      ClientDoes hosted (λ d. handed d step texts.0 texts.1) bytes end.value.client end.value.last said next.client next.last ×
+  HostedClient end (Some texts) = (said : Result (Result (Unit {0}) Error) ℕ) ×
+      (next : ClientEnd OutsideState OutsideState) ×
+      ClientDoes hosted (λ d. handed d step texts.0 texts.1) bytes end.value.client end.value.last
+      said next.client next.last ×
       (status ≡ said_status said) × (after ≡ Some (Client (with_value end next)))
 
-  abbrev pub HostedServer : Box (ServerEnd OutsideState OutsideState Peers) → Option (Option (List ℕ) × Option (List ℕ)) → Type 0
+  abbrev pub HostedServer : Box (ServerEnd OutsideState OutsideState Peers) →
+      Option (Option (List ℕ) × Option (List ℕ)) → Type 0
   HostedServer end None = (status ≡ invalid_parameter) × (after ≡ Some (Server end))
-  HostedServer end (Some texts) = (said : Result (Result (Unit {0}) Error) ℕ) × (next : ServerEnd OutsideState OutsideState Peers) ×
-      ServerDoes hosted (λ d. handed d step texts.0 texts.1) bytes end.value.server end.value.last said next.server next.last ×
+  HostedServer end (Some texts) = (said : Result (Result (Unit {0}) Error) ℕ) ×
+      (next : ServerEnd OutsideState OutsideState Peers) ×
+      ServerDoes hosted (λ d. handed d step texts.0 texts.1) bytes end.value.server end.value.last
+      said next.server next.last ×
       (status ≡ said_status said) × (after ≡ Some (Server (with_value end next)))
 
   abbrev pub BareClient : Box (ClientEnd NtlmState NtlmState) → Bool → Type 0
   BareClient end false = (status ≡ invalid_parameter) × (after ≡ Some (PlainClient end))
-  BareClient end true = (said : Result (Result (Unit {0}) Error) ℕ) × (next : ClientEnd NtlmState NtlmState) ×
+  BareClient end true = (said : Result (Result (Unit {0}) Error) ℕ) ×
+      (next : ClientEnd NtlmState NtlmState) ×
       ClientDoes plain as_it_came bytes end.value.client end.value.last said next.client next.last ×
       (status ≡ said_status said) × (after ≡ Some (PlainClient (with_value end next)))
 
   abbrev pub BareServer : Box (ServerEnd NtlmState NtlmState Peers) → Bool → Type 0
   BareServer end false = (status ≡ invalid_parameter) × (after ≡ Some (PlainServer end))
-  BareServer end true = (said : Result (Result (Unit {0}) Error) ℕ) × (next : ServerEnd NtlmState NtlmState Peers) ×
+  BareServer end true = (said : Result (Result (Unit {0}) Error) ℕ) ×
+      (next : ServerEnd NtlmState NtlmState Peers) ×
       ServerDoes plain as_it_came bytes end.value.server end.value.last said next.server next.last ×
       (status ≡ said_status said) × (after ≡ Some (PlainServer (with_value end next)))
 

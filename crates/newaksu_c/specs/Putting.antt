@@ -1,13 +1,15 @@
 -- What a call makes of the object behind a handle.
 use Rattle.std.specs.Global.{Vec}
-use Rattle.std.specs.Prelude.{◌≡◌, ◌≢◌, ℕ, ◌==◌, List, Option, None, Some, Result, Ok, Err, if◌then◌else◌}
+use Rattle.std.specs.Prelude.{◌≡◌, ◌≢◌, ℕ, ◌==◌, List, Option, None, Some, Result, Ok, Err}
+use Rattle.std.specs.Prelude.{if◌then◌else◌}
 use Rattle.sspi_types.specs.declared.error.Error.{Error}
 use Rattle.sspi_types.specs.declared.error_kind.ErrorKind.{ErrorKind}
 use Rattle.sspi_types.specs.Errors.{error_kind_number}
 use Rattle.newaksu_c.specs.declared.object.Object.{Object}
 use Rattle.newaksu_c.specs.Status.{ok, invalid_handle, insufficient_memory, internal_error}
 
--- a refusal as a status: the code of its kind; Unknown has the code of OK, and is told as an internal error
+-- a refusal as a status: the code of its kind; Unknown has the code of OK, and is told as an
+-- internal error
 abbrev pub kind_status : ErrorKind → ℕ
 kind_status kind = if error_kind_number kind == ok then internal_error else error_kind_number kind
 
@@ -21,14 +23,18 @@ abbrev pub spelled : Result (Vec ℕ) Error → Result (List ℕ) ℕ
 spelled (Ok bytes) = Ok bytes.items
 spelled (Err error) = Err (kind_status error.error_type)
 
--- what was made stands behind the handle, or there was no memory for it and what stood there stays; a refusal leaves it too
+-- what was made stands behind the handle, or there was no memory for it and what stood there stays;
+-- a refusal leaves it too
 abbrev pub Puts : Option Object → Option Object → Result Object ℕ → ℕ → Type 0
 Puts before after (Ok object) status =
-    (status ≡ ok → after ≡ Some object) × (status ≢ ok → (status ≡ insufficient_memory) × (after ≡ before))
+    (status ≡ ok → after ≡ Some object) × (status ≢ ok → (status ≡ insufficient_memory) ×
+    (after ≡ before))
 Puts before after (Err refusal) status = (status ≡ refusal) × (after ≡ before)
 
--- the object of the kind that the call wants is changed so; where there is none, the handle is refused
-abbrev pub Sets : {X : Type 0} → Option X → (X → Object) → (X → X) → Option Object → Option Object → ℕ → Type 0
+-- the object of the kind that the call wants is changed so; where there is none, the handle is
+-- refused
+abbrev pub Sets : {X : Type 0} → Option X → (X → Object) → (X → X) → Option Object → Option Object →
+    ℕ → Type 0
 Sets None make change before after status = (status ≡ invalid_handle) × (after ≡ before)
 Sets (Some x) make change before after status = (status ≡ ok) × (after ≡ Some (make (change x)))
 
@@ -37,11 +43,14 @@ made_by make (Ok x) = Ok (make x)
 made_by make (Err status) = Err status
 
 -- the same of a change that takes memory, or is refused
-abbrev pub SetsOr : {X : Type 0} → Option X → (X → Object) → (X → Result X ℕ) → Option Object → Option Object → ℕ → Type 0
+abbrev pub SetsOr : {X : Type 0} → Option X → (X → Object) → (X → Result X ℕ) → Option Object →
+    Option Object → ℕ → Type 0
 SetsOr None make change before after status = (status ≡ invalid_handle) × (after ≡ before)
 SetsOr (Some x) make change before after status = Puts before after (made_by make (change x)) status
 
--- a value that is changed in place: so, or not at all, when out of memory or as the change is refused
+-- a value that is changed in place: so, or not at all, when out of memory or as the change is
+-- refused
 abbrev pub Changes : {X : Type 0} → Result X ℕ → X → X → ℕ → Type 0
-Changes (Ok x) before after status = (status ≡ ok → after ≡ x) × (status ≢ ok → (status ≡ insufficient_memory) × (after ≡ before))
+Changes (Ok x) before after status = (status ≡ ok → after ≡ x) ×
+    (status ≢ ok → (status ≡ insufficient_memory) × (after ≡ before))
 Changes (Err refusal) before after status = (status ≡ refusal) × (after ≡ before)

@@ -12,8 +12,8 @@ use Rattle.newaksu_c.specs.declared.object.Object.{Object}
 use Rattle.newaksu_c.specs.declared.object.Object.TheVariants.{Reader, Request}
 use Rattle.newaksu_c.specs.Status.{ok, invalid_handle, insufficient_memory, wire_status}
 
--- a reader that was fed a piece, or is as it was when out of memory; where no byte was the identifier octet of an OCTET
--- STRING, and where nothing more is looked at, no memory is wanted
+-- a reader that was fed a piece, or is as it was when out of memory; where no byte was the
+-- identifier octet of an OCTET STRING, and where nothing more is looked at, no memory is wanted
 pub record Feeds (before : TsReader) (piece : List ℕ) (after : TsReader) (status : ℕ) : Type 0 where
   pub fed : (bytes : List ℕ) → Stands before bytes → status ≡ ok → Stands after (bytes ++ piece)
   pub unfed : status ≢ ok → (status ≡ insufficient_memory) × (after ≡ before)
@@ -22,18 +22,21 @@ pub record Feeds (before : TsReader) (piece : List ℕ) (after : TsReader) (stat
 
 abbrev pub HasFed : Option TsReader → List ℕ → Option Object → Option Object → ℕ → Type 0
 HasFed None piece before after status = (status ≡ invalid_handle) × (after ≡ before)
-HasFed (Some reader) piece before after status = (next : TsReader) × Feeds reader piece next status × (after ≡ Some (Reader next))
+HasFed (Some reader) piece before after status = (next : TsReader) ×
+    Feeds reader piece next status × (after ≡ Some (Reader next))
 
 -- what a reader answers to all that it was fed, as one call on the whole would
 pub record Finishes (reader : TsReader) (answer : Result TsRequest WireKind) : Type 0 where
   pub whole : (bytes : List ℕ) → Stands reader bytes → IsAnswer bytes answer
-  pub only : (bytes : List ℕ) → Stands reader bytes → (r : TsRequest) (count : ℕ) → IsRequest bytes r count → answer ≡ Ok r
+  pub only : (bytes : List ℕ) → Stands reader bytes → (r : TsRequest) (count : ℕ) →
+      IsRequest bytes r count → answer ≡ Ok r
   pub memory : NeedsNoMemory answer
 
 -- the request stands in the reader's place, or a reader that was fed nothing
 abbrev pub Becomes : Result TsRequest WireKind → Option Object → ℕ → Type 0
 Becomes (Ok r) after status = (status ≡ ok) × (after ≡ Some (Request r))
-Becomes (Err kind) after status = (status ≡ wire_status kind) × ((fresh : TsReader) × Stands fresh [] × (after ≡ Some (Reader fresh)))
+Becomes (Err kind) after status = (status ≡ wire_status kind) ×
+    ((fresh : TsReader) × Stands fresh [] × (after ≡ Some (Reader fresh)))
 
 abbrev pub HasFinished : Option TsReader → Option Object → Option Object → ℕ → Type 0
 HasFinished None before after status = (status ≡ invalid_handle) × (after ≡ before)

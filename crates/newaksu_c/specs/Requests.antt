@@ -1,5 +1,6 @@
 -- What the calls on a request answer.
-use Rattle.std.specs.Prelude.{◌≡◌, ℕ, ◌==◌, List, length, Bool, true, false, Option, None, Some, Result, Ok, Err, if◌then◌else◌}
+use Rattle.std.specs.Prelude.{◌≡◌, ℕ, ◌==◌, List, length, Bool, true, false, Option, None, Some}
+use Rattle.std.specs.Prelude.{Result, Ok, Err, if◌then◌else◌}
 use Rattle.sspi_types.specs.declared.nstatus.NStatusCode.{NStatusCode}
 use Rattle.sspi_ber.specs.declared.wire_kind.WireKind.{WireKind}
 use Rattle.sspi_ber.specs.Pieces.{Read}
@@ -7,14 +8,16 @@ use Rattle.sspi_tsreq.specs.Spelling.{fits, spelled}
 use Rattle.sspi_tsreq.specs.declared.request.TsRequest.{TsRequest}
 use Rattle.newaksu_c.specs.declared.object.Object.{Object}
 use Rattle.newaksu_c.specs.declared.object.Object.TheVariants.{Request}
-use Rattle.newaksu_c.specs.Status.{ok, absent, invalid_handle, invalid_parameter, insufficient_memory, wire_status}
+use Rattle.newaksu_c.specs.Status.{ok, absent, invalid_handle, invalid_parameter}
+use Rattle.newaksu_c.specs.Status.{insufficient_memory, wire_status}
 
 -- a field that may be absent
 abbrev pub present : {X : Type 0} → Option X → Result X ℕ
 present None = Err absent
 present (Some x) = Ok x
 
--- the fields by the tags of TSRequest (MS-CSSP 2.2.1): negoTokens, authInfo, pubKeyAuth and clientNonce
+-- the fields by the tags of TSRequest (MS-CSSP 2.2.1): negoTokens, authInfo, pubKeyAuth and
+-- clientNonce
 abbrev pub field_at : ℕ → TsRequest → Result (List ℕ) ℕ
 field_at field r =
     if field == 1 then present r.nego_tokens
@@ -29,7 +32,8 @@ field_in field (Some r) = field_at field r
 
 -- the request with other octets in the field; a nonce has 32
 abbrev pub with_nonce : List ℕ → TsRequest → Result TsRequest ℕ
-with_nonce bytes r = if length bytes == 32 then Ok (record r { client_nonce = Some bytes }) else Err invalid_parameter
+with_nonce bytes r = if length bytes == 32 then Ok (record r { client_nonce = Some bytes })
+    else Err invalid_parameter
 
 abbrev pub with_field : ℕ → List ℕ → TsRequest → Result TsRequest ℕ
 with_field field bytes r =
@@ -58,7 +62,8 @@ abbrev pub IsEncoded : Option TsRequest → Result (List ℕ) ℕ → Type 0
 IsEncoded None (Ok bytes) = ⊥
 IsEncoded None (Err status) = status ≡ invalid_handle
 IsEncoded (Some r) (Ok bytes) = (fits r ≡ true) × (bytes ≡ spelled r)
-IsEncoded (Some r) (Err status) = (fits r ≡ false → status ≡ 2) × (fits r ≡ true → status ≡ insufficient_memory)
+IsEncoded (Some r) (Err status) = (fits r ≡ false → status ≡ 2) ×
+    (fits r ≡ true → status ≡ insufficient_memory)
 
 -- a number that is there, or the status that says why there is none
 abbrev pub Tells : Result ℕ ℕ → ℕ → ℕ → ℕ → Type 0

@@ -1,5 +1,6 @@
 -- What the host has to seal of an end's message, and what is sent.
-use Rattle.std.specs.Prelude.{◌≡◌, ◌≢◌, ℕ, ◌==◌, List, length, nat_lt, Bool, true, false, Option, None, Some, Result, Ok, Err, if◌then◌else◌}
+use Rattle.std.specs.Prelude.{◌≡◌, ◌≢◌, ℕ, ◌==◌, List, length, nat_lt, Bool, true, false, Option}
+use Rattle.std.specs.Prelude.{None, Some, Result, Ok, Err, if◌then◌else◌}
 use Rattle.sspi_tsreq.specs.declared.request.TsRequest.{TsRequest}
 use Rattle.sspi_credssp.specs.declared.acts.Acts.{Acts}
 use Rattle.sspi_outside.specs.Hosting.{message_of, owed_of, owed_text, sent}
@@ -48,7 +49,8 @@ outgoing false what blob last = message_of last
 outgoing true what blob last = sent what blob last
 
 abbrev pub message_with : Bool → Owed → List ℕ → Last → Result TsRequest ℕ
-message_with hosted what blob last = if is_seal what blob then present (outgoing hosted what blob last) else Err invalid_parameter
+message_with hosted what blob last = if is_seal what blob
+    then present (outgoing hosted what blob last) else Err invalid_parameter
 
 abbrev pub message_for : Bool → Result Owed ℕ → List ℕ → Option Last → Result TsRequest ℕ
 message_for hosted (Ok what) blob None = Err invalid_handle

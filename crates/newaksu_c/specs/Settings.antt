@@ -1,5 +1,6 @@
 -- What the ends are made of, as C gives it.
-use Rattle.std.specs.Prelude.{◌≡◌, ◌≢◌, ℕ, ◌==◌, nat_le, Bool, ◌&&◌, ◌||◌, List, length, replicate, Option, None, Some, Result, Ok, Err, if◌then◌else◌}
+use Rattle.std.specs.Prelude.{◌≡◌, ◌≢◌, ℕ, ◌==◌, nat_le, Bool, ◌&&◌, ◌||◌, List, length, replicate}
+use Rattle.std.specs.Prelude.{Option, None, Some, Result, Ok, Err, if◌then◌else◌}
 use Rattle.std.specs.Str.{is_utf8}
 use Rattle.sspi_mech.specs.declared.config.NtlmConfig.{NtlmConfig}
 use Rattle.sspi_names.specs.Name.{Name, parse_name}
@@ -55,7 +56,8 @@ check_versions version least =
     if is_version version && (least == 0 || is_version least) then Ok tt else Err invalid_parameter
 
 abbrev pub delegation_of : ℕ → Result CredSspMode ℕ
-delegation_of number = if number == 0 then Ok WithCredentials else if number == 1 then Ok CredentialLess else Err invalid_parameter
+delegation_of number = if number == 0 then Ok WithCredentials else if number == 1
+    then Ok CredentialLess else Err invalid_parameter
 
 abbrev pub nonce_of : List ℕ → Result (List ℕ) ℕ
 nonce_of bytes = if length bytes == 32 then Ok bytes else Err invalid_parameter
@@ -67,17 +69,20 @@ abbrev pub config_with : List ℕ → NtlmConfig
 config_with challenge = record { client_computer_name = None; challenge = challenge }
 
 -- the settings of a client, without SPNEGO
-unfoldable pub client_settings : ClientOptions → List ℕ → List ℕ → List ℕ → List ℕ → List ℕ → Result ClientSettings ℕ
+unfoldable pub client_settings : ClientOptions → List ℕ → List ℕ → List ℕ → List ℕ → List ℕ →
+    Result ClientSettings ℕ
 client_settings options key target nonce name password =
     check_versions options.version options.least_version then_with λ _.
     delegation_of options.delegation then_with λ delegation.
     nonce_of nonce then_with λ nonce_bytes.
     text_of target then_with λ service.
     identity_of name password then_with λ identity.
-    Ok (record (new_client key (credentials.AuthIdentity identity) delegation options.version (client.Ntlm (config_with (replicate 8 0)))
+    Ok (record (new_client key (credentials.AuthIdentity identity) delegation options.version
+    (client.Ntlm (config_with (replicate 8 0)))
     service nonce_bytes) { least = options.least_version })
 
 -- the settings of a server, without SPNEGO
 abbrev pub server_settings : ServerOptions → List ℕ → List ℕ → ServerSettings
 server_settings options key challenge =
-    record (new_server key options.version (server.Ntlm (config_with challenge))) { least = options.least_version }
+    record (new_server key options.version
+    (server.Ntlm (config_with challenge))) { least = options.least_version }

@@ -1,7 +1,9 @@
 -- The numbers that calls answer.
 use Rattle.std.specs.Prelude.{ℕ, ◌==◌, if◌then◌else◌}
 use Rattle.sspi_ber.specs.declared.wire_kind.WireKind.{WireKind}
-use Rattle.sspi_ber.specs.declared.wire_kind.WireKind.TheVariants.{UnexpectedEof, InvalidData, ReadFault, WriteFault, InsufficientMemory}
+use Rattle.sspi_ber.specs.declared.wire_kind.WireKind.TheVariants.{UnexpectedEof, InvalidData}
+use Rattle.sspi_ber.specs.declared.wire_kind.WireKind.TheVariants.{ReadFault, WriteFault}
+use Rattle.sspi_ber.specs.declared.wire_kind.WireKind.TheVariants.{InsufficientMemory}
 
 abbrev pub ok : ℕ
 ok = 0
@@ -9,7 +11,8 @@ ok = 0
 abbrev pub absent : ℕ
 absent = 6
 
--- SEC_E_INVALID_HANDLE, SEC_E_BUFFER_TOO_SMALL, SEC_E_INVALID_PARAMETER, SEC_E_INSUFFICIENT_MEMORY and SEC_E_INTERNAL_ERROR of winerror.h
+-- SEC_E_INVALID_HANDLE, SEC_E_BUFFER_TOO_SMALL, SEC_E_INVALID_PARAMETER, SEC_E_INSUFFICIENT_MEMORY
+-- and SEC_E_INTERNAL_ERROR of winerror.h
 abbrev pub invalid_handle : ℕ
 invalid_handle = 0x80090301
 

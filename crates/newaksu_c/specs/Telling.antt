@@ -1,5 +1,6 @@
 -- What the calls tell of an end and of what its last call came to.
-use Rattle.std.specs.Prelude.{◌≡◌, ℕ, ◌==◌, List, Bool, true, false, Option, None, Some, Result, Ok, Err, if◌then◌else◌}
+use Rattle.std.specs.Prelude.{◌≡◌, ℕ, ◌==◌, List, Bool, true, false, Option, None, Some, Result, Ok}
+use Rattle.std.specs.Prelude.{Err, if◌then◌else◌}
 use Rattle.sspi_types.specs.Reasons.{reason_text}
 use Rattle.sspi_types.specs.SecurityStatuses.{security_status_number}
 use Rattle.sspi_types.specs.declared.error.Error.{Error}
@@ -9,10 +10,12 @@ use Rattle.sspi_names.specs.Name.{domain_of, inner_of}
 use Rattle.sspi_names.specs.declared.identity.AuthIdentity.{AuthIdentity}
 use Rattle.sspi_credssp.specs.declared.acts.Acts.{Acts}
 use Rattle.sspi_credssp.specs.declared.state.CredSspState.{CredSspState}
-use Rattle.sspi_credssp.specs.declared.state.CredSspState.TheVariants.{NegoToken, PubKeyInfo, AuthInfo}
+use Rattle.sspi_credssp.specs.declared.state.CredSspState.TheVariants.{NegoToken, PubKeyInfo}
+use Rattle.sspi_credssp.specs.declared.state.CredSspState.TheVariants.{AuthInfo}
 use Rattle.sspi_credssp.specs.declared.state.CredSspState.TheVariants as states
 use Rattle.sspi_outside.specs.declared.last.Last.{Last}
-use Rattle.sspi_outside.specs.declared.last.Last.TheVariants.{Nothing, Reply, Final, Finished, Asks, Refused}
+use Rattle.sspi_outside.specs.declared.last.Last.TheVariants.{Nothing, Reply, Final, Finished, Asks}
+use Rattle.sspi_outside.specs.declared.last.Last.TheVariants.{Refused}
 use Rattle.newaksu_c.specs.Putting.{kind_status}
 use Rattle.newaksu_c.specs.Requests.{present}
 use Rattle.newaksu_c.specs.Status.{ok, absent, invalid_handle, invalid_parameter}

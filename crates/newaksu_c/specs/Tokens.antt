@@ -1,11 +1,13 @@
 -- What the calls on the tokens of SPNEGO answer (RFC 4178 4.2).
 use Rattle.std.specs.Global.{Vec}
-use Rattle.std.specs.Prelude.{◌≡◌, ℕ, ◌==◌, ◌++◌, List, [], ◌∷◌, length, nat_lt, slice_index_or, Option, None, Some, Result, Ok, Err, if◌then◌else◌}
+use Rattle.std.specs.Prelude.{◌≡◌, ℕ, ◌==◌, ◌++◌, List, [], ◌∷◌, length, nat_lt, slice_index_or}
+use Rattle.std.specs.Prelude.{Option, None, Some, Result, Ok, Err, if◌then◌else◌}
 use Rattle.sspi_types.specs.declared.error.Error.{Error}
 use Rattle.sspi_tokens.specs.Answers.{WritesAs}
 use Rattle.sspi_tokens.specs.Spelling.{spelled_init, spelled_list, spelled_targ}
 use Rattle.sspi_tokens.specs.declared.neg_result.NegResult.{NegResult}
-use Rattle.sspi_tokens.specs.declared.neg_result.NegResult.TheVariants.{AcceptComplete, AcceptIncomplete, Other}
+use Rattle.sspi_tokens.specs.declared.neg_result.NegResult.TheVariants.{AcceptComplete}
+use Rattle.sspi_tokens.specs.declared.neg_result.NegResult.TheVariants.{AcceptIncomplete, Other}
 use Rattle.sspi_tokens.specs.declared.neg_token_init.NegTokenInit.{NegTokenInit}
 use Rattle.sspi_tokens.specs.declared.neg_token_targ.NegTokenTarg.{NegTokenTarg}
 use Rattle.sspi_tokens.specs.declared.oid.MechKind.{MechKind}
@@ -15,9 +17,11 @@ use Rattle.newaksu_c.specs.Requests.{present}
 use Rattle.newaksu_c.specs.Status.{absent, invalid_handle, invalid_parameter}
 
 -- the encoding of what stands behind the handle
-abbrev pub IsSpelled : {X : Type 0} → (X → Option (List ℕ)) → Result X ℕ → Result (List ℕ) ℕ → Type 0
+abbrev pub IsSpelled : {X : Type 0} → (X → Option (List ℕ)) → Result X ℕ → Result (List ℕ) ℕ →
+    Type 0
 IsSpelled spelling (Err status) answer = answer ≡ Err status
-IsSpelled spelling (Ok x) answer = (text : Result (Vec ℕ) Error) × WritesAs (spelling x) text × (answer ≡ spelled text)
+IsSpelled spelling (Ok x) answer = (text : Result (Vec ℕ) Error) × WritesAs (spelling x) text ×
+    (answer ≡ spelled text)
 
 -- what the call wants, or that the handle has no such object
 abbrev pub there : {X : Type 0} → Option X → Result X ℕ
@@ -43,7 +47,8 @@ count_of (Err status) = Err status
 
 -- the identifier at a place of the list
 abbrev pub item_at : ℕ → List (List ℕ) → Result (List ℕ) ℕ
-item_at index list = if nat_lt index (length list) then Ok (slice_index_or list index []) else Err absent
+item_at index list = if nat_lt index (length list) then Ok (slice_index_or list index [])
+    else Err absent
 
 abbrev pub item_of : ℕ → Result (List (List ℕ)) ℕ → Result (List ℕ) ℕ
 item_of index (Ok list) = item_at index list

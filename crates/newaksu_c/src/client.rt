@@ -42,9 +42,11 @@ fn client_of<N, K>(
 ) -> Result<CredSspClient<N, K>, u32>
     ensures fresh { IfOk result (λ client. IsFreshClient client) }
     ensures settings { IfOk result (λ client.
-        client_settings options.now key.now target.now nonce.now name.now password.now ≡ Ok client.settings) }
+        client_settings options.now key.now target.now nonce.now name.now password.now ≡ Ok
+        client.settings) }
     ensures cause { IfErr result (λ status. status ≢ insufficient_memory →
-        client_settings options.now key.now target.now nonce.now name.now password.now ≡ Err status) }
+        client_settings options.now key.now target.now nonce.now name.now password.now ≡ Err
+        status) }
 {
     check_versions(options.version, options.least_version)?;
     let delegation = delegation_of(options.delegation)?;
@@ -79,7 +81,8 @@ fn made(
     name: &[u8],
     password: &[u8],
 ) -> Result<Object, u32>
-    ensures { MakesClient options.now.mechanism (client_settings options.now key.now target.now nonce.now name.now password.now) result }
+    ensures { MakesClient options.now.mechanism
+        (client_settings options.now key.now target.now nonce.now name.now password.now) result }
 {
     match options.mechanism {
         0 => {
@@ -98,7 +101,8 @@ fn made(
     }
 }
 
-/// A client: of these options, for the channel of this key and the service of this name, with a nonce and the credentials.
+/// A client: of these options, for the channel of this key and the service of this name, with a
+/// nonce and the credentials.
 #[unsafe(no_mangle)]
 pub extern "C" fn newaksu_client_new(
     alloc: Global,

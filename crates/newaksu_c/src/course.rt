@@ -3,7 +3,8 @@ ghost use Rattle.std.specs.Prelude.{◌≡◌, ℕ, List, Ok, Some, Result, opti
 ghost use Rattle.sspi_outside.specs.Course.{go_on, make_offer, Asking};
 ghost use Rattle.sspi_tokens.specs.Spelling.{spelled_list};
 ghost use Rattle.newaksu_c.specs.declared.object.Object.TheVariants as objects;
-ghost use Rattle.newaksu_c.specs.Courses.{course_by, course_in, due_number, is_set, list_of, mechanism_number, packages_by, status_by};
+ghost use Rattle.newaksu_c.specs.Courses.{course_by, course_in, due_number, is_set, list_of};
+ghost use Rattle.newaksu_c.specs.Courses.{mechanism_number, packages_by, status_by};
 ghost use Rattle.newaksu_c.specs.Courses.{TakesAnswer, TakesOffer, TellsContinuation, TellsFirst};
 ghost use Rattle.newaksu_c.specs.Giving.{Answers, items_of};
 ghost use Rattle.newaksu_c.specs.Held.{init_in, targ_in};
@@ -56,7 +57,8 @@ fn number_of(mechanism: Protocol) -> u32
 }
 
 fn due_number(due: Option<Due<'_>>) -> u32
-    ensures { result ≡ due_number (option_map {T = Asking} (λ d. record { mechanism = d.mechanism; token = d.token.now }) due.entry) }
+    ensures { result ≡ due_number (option_map {T = Asking}
+        (λ d. record { mechanism = d.mechanism; token = d.token.now }) due.entry) }
 {
     match due {
         None => 0,
@@ -80,7 +82,8 @@ fn made(alloc: Global, mechanisms: u32, by_address: u32) -> Result<Object, u32>
     Ok(Object::Course(Course::new(alloc, packages, by_address != 0)))
 }
 
-/// Of an end that has made no step: which mechanisms may be used, and whether a client's target is named by its IP address.
+/// Of an end that has made no step: which mechanisms may be used, and whether a client's target is
+/// named by its IP address.
 #[unsafe(no_mangle)]
 pub extern "C" fn newaksu_course_new(
     alloc: Global,
@@ -99,7 +102,8 @@ pub extern "C" fn newaksu_course_new(
 // ---- a server's first token
 
 fn take_offer(alloc: Global, course: &mut Course, offer: &NegTokenInit, mechanism: &mut u32) -> u32
-    ensures { TakesOffer (Some (objects.Course course.old)) (Some (objects.Course course.new)) mechanism.old mechanism.new result
+    ensures { TakesOffer (Some (objects.Course course.old)) (Some (objects.Course course.new))
+        mechanism.old mechanism.new result
         (Some course.old) (Some offer.now) }
 {
     let due = due_number(course.offer_due(offer));
@@ -130,7 +134,8 @@ fn offer_in(
     }
 }
 
-/// Takes the client's offer, and tells which mechanism steps with its token: 2 Kerberos, 3 NTLM, 0 none.
+/// Takes the client's offer, and tells which mechanism steps with its token: 2 Kerberos, 3 NTLM, 0
+/// none.
 #[unsafe(no_mangle)]
 pub extern "C" fn newaksu_course_offer(
     alloc: Global,
@@ -155,7 +160,8 @@ pub extern "C" fn newaksu_course_offer(
 // ---- later tokens
 
 fn take_answer(course: &mut Course, token: &NegTokenTarg, mechanism: &mut u32) -> u32
-    ensures { TakesAnswer (Some (objects.Course course.old)) (Some (objects.Course course.new)) mechanism.old mechanism.new result
+    ensures { TakesAnswer (Some (objects.Course course.old)) (Some (objects.Course course.new))
+        mechanism.old mechanism.new result
         (Some course.old) (Some token.now) }
 {
     if !course.take_choice(token) {
@@ -205,7 +211,8 @@ fn continuation_in(
     targ: &Option<Box<Object>>,
     mechanism: &mut u32,
 ) -> u32
-    ensures { TellsContinuation (option_map (λ b. b.value) object.now) (option_map (λ b. b.value) object.now)
+    ensures { TellsContinuation (option_map (λ b. b.value) object.now)
+        (option_map (λ b. b.value) object.now)
         mechanism.old mechanism.new result (course_in (option_map (λ b. b.value) object.now))
         (targ_in (option_map (λ b. b.value) targ.now)) }
 {
@@ -230,7 +237,8 @@ pub extern "C" fn newaksu_course_continuation(
     mechanism: &mut u32,
 ) -> u32
     ensures kept { targ.new.held ≡ targ.old.held }
-    ensures tells { TellsContinuation course.old.held course.new.held mechanism.old mechanism.new result
+    ensures tells { TellsContinuation course.old.held course.new.held mechanism.old mechanism.new
+        result
         (course_in course.old.held) (targ_in targ.old.held) }
 {
     let object = course.take(alloc);
@@ -244,7 +252,8 @@ pub extern "C" fn newaksu_course_continuation(
 // ---- a client's first step, and what comes of a call
 
 fn first_in(object: &mut Object, mechanism: &mut u32) -> u32
-    ensures { TellsFirst (Some object.old) (Some object.new) mechanism.old mechanism.new result (course_in (Some object.old)) }
+    ensures { TellsFirst (Some object.old) (Some object.new) mechanism.old mechanism.new result
+        (course_in (Some object.old)) }
 {
     let Object::Course(course) = object else {
         return INVALID_HANDLE;
@@ -261,7 +270,8 @@ pub extern "C" fn newaksu_course_first(
     course: &mut Handle,
     mechanism: &mut u32,
 ) -> u32
-    ensures { TellsFirst course.old.held course.new.held mechanism.old mechanism.new result (course_in course.old.held) }
+    ensures { TellsFirst course.old.held course.new.held mechanism.old mechanism.new result
+        (course_in course.old.held) }
 {
     let Some(mut object) = course.take(alloc) else {
         return INVALID_HANDLE;
@@ -272,7 +282,8 @@ pub extern "C" fn newaksu_course_first(
 }
 
 fn offered_in(alloc: Global, object: &mut Object) -> u32
-    ensures { SetsOr (course_in (Some object.old)) objects.Course (λ c. Ok (make_offer c)) (Some object.old) (Some object.new) result }
+    ensures { SetsOr (course_in (Some object.old)) objects.Course (λ c. Ok (make_offer c))
+        (Some object.old) (Some object.new) result }
 {
     let Object::Course(course) = object else {
         return INVALID_HANDLE;
@@ -286,7 +297,8 @@ fn offered_in(alloc: Global, object: &mut Object) -> u32
 /// After a client's first call: its offer was made.
 #[unsafe(no_mangle)]
 pub extern "C" fn newaksu_course_offered(alloc: Global, course: &mut Handle) -> u32
-    ensures { SetsOr (course_in course.old.held) objects.Course (λ c. Ok (make_offer c)) course.old.held course.new.held result }
+    ensures { SetsOr (course_in course.old.held) objects.Course (λ c. Ok (make_offer c))
+        course.old.held course.new.held result }
 {
     let Some(mut object) = course.take(alloc) else {
         return INVALID_HANDLE;
@@ -297,7 +309,8 @@ pub extern "C" fn newaksu_course_offered(alloc: Global, course: &mut Handle) -> 
 }
 
 fn go_on_in(object: &mut Object, ended: u32, status: u32) -> u32
-    ensures { Sets (course_in (Some object.old)) objects.Course (go_on (is_set ended) (status_by status))
+    ensures { Sets (course_in (Some object.old)) objects.Course
+        (go_on (is_set ended) (status_by status))
         (Some object.old) (Some object.new) result }
 {
     let Object::Course(course) = object else {
@@ -307,7 +320,8 @@ fn go_on_in(object: &mut Object, ended: u32, status: u32) -> u32
     OK
 }
 
-/// After each other call: whether the mechanism has ended, and what the negotiation answered, 0 where it is over.
+/// After each other call: whether the mechanism has ended, and what the negotiation answered, 0
+/// where it is over.
 #[unsafe(no_mangle)]
 pub extern "C" fn newaksu_course_go_on(
     alloc: Global,
@@ -315,7 +329,8 @@ pub extern "C" fn newaksu_course_go_on(
     ended: u32,
     status: u32,
 ) -> u32
-    ensures { Sets (course_in course.old.held) objects.Course (go_on (is_set ended) (status_by status))
+    ensures { Sets (course_in course.old.held) objects.Course
+        (go_on (is_set ended) (status_by status))
         course.old.held course.new.held result }
 {
     let Some(mut object) = course.take(alloc) else {
@@ -327,7 +342,8 @@ pub extern "C" fn newaksu_course_go_on(
 }
 
 fn list_in(alloc: Global, object: &Option<Box<Object>>) -> Result<Vec<u8>, u32>
-    ensures { IsSpelled spelled_list (of_it list_of (course_in (option_map (λ b. b.value) object.now))) (items_of result) }
+    ensures { IsSpelled spelled_list (of_it list_of
+        (course_in (option_map (λ b. b.value) object.now))) (items_of result) }
 {
     match course_of(object) {
         Some(course) => spelling(encode_mech_types(alloc, &course.list)),
@@ -344,7 +360,8 @@ pub extern "C" fn newaksu_course_list(
     written: &mut usize,
 ) -> u32
     ensures kept { course.new.held ≡ course.old.held }
-    ensures gives { (text : Result (List ℕ) ℕ) × IsSpelled spelled_list (of_it list_of (course_in course.old.held)) text ×
+    ensures gives { (text : Result (List ℕ) ℕ) ×
+        IsSpelled spelled_list (of_it list_of (course_in course.old.held)) text ×
         Answers text out.old out.new written.new result }
 {
     let object = course.take(alloc);

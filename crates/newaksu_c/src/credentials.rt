@@ -57,7 +57,8 @@ pub extern "C" fn newaksu_credentials_new(
     password: &[u8],
 ) -> u32
     ensures { (buffers : Result Buffers Fault) ×
-        IsOrMemory (λ buffers. buffers) buffers (texts_of (record { domain = domain.now; user = user.now; password = password.now })) ×
+        IsOrMemory (λ buffers. buffers) buffers
+        (texts_of (record { domain = domain.now; user = user.now; password = password.now })) ×
         Puts handle.old.held handle.new.held (made objects.Credentials buffers) result }
 {
     match texts(alloc, domain, user, password) {
@@ -73,7 +74,8 @@ pub extern "C" fn newaksu_credentials_decode(
     handle: &mut Handle,
     bytes: &[u8],
 ) -> u32
-    ensures { (buffers : Result Buffers Fault) × IsOrMemory (λ buffers. buffers) buffers (creds_of bytes.now) ×
+    ensures { (buffers : Result Buffers Fault) ×
+        IsOrMemory (λ buffers. buffers) buffers (creds_of bytes.now) ×
         Puts handle.old.held handle.new.held (made objects.Credentials buffers) result }
 {
     match read_ts_credentials_from_slice(alloc, bytes) {
@@ -103,7 +105,8 @@ pub extern "C" fn newaksu_credentials_encode(
     written: &mut usize,
 ) -> u32
     ensures kept { handle.new.held ≡ handle.old.held }
-    ensures gives { (text : Result (List ℕ) ℕ) × IsWritten (credentials_in handle.old.held) text × Answers text out.old out.new
+    ensures gives { (text : Result (List ℕ) ℕ) × IsWritten (credentials_in handle.old.held) text ×
+        Answers text out.old out.new
         written.new result }
 {
     let object = handle.take(alloc);
@@ -133,7 +136,8 @@ fn text_at(alloc: Global, buffers: &AuthIdentityBuffers, which: u32) -> Result<V
 }
 
 fn text_in(alloc: Global, object: &Option<Box<Object>>, which: u32) -> Result<Vec<u8>, u32>
-    ensures { OrMemory (items_of result) (text_in which (credentials_in (option_map (λ b. b.value) object.now))) }
+    ensures { OrMemory (items_of result)
+        (text_in which (credentials_in (option_map (λ b. b.value) object.now))) }
 {
     match credentials_of(object) {
         Some(CredentialsBuffers::AuthIdentity(buffers)) => text_at(alloc, buffers, which),
@@ -152,7 +156,8 @@ pub extern "C" fn newaksu_credentials_text(
     written: &mut usize,
 ) -> u32
     ensures kept { handle.new.held ≡ handle.old.held }
-    ensures gives { (text : Result (List ℕ) ℕ) × OrMemory text (text_in which (credentials_in handle.old.held)) × Answers text
+    ensures gives { (text : Result (List ℕ) ℕ) ×
+        OrMemory text (text_in which (credentials_in handle.old.held)) × Answers text
         out.old out.new written.new result }
 {
     let object = handle.take(alloc);

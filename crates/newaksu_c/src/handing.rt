@@ -6,7 +6,8 @@ ghost use Rattle.newaksu_c.specs.Giving.{Answers, told};
 ghost use Rattle.newaksu_c.specs.Held.{init_in, targ_in};
 ghost use Rattle.newaksu_c.specs.Putting.{SetsOr};
 ghost use Rattle.newaksu_c.specs.Tokens.{of_it};
-ghost use Rattle.sspi_outside.specs.Negotiated.{handed_offer as handed_offer_of, handed_response as handed_response_of};
+ghost use Rattle.sspi_outside.specs.Negotiated.{handed_offer as handed_offer_of};
+ghost use Rattle.sspi_outside.specs.Negotiated.{handed_response as handed_response_of};
 
 use crate::giving::answer;
 use crate::handle::Handle;
@@ -23,7 +24,8 @@ fn with_step(alloc: Global, token: &NegTokenInit, step: &[u8]) -> Result<NegToke
 }
 
 fn hand_offer(alloc: Global, object: &mut Object, step: &[u8]) -> u32
-    ensures { SetsOr (init_in (Some object.old)) objects.Init (with_step step.now) (Some object.old) (Some object.new) result }
+    ensures { SetsOr (init_in (Some object.old)) objects.Init (with_step step.now) (Some object.old)
+        (Some object.new) result }
 {
     let Object::Init(token) = object else {
         return INVALID_HANDLE;
@@ -40,7 +42,8 @@ fn hand_offer(alloc: Global, object: &mut Object, step: &[u8]) -> u32
 /// Puts the envelope of the step in the place of the mechanism's token, where the offer has one.
 #[unsafe(no_mangle)]
 pub extern "C" fn newaksu_init_hand(alloc: Global, init: &mut Handle, step: &[u8]) -> u32
-    ensures { SetsOr (init_in init.old.held) objects.Init (with_step step.now) init.old.held init.new.held result }
+    ensures { SetsOr (init_in init.old.held) objects.Init (with_step step.now) init.old.held
+        init.new.held result }
 {
     let Some(mut object) = init.take(alloc) else {
         return INVALID_HANDLE;
@@ -65,13 +68,15 @@ fn with_report(
     step: &[u8],
     verified: Option<&[u8]>,
 ) -> Result<NegTokenTarg, AllocError>
-    ensures { IfOk result (λ it. it ≡ handed_response_of token.now step.now (option_copied verified.entry)) }
+    ensures { IfOk result (λ it. it ≡ handed_response_of token.now step.now
+        (option_copied verified.entry)) }
 {
     handed_response(alloc, token.clone(alloc)?, step, verified)
 }
 
 fn hand_response(alloc: Global, object: &mut Object, step: &[u8], good: u32, list: &[u8]) -> u32
-    ensures { SetsOr (targ_in (Some object.old)) objects.Targ (with_report step.now good list.now) (Some object.old) (Some object.new)
+    ensures { SetsOr (targ_in (Some object.old)) objects.Targ (with_report step.now good list.now)
+        (Some object.old) (Some object.new)
         result }
 {
     let Object::Targ(token) = object else {
@@ -86,8 +91,8 @@ fn hand_response(alloc: Global, object: &mut Object, step: &[u8], good: u32, lis
     }
 }
 
-/// Puts the envelope of the step in the place of the mechanism's token, and in the place of a MIC that it was good over this list,
-/// or that it was not.
+/// Puts the envelope of the step in the place of the mechanism's token, and in the place of a MIC
+/// that it was good over this list, or that it was not.
 #[unsafe(no_mangle)]
 pub extern "C" fn newaksu_targ_hand(
     alloc: Global,
@@ -96,7 +101,8 @@ pub extern "C" fn newaksu_targ_hand(
     good: u32,
     list: &[u8],
 ) -> u32
-    ensures { SetsOr (targ_in targ.old.held) objects.Targ (with_report step.now good list.now) targ.old.held targ.new.held result }
+    ensures { SetsOr (targ_in targ.old.held) objects.Targ (with_report step.now good list.now)
+        targ.old.held targ.new.held result }
 {
     let Some(mut object) = targ.take(alloc) else {
         return INVALID_HANDLE;
@@ -127,7 +133,8 @@ pub extern "C" fn newaksu_targ_signing(
     written: &mut usize,
 ) -> u32
     ensures kept { targ.new.held ≡ targ.old.held }
-    ensures gives { Answers (of_it signing_of (targ_in targ.old.held)) out.old out.new written.new result }
+    ensures gives { Answers (of_it signing_of (targ_in targ.old.held)) out.old out.new written.new
+        result }
 {
     let object = targ.take(alloc);
     let status = answer(signing(&object), out, written);

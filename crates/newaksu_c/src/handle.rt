@@ -91,7 +91,8 @@ impl Handle {
         }
     }
 
-    /// Puts an object behind the handle, in the memory of what stood there; an empty handle stays empty when out of memory.
+    /// Puts an object behind the handle, in the memory of what stood there; an empty handle stays
+    /// empty when out of memory.
     pub(crate) fn fill(&mut self, alloc: Global, object: Object) -> Result<(), AllocError>
         ensures ok { OnOk result (self.new.held ≡ Some object) }
         ensures err { OnErr result (self.new.held ≡ self.old.held) }

@@ -23,7 +23,8 @@ pub extern "C" fn newaksu_identities_new(alloc: Global, handle: &mut Handle) -> 
 }
 
 fn add(alloc: Global, object: &mut Object, name: &[u8], password: &[u8]) -> u32
-    ensures { HasAdded (identities_in (Some object.old)) (identity_of name.now password.now) (Some object.old) (Some object.new)
+    ensures { HasAdded (identities_in (Some object.old)) (identity_of name.now password.now)
+        (Some object.old) (Some object.new)
         result }
 {
     let Object::Identities(identities) = object else {
@@ -46,7 +47,8 @@ pub extern "C" fn newaksu_identities_add(
     name: &[u8],
     password: &[u8],
 ) -> u32
-    ensures { HasAdded (identities_in handle.old.held) (identity_of name.now password.now) handle.old.held handle.new.held result }
+    ensures { HasAdded (identities_in handle.old.held) (identity_of name.now password.now)
+        handle.old.held handle.new.held result }
 {
     let Some(mut object) = handle.take(alloc) else {
         return INVALID_HANDLE;

@@ -10,7 +10,8 @@ ghost use Rattle.newaksu_c.specs.Giving.{Answers, items_of, told, told_list};
 ghost use Rattle.newaksu_c.specs.Held.{init_in};
 ghost use Rattle.newaksu_c.specs.Putting.{made, spelled, Puts};
 ghost use Rattle.newaksu_c.specs.Requests.{Tells};
-ghost use Rattle.newaksu_c.specs.Tokens.{count_of, item_at, item_of, mech_list, mech_token, of_it, there, IsSpelled};
+ghost use Rattle.newaksu_c.specs.Tokens.{count_of, item_at, item_of, mech_list, mech_token, of_it};
+ghost use Rattle.newaksu_c.specs.Tokens.{there, IsSpelled};
 
 use crate::giving::{answer, give_all};
 use crate::handle::Handle;
@@ -24,7 +25,8 @@ use std::alloc::Global;
 /// A token without a list and without a mechanism's token.
 #[unsafe(no_mangle)]
 pub extern "C" fn newaksu_init_new(alloc: Global, handle: &mut Handle) -> u32
-    ensures { Puts handle.old.held handle.new.held (Ok (objects.Init (record { mech_types = None; mech_token = None }))) result }
+    ensures { Puts handle.old.held handle.new.held
+        (Ok (objects.Init (record { mech_types = None; mech_token = None }))) result }
 {
     put(
         alloc,
@@ -58,7 +60,8 @@ pub(crate) fn spelling(text: Result<Vec<u8>, Error>) -> Result<Vec<u8>, u32>
 }
 
 fn encoded(alloc: Global, object: &Option<Box<Object>>) -> Result<Vec<u8>, u32>
-    ensures { IsSpelled spelled_init (there (init_in (option_map (λ b. b.value) object.now))) (items_of result) }
+    ensures { IsSpelled spelled_init (there (init_in (option_map (λ b. b.value) object.now)))
+        (items_of result) }
 {
     match token_of(object) {
         Some(token) => spelling(token.encode(alloc)),
@@ -75,7 +78,8 @@ pub extern "C" fn newaksu_init_encode(
     written: &mut usize,
 ) -> u32
     ensures kept { handle.new.held ≡ handle.old.held }
-    ensures gives { (text : Result (List ℕ) ℕ) × IsSpelled spelled_init (there (init_in handle.old.held)) text × Answers text
+    ensures gives { (text : Result (List ℕ) ℕ) ×
+        IsSpelled spelled_init (there (init_in handle.old.held)) text × Answers text
         out.old out.new written.new result }
 {
     let object = handle.take(alloc);
@@ -97,7 +101,8 @@ fn list_of(object: &Option<Box<Object>>) -> Result<&MechTypeList, u32>
 }
 
 fn list_encoded(alloc: Global, object: &Option<Box<Object>>) -> Result<Vec<u8>, u32>
-    ensures { IsSpelled spelled_list (of_it mech_list (init_in (option_map (λ b. b.value) object.now))) (items_of result) }
+    ensures { IsSpelled spelled_list (of_it mech_list
+        (init_in (option_map (λ b. b.value) object.now))) (items_of result) }
 {
     match list_of(object) {
         Ok(list) => spelling(encode_mech_types(alloc, list)),
@@ -114,7 +119,8 @@ pub extern "C" fn newaksu_init_mech_list(
     written: &mut usize,
 ) -> u32
     ensures kept { handle.new.held ≡ handle.old.held }
-    ensures gives { (text : Result (List ℕ) ℕ) × IsSpelled spelled_list (of_it mech_list (init_in handle.old.held)) text ×
+    ensures gives { (text : Result (List ℕ) ℕ) ×
+        IsSpelled spelled_list (of_it mech_list (init_in handle.old.held)) text ×
         Answers text out.old out.new written.new result }
 {
     let object = handle.take(alloc);
@@ -124,7 +130,8 @@ pub extern "C" fn newaksu_init_mech_list(
 }
 
 fn count_in(object: &Option<Box<Object>>, count: &mut usize) -> u32
-    ensures { Tells (count_of (of_it mech_list (init_in (option_map (λ b. b.value) object.now)))) count.old count.new result }
+    ensures { Tells (count_of (of_it mech_list (init_in (option_map (λ b. b.value) object.now))))
+        count.old count.new result }
 {
     match list_of(object) {
         Ok(list) => {
@@ -143,7 +150,8 @@ pub extern "C" fn newaksu_init_mech_count(
     count: &mut usize,
 ) -> u32
     ensures kept { handle.new.held ≡ handle.old.held }
-    ensures tells { Tells (count_of (of_it mech_list (init_in handle.old.held))) count.old count.new result }
+    ensures tells { Tells (count_of (of_it mech_list (init_in handle.old.held))) count.old count.new
+        result }
 {
     let object = handle.take(alloc);
     let status = count_in(&object, count);
@@ -162,7 +170,8 @@ fn item_at(list: &[Oid], index: usize) -> Result<&[u8], u32>
 }
 
 fn item_in(object: &Option<Box<Object>>, index: usize) -> Result<&[u8], u32>
-    ensures { told result ≡ item_of index (of_it mech_list (init_in (option_map (λ b. b.value) object.now))) }
+    ensures { told result ≡ item_of index
+        (of_it mech_list (init_in (option_map (λ b. b.value) object.now))) }
 {
     match list_of(object) {
         Ok(list) => item_at(list.as_slice(), index),
@@ -180,7 +189,8 @@ pub extern "C" fn newaksu_init_mech(
     written: &mut usize,
 ) -> u32
     ensures kept { handle.new.held ≡ handle.old.held }
-    ensures gives { Answers (item_of index (of_it mech_list (init_in handle.old.held))) out.old out.new written.new result }
+    ensures gives { Answers (item_of index (of_it mech_list (init_in handle.old.held))) out.old
+        out.new written.new result }
 {
     let object = handle.take(alloc);
     let status = answer(item_in(&object, index), out, written);
@@ -209,7 +219,8 @@ pub extern "C" fn newaksu_init_token(
     written: &mut usize,
 ) -> u32
     ensures kept { handle.new.held ≡ handle.old.held }
-    ensures gives { Answers (of_it mech_token (init_in handle.old.held)) out.old out.new written.new result }
+    ensures gives { Answers (of_it mech_token (init_in handle.old.held)) out.old out.new written.new
+        result }
 {
     let object = handle.take(alloc);
     let status = answer(token_in(&object), out, written);

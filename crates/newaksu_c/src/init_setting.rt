@@ -44,7 +44,8 @@ fn lengthened(
 }
 
 fn add(alloc: Global, object: &mut Object, oid: &[u8]) -> u32
-    ensures { SetsOr (init_in (Some object.old)) objects.Init (with_mech oid.now) (Some object.old) (Some object.new) result }
+    ensures { SetsOr (init_in (Some object.old)) objects.Init (with_mech oid.now) (Some object.old)
+        (Some object.new) result }
 {
     let Object::Init(token) = object else {
         return INVALID_HANDLE;
@@ -61,7 +62,8 @@ fn add(alloc: Global, object: &mut Object, oid: &[u8]) -> u32
 /// Puts a mechanism, by the content bytes of its identifier, at the end of the list.
 #[unsafe(no_mangle)]
 pub extern "C" fn newaksu_init_add_mech(alloc: Global, handle: &mut Handle, oid: &[u8]) -> u32
-    ensures { SetsOr (init_in handle.old.held) objects.Init (with_mech oid.now) handle.old.held handle.new.held result }
+    ensures { SetsOr (init_in handle.old.held) objects.Init (with_mech oid.now) handle.old.held
+        handle.new.held result }
 {
     let Some(mut object) = handle.take(alloc) else {
         return INVALID_HANDLE;
@@ -72,7 +74,8 @@ pub extern "C" fn newaksu_init_add_mech(alloc: Global, handle: &mut Handle, oid:
 }
 
 fn set_token(alloc: Global, object: &mut Object, bytes: &[u8]) -> u32
-    ensures { SetsOr (init_in (Some object.old)) objects.Init (with_mech_token bytes.now) (Some object.old) (Some object.new) result }
+    ensures { SetsOr (init_in (Some object.old)) objects.Init (with_mech_token bytes.now)
+        (Some object.old) (Some object.new) result }
 {
     let Object::Init(token) = object else {
         return INVALID_HANDLE;
@@ -89,7 +92,8 @@ fn set_token(alloc: Global, object: &mut Object, bytes: &[u8]) -> u32
 /// Sets the mechanism's token.
 #[unsafe(no_mangle)]
 pub extern "C" fn newaksu_init_set_token(alloc: Global, handle: &mut Handle, bytes: &[u8]) -> u32
-    ensures { SetsOr (init_in handle.old.held) objects.Init (with_mech_token bytes.now) handle.old.held handle.new.held result }
+    ensures { SetsOr (init_in handle.old.held) objects.Init (with_mech_token bytes.now)
+        handle.old.held handle.new.held result }
 {
     let Some(mut object) = handle.take(alloc) else {
         return INVALID_HANDLE;

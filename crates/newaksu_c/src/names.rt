@@ -14,7 +14,8 @@ use sspi_types::{ErrorKind, NStatusCode};
 /// The name of an SSPI code, as `LogonDenied`.
 #[unsafe(no_mangle)]
 pub extern "C" fn newaksu_error_name(kind: u32, out: &mut [u8], written: &mut usize) -> u32
-    ensures { (read : Option Kind) × ReadsNumber error_kind_number kind read × Answers (kind_name read) out.old out.new
+    ensures { (read : Option Kind) × ReadsNumber error_kind_number kind read ×
+        Answers (kind_name read) out.old out.new
         written.new result }
 {
     match ErrorKind::from_u32(kind) {

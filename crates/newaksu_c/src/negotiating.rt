@@ -1,5 +1,6 @@
 //! Ends that negotiate over two mechanisms of the host, made.
-ghost use Rattle.std.specs.Prelude.{◌≡◌, ◌≢◌, ℕ, Ok, Err, Result, IfOk, IfErr, replicate, option_map};
+ghost use Rattle.std.specs.Prelude.{◌≡◌, ◌≢◌, ℕ, Ok, Err, Result, IfOk, IfErr, replicate};
+ghost use Rattle.std.specs.Prelude.{option_map};
 ghost use Rattle.sspi_credssp.specs.Ends.{IsFreshClient, IsFreshServer};
 ghost use Rattle.sspi_outside.specs.Configured.{configured};
 ghost use Rattle.newaksu_c.specs.declared.object.Object.{Object as What};
@@ -50,9 +51,11 @@ fn client_of(
 ) -> Result<CredSspClient<Outside, Outside>, u32>
     ensures fresh { IfOk result (λ client. IsFreshClient client) }
     ensures settings { IfOk result (λ client.
-        settings_with packages options.now key.now target.now nonce.now name.now password.now ≡ Ok client.settings) }
+        settings_with packages options.now key.now target.now nonce.now name.now password.now ≡ Ok
+        client.settings) }
     ensures cause { IfErr result (λ status. status ≢ insufficient_memory →
-        settings_with packages options.now key.now target.now nonce.now name.now password.now ≡ Err status) }
+        settings_with packages options.now key.now target.now nonce.now name.now password.now ≡ Err
+        status) }
 {
     check_versions(options.version, options.least_version)?;
     let delegation = delegation_of(options.delegation)?;
@@ -83,14 +86,16 @@ fn made_client(
     name: &[u8],
     password: &[u8],
 ) -> Result<Object, u32>
-    ensures { MakesNegotiating (negotiating_client options.now key.now target.now nonce.now name.now password.now) result }
+    ensures { MakesNegotiating (negotiating_client options.now key.now target.now nonce.now name.now
+        password.now) result }
 {
     let packages = packages_by(options.mechanism)?;
     let client = client_of(alloc, packages, options, key, target, nonce, name, password)?;
     Ok(Object::Client(boxed(alloc, ClientEnd::new(client))?))
 }
 
-/// A client that negotiates: as `newaksu_client_new`, where `mechanism` is 1 for NTLM, 2 for Kerberos, 3 for both.
+/// A client that negotiates: as `newaksu_client_new`, where `mechanism` is 1 for NTLM, 2 for
+/// Kerberos, 3 for both.
 #[unsafe(no_mangle)]
 pub extern "C" fn newaksu_client_negotiating(
     alloc: Global,
@@ -103,7 +108,8 @@ pub extern "C" fn newaksu_client_negotiating(
     password: &[u8],
 ) -> u32
     ensures { (end : Result What ℕ) ×
-        MakesNegotiating (negotiating_client options.now key.now target.now nonce.now name.now password.now) end ×
+        MakesNegotiating (negotiating_client options.now key.now target.now nonce.now name.now
+        password.now) end ×
         Puts handle.old.held handle.new.held end result }
 {
     match made_client(alloc, options, key, target, nonce, name, password) {
@@ -121,7 +127,8 @@ fn server_of(
 ) -> Result<CredSspServer<Outside, Outside, Peers>, u32>
     ensures fresh { IfOk result (λ server. IsFreshServer server) }
     ensures settings { IfOk result (λ server.
-        server.settings ≡ server_with packages (server_settings options.now key.now (replicate 8 0))) }
+        server.settings ≡ server_with packages
+        (server_settings options.now key.now (replicate 8 0))) }
     ensures proxy { IfOk result (λ server. server.proxy ≡ peers) }
     ensures err { IfErr result (λ status. status ≡ insufficient_memory) }
 {
@@ -137,7 +144,8 @@ fn made_server(
     options: &ServerOptions,
     key: &[u8],
 ) -> Result<Object, u32>
-    ensures { MakesNegotiatingServer options.now key.now (option_map (λ b. b.value) identities.now) result }
+    ensures { MakesNegotiatingServer options.now key.now (option_map (λ b. b.value) identities.now)
+        result }
 {
     let packages = packages_by(options.mechanism)?;
     check_versions(options.version, options.least_version)?;
@@ -146,7 +154,8 @@ fn made_server(
     Ok(Object::Server(boxed(alloc, ServerEnd::new(server))?))
 }
 
-/// A server that negotiates: as `newaksu_server_new`, where `mechanism` is 1 for NTLM, 2 for Kerberos, 3 for both.
+/// A server that negotiates: as `newaksu_server_new`, where `mechanism` is 1 for NTLM, 2 for
+/// Kerberos, 3 for both.
 #[unsafe(no_mangle)]
 pub extern "C" fn newaksu_server_negotiating(
     alloc: Global,
@@ -156,7 +165,8 @@ pub extern "C" fn newaksu_server_negotiating(
     key: &[u8],
 ) -> u32
     ensures kept { identities.new.held ≡ identities.old.held }
-    ensures puts { (end : Result What ℕ) × MakesNegotiatingServer options.now key.now identities.old.held end ×
+    ensures puts { (end : Result What ℕ) ×
+        MakesNegotiatingServer options.now key.now identities.old.held end ×
         Puts handle.old.held handle.new.held end result }
 {
     let known = identities.take(alloc);

@@ -1,6 +1,7 @@
 //! What can stand behind a handle.
 ghost use Rattle.std.specs.Prelude.{◌≡◌, option_copied, option_map, IfOk, IfErr};
-ghost use Rattle.newaksu_c.specs.Held.{kind_in, request_in, init_in, targ_in, credentials_in, identities_in};
+ghost use Rattle.newaksu_c.specs.Held.{kind_in, request_in, init_in, targ_in, credentials_in};
+ghost use Rattle.newaksu_c.specs.Held.{identities_in};
 ghost use Rattle.newaksu_c.specs.Courses.{course_in};
 ghost use Rattle.newaksu_c.specs.Status.{insufficient_memory};
 

@@ -1,7 +1,9 @@
 //! A message, handed to an end.
 ghost use Rattle.std.specs.Prelude.{◌≡◌, Some, option_map};
 ghost use Rattle.sspi_outside.specs.Hosting.{credentials_opened, handed, proof_opened};
-ghost use Rattle.newaksu_c.specs.Processing.{as_it_came, hosted, is_bare, plain, reported, said_status, ClientDoes, IsDelivered, IsRead, ProcessesClient, ProcessesServer, ServerDoes};
+ghost use Rattle.newaksu_c.specs.Processing.{as_it_came, hosted, is_bare, plain, reported};
+ghost use Rattle.newaksu_c.specs.Processing.{said_status, ClientDoes, IsDelivered, IsRead};
+ghost use Rattle.newaksu_c.specs.Processing.{ProcessesClient, ProcessesServer, ServerDoes};
 
 use crate::handle::Handle;
 use crate::object::Object;
@@ -33,7 +35,8 @@ fn delivered(alloc: Global, message: &[u8]) -> Result<TsRequest, u32>
 }
 
 fn opened_by(field: u32, text: &[u8]) -> Option<Opened<'_>>
-    ensures { option_map (λ it. (proof_opened it, credentials_opened it)) result ≡ reported field text.now }
+    ensures { option_map (λ it. (proof_opened it, credentials_opened it)) result ≡ reported field
+        text.now }
 {
     match field {
         0 if text.len() == 0 => Some(Opened::Neither),
@@ -62,7 +65,8 @@ fn hosted_client(
     step: &[u8],
     opened: Opened<'_>,
 ) -> Result<Result<(), Error>, u32>
-    ensures { ClientDoes hosted (λ d. handed d step.now (proof_opened opened.entry) (credentials_opened opened.entry)) message.now
+    ensures { ClientDoes hosted (λ d. handed d step.now (proof_opened opened.entry)
+        (credentials_opened opened.entry)) message.now
         end.old.client end.old.last result end.new.client end.new.last }
 {
     let request = delivered(alloc, message)?;
@@ -77,7 +81,8 @@ fn plain_client(
     end: &mut ClientEnd<Ntlm, Ntlm>,
     message: &[u8],
 ) -> Result<Result<(), Error>, u32>
-    ensures { ClientDoes plain as_it_came message.now end.old.client end.old.last result end.new.client end.new.last }
+    ensures { ClientDoes plain as_it_came message.now end.old.client end.old.last result
+        end.new.client end.new.last }
 {
     let request = delivered(alloc, message)?;
     Ok(end.process(request))
@@ -97,7 +102,8 @@ fn process_client(
     field: u32,
     text: &[u8],
 ) -> u32
-    ensures { ProcessesClient message.now step.now (Some object.new) result field text.now (Some object.old) }
+    ensures { ProcessesClient message.now step.now (Some object.new) result field text.now
+        (Some object.old) }
 {
     match object {
         Object::Client(end) => match opened_by(field, text) {
@@ -112,7 +118,8 @@ fn process_client(
     }
 }
 
-/// Hands a client the server's message, with what the host's context made of it; the first call has no message.
+/// Hands a client the server's message, with what the host's context made of it; the first call has
+/// no message.
 #[unsafe(no_mangle)]
 pub extern "C" fn newaksu_client_process(
     alloc: Global,
@@ -122,7 +129,8 @@ pub extern "C" fn newaksu_client_process(
     opened_field: u32,
     opened: &[u8],
 ) -> u32
-    ensures { ProcessesClient message.now step.now client.new.held result opened_field opened.now client.old.held }
+    ensures { ProcessesClient message.now step.now client.new.held result opened_field opened.now
+        client.old.held }
 {
     let Some(mut object) = client.take(alloc) else {
         return INVALID_HANDLE;
@@ -141,7 +149,8 @@ fn hosted_server(
     step: &[u8],
     opened: Opened<'_>,
 ) -> Result<Result<(), Error>, u32>
-    ensures { ServerDoes hosted (λ d. handed d step.now (proof_opened opened.entry) (credentials_opened opened.entry)) message.now
+    ensures { ServerDoes hosted (λ d. handed d step.now (proof_opened opened.entry)
+        (credentials_opened opened.entry)) message.now
         end.old.server end.old.last result end.new.server end.new.last }
 {
     let request = read(alloc, message)?;
@@ -156,7 +165,8 @@ fn plain_server(
     end: &mut ServerEnd<Ntlm, Ntlm, Peers>,
     message: &[u8],
 ) -> Result<Result<(), Error>, u32>
-    ensures { ServerDoes plain as_it_came message.now end.old.server end.old.last result end.new.server end.new.last }
+    ensures { ServerDoes plain as_it_came message.now end.old.server end.old.last result
+        end.new.server end.new.last }
 {
     let request = read(alloc, message)?;
     Ok(end.process(request))
@@ -170,7 +180,8 @@ fn process_server(
     field: u32,
     text: &[u8],
 ) -> u32
-    ensures { ProcessesServer message.now step.now (Some object.new) result field text.now (Some object.old) }
+    ensures { ProcessesServer message.now step.now (Some object.new) result field text.now
+        (Some object.old) }
 {
     match object {
         Object::Server(end) => match opened_by(field, text) {
@@ -195,7 +206,8 @@ pub extern "C" fn newaksu_server_process(
     opened_field: u32,
     opened: &[u8],
 ) -> u32
-    ensures { ProcessesServer message.now step.now server.new.held result opened_field opened.now server.old.held }
+    ensures { ProcessesServer message.now step.now server.new.held result opened_field opened.now
+        server.old.held }
 {
     let Some(mut object) = server.take(alloc) else {
         return INVALID_HANDLE;

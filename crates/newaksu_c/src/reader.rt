@@ -18,13 +18,15 @@ use std::alloc::Global;
 /// A reader that was fed nothing.
 #[unsafe(no_mangle)]
 pub extern "C" fn newaksu_reader_new(alloc: Global, handle: &mut Handle) -> u32
-    ensures { (reader : Fed) × Stands reader [] × Puts handle.old.held handle.new.held (Ok (objects.Reader reader)) result }
+    ensures { (reader : Fed) × Stands reader [] ×
+        Puts handle.old.held handle.new.held (Ok (objects.Reader reader)) result }
 {
     put(alloc, handle, Object::Reader(TsReader::new(alloc)))
 }
 
 fn feed(object: &mut Object, piece: &[u8]) -> u32
-    ensures { HasFed (reader_in (Some object.old)) piece.now (Some object.old) (Some object.new) result }
+    ensures { HasFed (reader_in (Some object.old)) piece.now (Some object.old) (Some object.new)
+        result }
 {
     match object {
         Object::Reader(reader) => match reader.feed(piece) {

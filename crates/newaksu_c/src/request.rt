@@ -9,7 +9,8 @@ ghost use Rattle.newaksu_c.specs.declared.object.Object.TheVariants as objects;
 ghost use Rattle.newaksu_c.specs.Giving.{Answers, told, items_of};
 ghost use Rattle.newaksu_c.specs.Held.{request_in};
 ghost use Rattle.newaksu_c.specs.Putting.{Puts};
-ghost use Rattle.newaksu_c.specs.Requests.{code_in, code_of, field_at, field_in, present, request_made, version_in, IsEncoded, Sized, Tells};
+ghost use Rattle.newaksu_c.specs.Requests.{code_in, code_of, field_at, field_in, present};
+ghost use Rattle.newaksu_c.specs.Requests.{request_made, version_in, IsEncoded, Sized, Tells};
 
 use crate::giving::{answer, give_all};
 use crate::handle::Handle;
@@ -58,7 +59,8 @@ pub extern "C" fn newaksu_request_new(alloc: Global, handle: &mut Handle, versio
 /// The request that the bytes begin with.
 #[unsafe(no_mangle)]
 pub extern "C" fn newaksu_request_decode(alloc: Global, handle: &mut Handle, bytes: &[u8]) -> u32
-    ensures { (read : Result Message Kind) × IsAnswer bytes.now read × Puts handle.old.held handle.new.held (request_made read) result }
+    ensures { (read : Result Message Kind) × IsAnswer bytes.now read ×
+        Puts handle.old.held handle.new.held (request_made read) result }
 {
     match TsRequest::from_buffer(alloc, bytes) {
         Ok(request) => put_request(alloc, handle, request),
@@ -114,7 +116,8 @@ pub extern "C" fn newaksu_request_encode(
     written: &mut usize,
 ) -> u32
     ensures kept { handle.new.held ≡ handle.old.held }
-    ensures gives { (text : Result (List ℕ) ℕ) × IsEncoded (request_in handle.old.held) text × Answers text out.old out.new written.new
+    ensures gives { (text : Result (List ℕ) ℕ) × IsEncoded (request_in handle.old.held) text ×
+        Answers text out.old out.new written.new
         result }
 {
     let object = handle.take(alloc);
@@ -219,7 +222,8 @@ pub extern "C" fn newaksu_request_field(
     written: &mut usize,
 ) -> u32
     ensures kept { handle.new.held ≡ handle.old.held }
-    ensures gives { Answers (field_in field (request_in handle.old.held)) out.old out.new written.new result }
+    ensures gives { Answers (field_in field (request_in handle.old.held)) out.old out.new
+        written.new result }
 {
     let object = handle.take(alloc);
     let status = answer(field_in(&object, field), out, written);

@@ -14,7 +14,8 @@ use sspi_types::{Bytes, NStatusCode};
 use std::alloc::Global;
 
 fn set_version(object: &mut Object, version: u32) -> u32
-    ensures { Sets (request_in (Some object.old)) objects.Request (λ r. record r { version = version })
+    ensures { Sets (request_in (Some object.old)) objects.Request
+        (λ r. record r { version = version })
         (Some object.old) (Some object.new) result }
 {
     match object {
@@ -33,7 +34,8 @@ pub extern "C" fn newaksu_request_set_version(
     handle: &mut Handle,
     version: u32,
 ) -> u32
-    ensures { Sets (request_in handle.old.held) objects.Request (λ r. record r { version = version }) handle.old.held
+    ensures { Sets (request_in handle.old.held) objects.Request
+        (λ r. record r { version = version }) handle.old.held
         handle.new.held result }
 {
     let Some(mut object) = handle.take(alloc) else {
@@ -65,7 +67,8 @@ pub extern "C" fn newaksu_request_set_error_code(
     handle: &mut Handle,
     code: u32,
 ) -> u32
-    ensures { Sets (request_in handle.old.held) objects.Request (λ r. record r { error_code = Some (record { 0 = code }) })
+    ensures { Sets (request_in handle.old.held) objects.Request
+        (λ r. record r { error_code = Some (record { 0 = code }) })
         handle.old.held handle.new.held result }
 {
     let Some(mut object) = handle.take(alloc) else {
@@ -132,7 +135,8 @@ pub extern "C" fn newaksu_request_set_field(
     field: u32,
     bytes: &[u8],
 ) -> u32
-    ensures { SetsOr (request_in handle.old.held) objects.Request (with_field field bytes.now) handle.old.held handle.new.held
+    ensures { SetsOr (request_in handle.old.held) objects.Request (with_field field bytes.now)
+        handle.old.held handle.new.held
         result }
 {
     let Some(mut object) = handle.take(alloc) else {
@@ -170,7 +174,8 @@ fn clear_field_in(object: &mut Object, field: u32) -> u32
 /// Takes a field out of the request.
 #[unsafe(no_mangle)]
 pub extern "C" fn newaksu_request_clear_field(alloc: Global, handle: &mut Handle, field: u32) -> u32
-    ensures { SetsOr (request_in handle.old.held) objects.Request (without_field field) handle.old.held handle.new.held result }
+    ensures { SetsOr (request_in handle.old.held) objects.Request (without_field field)
+        handle.old.held handle.new.held result }
 {
     let Some(mut object) = handle.take(alloc) else {
         return INVALID_HANDLE;

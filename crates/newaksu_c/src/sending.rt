@@ -6,7 +6,8 @@ ghost use Rattle.newaksu_c.specs.Giving.{Answers, items_of, told};
 ghost use Rattle.newaksu_c.specs.Held.{acts_in, is_hosted, last_in};
 ghost use Rattle.newaksu_c.specs.Requests.{present};
 ghost use Rattle.newaksu_c.specs.SendingText.{IsMessageText};
-ghost use Rattle.newaksu_c.specs.Sending.{field_for, is_seal, message_for, message_with, owed_in, text_for};
+ghost use Rattle.newaksu_c.specs.Sending.{field_for, is_seal, message_for, message_with, owed_in};
+ghost use Rattle.newaksu_c.specs.Sending.{text_for};
 ghost use Rattle.newaksu_c.specs.Settings.{OrMemory};
 
 use crate::ends::{acts_of, is_hosted, last_of};
@@ -20,7 +21,8 @@ use sspi_tsreq::TsRequest;
 use std::alloc::Global;
 
 fn owed_in(object: &Option<Box<Object>>) -> Result<Owed, u32>
-    ensures { result ≡ owed_in (is_hosted (option_map (λ b. b.value) object.now)) (acts_in (option_map (λ b. b.value) object.now))
+    ensures { result ≡ owed_in (is_hosted (option_map (λ b. b.value) object.now))
+        (acts_in (option_map (λ b. b.value) object.now))
         (last_in (option_map (λ b. b.value) object.now)) }
 {
     let Some(acts) = acts_of(object) else {
@@ -69,8 +71,10 @@ pub extern "C" fn newaksu_end_sealing(
     written: &mut usize,
 ) -> u32
     ensures kept { end.new.held ≡ end.old.held }
-    ensures field { field.new ≡ field_for (owed_in (is_hosted end.old.held) (acts_in end.old.held) (last_in end.old.held)) field.old }
-    ensures gives { Answers (text_for (owed_in (is_hosted end.old.held) (acts_in end.old.held) (last_in end.old.held))
+    ensures field { field.new ≡ field_for (owed_in (is_hosted end.old.held) (acts_in end.old.held)
+        (last_in end.old.held)) field.old }
+    ensures gives { Answers (text_for (owed_in (is_hosted end.old.held) (acts_in end.old.held)
+        (last_in end.old.held))
         (last_in end.old.held)) out.old out.new written.new result }
 {
     let object = end.take(alloc);
@@ -134,8 +138,10 @@ fn message_with(
 
 fn message_for(alloc: Global, object: &Option<Box<Object>>, blob: &[u8]) -> Result<TsRequest, u32>
     ensures { OrMemory result (message_for (is_hosted (option_map (λ b. b.value) object.now))
-        (owed_in (is_hosted (option_map (λ b. b.value) object.now)) (acts_in (option_map (λ b. b.value) object.now))
-        (last_in (option_map (λ b. b.value) object.now))) blob.now (last_in (option_map (λ b. b.value) object.now))) }
+        (owed_in (is_hosted (option_map (λ b. b.value) object.now))
+        (acts_in (option_map (λ b. b.value) object.now))
+        (last_in (option_map (λ b. b.value) object.now))) blob.now
+        (last_in (option_map (λ b. b.value) object.now))) }
 {
     let owed = owed_in(object)?;
     match last_of(object) {
@@ -151,7 +157,8 @@ fn text_of(alloc: Global, message: Result<TsRequest, u32>) -> Result<Vec<u8>, u3
     encoded_message(alloc, &message)
 }
 
-/// The end's message for its peer, with the sealed blob in the place of the text that the host had to seal.
+/// The end's message for its peer, with the sealed blob in the place of the text that the host had
+/// to seal.
 #[unsafe(no_mangle)]
 pub extern "C" fn newaksu_end_message(
     alloc: Global,
@@ -161,9 +168,12 @@ pub extern "C" fn newaksu_end_message(
     written: &mut usize,
 ) -> u32
     ensures kept { end.new.held ≡ end.old.held }
-    ensures gives { (message : Result Message ℕ) × OrMemory message (message_for (is_hosted end.old.held)
-        (owed_in (is_hosted end.old.held) (acts_in end.old.held) (last_in end.old.held)) sealed.now (last_in end.old.held)) ×
-        ((text : Result (List ℕ) ℕ) × IsMessageText message text × Answers text out.old out.new written.new result) }
+    ensures gives { (message : Result Message ℕ) ×
+        OrMemory message (message_for (is_hosted end.old.held)
+        (owed_in (is_hosted end.old.held) (acts_in end.old.held) (last_in end.old.held)) sealed.now
+        (last_in end.old.held)) ×
+        ((text : Result (List ℕ) ℕ) × IsMessageText message text ×
+        Answers text out.old out.new written.new result) }
 {
     let object = end.take(alloc);
     let message = message_for(alloc, &object, sealed);

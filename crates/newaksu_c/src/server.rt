@@ -1,10 +1,12 @@
 //! A server, made.
-ghost use Rattle.std.specs.Prelude.{◌≡◌, ◌≢◌, ℕ, List, None, Some, Ok, Err, Result, IfOk, IfErr, replicate, option_map};
+ghost use Rattle.std.specs.Prelude.{◌≡◌, ◌≢◌, ℕ, List, None, Some, Ok, Err, Result, IfOk, IfErr};
+ghost use Rattle.std.specs.Prelude.{replicate, option_map};
 ghost use Rattle.sspi_credssp.specs.Ends.{IsFreshServer};
 ghost use Rattle.newaksu_c.specs.declared.object.Object.{Object as What};
 ghost use Rattle.newaksu_c.specs.Held.{identities_in};
 ghost use Rattle.newaksu_c.specs.Making.{ArePeers, IsNewServer};
-ghost use Rattle.newaksu_c.specs.MakingServers.{any_peer, hosted_peers, listed_peers, plain_fault, taken_peers, MakesServer};
+ghost use Rattle.newaksu_c.specs.MakingServers.{any_peer, hosted_peers, listed_peers, plain_fault};
+ghost use Rattle.newaksu_c.specs.MakingServers.{taken_peers, MakesServer};
 ghost use Rattle.newaksu_c.specs.Putting.{Puts};
 ghost use Rattle.newaksu_c.specs.Settings.{challenge_of, server_settings};
 ghost use Rattle.newaksu_c.specs.Status.{insufficient_memory};
@@ -38,7 +40,8 @@ fn server_of<N, K>(
     peers: Peers,
 ) -> Result<CredSspServer<N, K, Peers>, u32>
     ensures fresh { IfOk result (λ server. IsFreshServer server) }
-    ensures settings { IfOk result (λ server. server.settings ≡ server_settings options.now key.now challenge) }
+    ensures settings { IfOk result (λ server. server.settings ≡ server_settings options.now key.now
+        challenge) }
     ensures proxy { IfOk result (λ server. server.proxy ≡ peers) }
     ensures err { IfErr result (λ status. status ≡ insufficient_memory) }
 {
@@ -60,9 +63,12 @@ fn hosted(
     key: &[u8],
     identities: &Option<Box<Object>>,
 ) -> Result<ServerEnd<Outside, Outside, Peers>, u32>
-    ensures ok { IfOk result (λ end. IsNewServer (server_settings options.now key.now (replicate 8 0))
-        (taken_peers options.now.peers (option_map (λ b. b.value) identities.now)) end.server end.last) }
-    ensures peers { IfOk result (λ end. hosted_peers options.now.peers (option_map (λ b. b.value) identities.now) ≡ Ok tt) }
+    ensures ok { IfOk result (λ end. IsNewServer
+        (server_settings options.now key.now (replicate 8 0))
+        (taken_peers options.now.peers (option_map (λ b. b.value) identities.now)) end.server
+        end.last) }
+    ensures peers { IfOk result (λ end. hosted_peers options.now.peers
+        (option_map (λ b. b.value) identities.now) ≡ Ok tt) }
     ensures cause { IfErr result (λ status. status ≢ insufficient_memory →
         hosted_peers options.now.peers (option_map (λ b. b.value) identities.now) ≡ Err status) }
 {
@@ -75,8 +81,10 @@ pub(crate) fn hosted_peers(
     choice: u32,
     identities: &Option<Box<Object>>,
 ) -> Result<Peers, u32>
-    ensures ok { IfOk result (λ peers. ArePeers (taken_peers choice (option_map (λ b. b.value) identities.now)) peers) }
-    ensures there { IfOk result (λ peers. hosted_peers choice (option_map (λ b. b.value) identities.now) ≡ Ok tt) }
+    ensures ok { IfOk result (λ peers. ArePeers
+        (taken_peers choice (option_map (λ b. b.value) identities.now)) peers) }
+    ensures there { IfOk result (λ peers. hosted_peers choice
+        (option_map (λ b. b.value) identities.now) ≡ Ok tt) }
     ensures cause { IfErr result (λ status. status ≢ insufficient_memory →
         hosted_peers choice (option_map (λ b. b.value) identities.now) ≡ Err status) }
 {
@@ -88,8 +96,10 @@ pub(crate) fn hosted_peers(
 }
 
 fn listed_peers(alloc: Global, identities: &Option<Box<Object>>) -> Result<Peers, u32>
-    ensures ok { IfOk result (λ peers. ArePeers (identities_in (option_map (λ b. b.value) identities.now)) peers) }
-    ensures there { IfOk result (λ peers. listed_peers (identities_in (option_map (λ b. b.value) identities.now)) ≡ Ok tt) }
+    ensures ok { IfOk result (λ peers. ArePeers
+        (identities_in (option_map (λ b. b.value) identities.now)) peers) }
+    ensures there { IfOk result (λ peers. listed_peers
+        (identities_in (option_map (λ b. b.value) identities.now)) ≡ Ok tt) }
     ensures cause { IfErr result (λ status. status ≢ insufficient_memory →
         listed_peers (identities_in (option_map (λ b. b.value) identities.now)) ≡ Err status) }
 {
@@ -101,8 +111,10 @@ fn listed_peers(alloc: Global, identities: &Option<Box<Object>>) -> Result<Peers
 
 fn anyone(alloc: Global, identities: &Option<Box<Object>>) -> Result<Peers, u32>
     ensures ok { IfOk result (λ peers. ArePeers None peers) }
-    ensures there { IfOk result (λ peers. any_peer (option_map (λ b. b.value) identities.now) ≡ Ok tt) }
-    ensures cause { IfErr result (λ status. any_peer (option_map (λ b. b.value) identities.now) ≡ Err status) }
+    ensures there { IfOk result (λ peers. any_peer (option_map (λ b. b.value) identities.now) ≡ Ok
+        tt) }
+    ensures cause { IfErr result (λ status. any_peer
+        (option_map (λ b. b.value) identities.now) ≡ Err status) }
 {
     match identities {
         None => Ok(Peers::Anyone(AnyPeer::new(alloc))),
@@ -118,7 +130,8 @@ fn plain(
     challenge: [u8; 8],
     list: &IdentityList,
 ) -> Result<ServerEnd<Ntlm, Ntlm, Peers>, u32>
-    ensures ok { IfOk result (λ end. IsNewServer (server_settings options.now key.now challenge) (Some list.now) end.server end.last) }
+    ensures ok { IfOk result (λ end. IsNewServer (server_settings options.now key.now challenge)
+        (Some list.now) end.server end.last) }
     ensures err { IfErr result (λ status. status ≡ insufficient_memory) }
 {
     let peers = listed(alloc, list)?;
@@ -136,8 +149,10 @@ fn plain_of(
         IsNewServer (server_settings options.now key.now bytes)
         (identities_in (option_map (λ b. b.value) identities.now)) end.server end.last) }
     ensures choice { IfOk result (λ end. options.now.peers ≡ 0) }
-    ensures cause { IfErr result (λ status. status ≢ insufficient_memory → plain_fault options.now.peers
-        (identities_in (option_map (λ b. b.value) identities.now)) (challenge_of challenge.now) ≡ Err status) }
+    ensures cause { IfErr result (λ status. status ≢ insufficient_memory →
+        plain_fault options.now.peers
+        (identities_in (option_map (λ b. b.value) identities.now))
+        (challenge_of challenge.now) ≡ Err status) }
 {
     if options.peers != 0 {
         return Err(INVALID_PARAMETER);
@@ -155,7 +170,8 @@ fn made(
     key: &[u8],
     challenge: &[u8],
 ) -> Result<Object, u32>
-    ensures { MakesServer options.now key.now challenge.now (option_map (λ b. b.value) identities.now) result }
+    ensures { MakesServer options.now key.now challenge.now
+        (option_map (λ b. b.value) identities.now) result }
 {
     check_versions(options.version, options.least_version)?;
     match options.mechanism {
@@ -173,9 +189,11 @@ fn made(
 
 /// A server: of these options, for the channel of this key, with the identities that it knows.
 ///
-/// Whom it takes is chosen by `peers`: with 0 those of the list alone, so that an empty list refuses every peer, and a handle without
-/// a list is refused as `INVALID_HANDLE`; with 1 anyone whom the host's mechanism names, and then the handle of the identities is to
-/// be empty. With 1 and identities, with 1 over plain NTLM, and with another number the call is refused as `INVALID_PARAMETER`.
+/// Whom it takes is chosen by `peers`: with 0 those of the list alone, so that an empty list
+/// refuses every peer, and a handle without a list is refused as `INVALID_HANDLE`; with 1 anyone
+/// whom the host's mechanism names, and then the handle of the identities is to be empty. With 1
+/// and identities, with 1 over plain NTLM, and with another number the call is refused as
+/// `INVALID_PARAMETER`.
 #[unsafe(no_mangle)]
 pub extern "C" fn newaksu_server_new(
     alloc: Global,
@@ -185,7 +203,8 @@ pub extern "C" fn newaksu_server_new(
     key: &[u8],
     challenge: &[u8],
 ) -> u32
-    ensures made { (end : Result What ℕ) × MakesServer options.now key.now challenge.now identities.old.held end ×
+    ensures made { (end : Result What ℕ) ×
+        MakesServer options.now key.now challenge.now identities.old.held end ×
         Puts handle.old.held handle.new.held end result }
     ensures kept { identities.new.held ≡ identities.old.held }
 {

@@ -1,7 +1,8 @@
 //! What the ends are made of, as C gives it.
 ghost use Rattle.std.specs.Prelude.{◌≡◌, Some, None, option_copied, if◌then◌else◌};
 ghost use Rattle.std.specs.Str.{is_utf8};
-ghost use Rattle.newaksu_c.specs.Settings.{challenge_of, delegation_of, identity_of, name_of, nonce_of, text_of, OrMemory};
+ghost use Rattle.newaksu_c.specs.Settings.{challenge_of, delegation_of, identity_of, name_of};
+ghost use Rattle.newaksu_c.specs.Settings.{nonce_of, text_of, OrMemory};
 ghost use Rattle.newaksu_c.specs.Settings.{check_versions, is_version};
 
 use crate::status::{INSUFFICIENT_MEMORY, INVALID_PARAMETER, kind_status};
@@ -34,7 +35,8 @@ pub struct ServerOptions {
     pub version: u32,
     /// The least version of a client that it takes, 2 to 6, or 0 for every.
     pub least_version: u32,
-    /// Whom it takes: 0 for the listed identities alone, 1 for anyone whom the host's mechanism names.
+    /// Whom it takes: 0 for the listed identities alone, 1 for anyone whom the host's mechanism
+    /// names.
     pub peers: u32,
 }
 

@@ -10,7 +10,8 @@ ghost use Rattle.newaksu_c.specs.Giving.{Answers, items_of, told};
 ghost use Rattle.newaksu_c.specs.Held.{targ_in};
 ghost use Rattle.newaksu_c.specs.Putting.{made, Puts};
 ghost use Rattle.newaksu_c.specs.Requests.{present, Tells};
-ghost use Rattle.newaksu_c.specs.Tokens.{of_it, result_number, targ_field, targ_state, there, IsSpelled};
+ghost use Rattle.newaksu_c.specs.Tokens.{of_it, result_number, targ_field, targ_state, there};
+ghost use Rattle.newaksu_c.specs.Tokens.{IsSpelled};
 
 use crate::giving::{answer, give_all};
 use crate::handle::Handle;
@@ -26,7 +27,12 @@ use std::alloc::Global;
 #[unsafe(no_mangle)]
 pub extern "C" fn newaksu_targ_new(alloc: Global, handle: &mut Handle) -> u32
     ensures { Puts handle.old.held handle.new.held (Ok (objects.Targ
-        (record { neg_result = None; supported_mech = None; response_token = None; mech_list_mic = None }))) result }
+        (record {
+          neg_result = None;
+          supported_mech = None;
+          response_token = None;
+          mech_list_mic = None;
+        }))) result }
 {
     put(
         alloc,
@@ -53,7 +59,8 @@ pub extern "C" fn newaksu_targ_decode(alloc: Global, handle: &mut Handle, bytes:
 }
 
 fn encoded(alloc: Global, object: &Option<Box<Object>>) -> Result<Vec<u8>, u32>
-    ensures { IsSpelled spelled_targ (there (targ_in (option_map (λ b. b.value) object.now))) (items_of result) }
+    ensures { IsSpelled spelled_targ (there (targ_in (option_map (λ b. b.value) object.now)))
+        (items_of result) }
 {
     match token_of(object) {
         Some(token) => spelling(token.encode(alloc)),
@@ -70,7 +77,8 @@ pub extern "C" fn newaksu_targ_encode(
     written: &mut usize,
 ) -> u32
     ensures kept { handle.new.held ≡ handle.old.held }
-    ensures gives { (text : Result (List ℕ) ℕ) × IsSpelled spelled_targ (there (targ_in handle.old.held)) text × Answers text
+    ensures gives { (text : Result (List ℕ) ℕ) ×
+        IsSpelled spelled_targ (there (targ_in handle.old.held)) text × Answers text
         out.old out.new written.new result }
 {
     let object = handle.take(alloc);
@@ -90,7 +98,8 @@ fn number_of(state: NegResult) -> u32
 }
 
 fn state_in(object: &Option<Box<Object>>, state: &mut u32) -> u32
-    ensures { Tells (of_it targ_state (targ_in (option_map (λ b. b.value) object.now))) state.old state.new result }
+    ensures { Tells (of_it targ_state (targ_in (option_map (λ b. b.value) object.now))) state.old
+        state.new result }
 {
     match token_of(object) {
         Some(token) => match token.neg_result {
@@ -140,7 +149,8 @@ fn field_of(token: &NegTokenTarg, field: u32) -> Result<&[u8], u32>
 }
 
 fn field_in(object: &Option<Box<Object>>, field: u32) -> Result<&[u8], u32>
-    ensures { told result ≡ of_it (targ_field field) (targ_in (option_map (λ b. b.value) object.now)) }
+    ensures { told result ≡ of_it (targ_field field)
+        (targ_in (option_map (λ b. b.value) object.now)) }
 {
     match token_of(object) {
         Some(token) => field_of(token, field),
@@ -148,7 +158,8 @@ fn field_in(object: &Option<Box<Object>>, field: u32) -> Result<&[u8], u32>
     }
 }
 
-/// A field of the token: the content bytes of `supportedMech`, the octets of `responseToken` or of `mechListMIC`.
+/// A field of the token: the content bytes of `supportedMech`, the octets of `responseToken` or of
+/// `mechListMIC`.
 #[unsafe(no_mangle)]
 pub extern "C" fn newaksu_targ_field(
     alloc: Global,
@@ -158,7 +169,8 @@ pub extern "C" fn newaksu_targ_field(
     written: &mut usize,
 ) -> u32
     ensures kept { handle.new.held ≡ handle.old.held }
-    ensures gives { Answers (of_it (targ_field field) (targ_in handle.old.held)) out.old out.new written.new result }
+    ensures gives { Answers (of_it (targ_field field) (targ_in handle.old.held)) out.old out.new
+        written.new result }
 {
     let object = handle.take(alloc);
     let status = answer(field_in(&object, field), out, written);

@@ -15,7 +15,8 @@ use sspi_tokens::{MechKind, NegResult, NegTokenTarg, Oid};
 use std::alloc::Global;
 
 fn set_state(object: &mut Object, state: u32) -> u32
-    ensures { SetsOr (targ_in (Some object.old)) objects.Targ (with_state state) (Some object.old) (Some object.new) result }
+    ensures { SetsOr (targ_in (Some object.old)) objects.Targ (with_state state) (Some object.old)
+        (Some object.new) result }
 {
     let Object::Targ(token) = object else {
         return INVALID_HANDLE;
@@ -32,7 +33,8 @@ fn set_state(object: &mut Object, state: u32) -> u32
 /// Sets `negState`.
 #[unsafe(no_mangle)]
 pub extern "C" fn newaksu_targ_set_state(alloc: Global, handle: &mut Handle, state: u32) -> u32
-    ensures { SetsOr (targ_in handle.old.held) objects.Targ (with_state state) handle.old.held handle.new.held result }
+    ensures { SetsOr (targ_in handle.old.held) objects.Targ (with_state state) handle.old.held
+        handle.new.held result }
 {
     let Some(mut object) = handle.take(alloc) else {
         return INVALID_HANDLE;
@@ -67,7 +69,8 @@ fn set_field(alloc: Global, token: &mut NegTokenTarg, field: u32, bytes: &[u8]) 
 }
 
 fn set_field_in(alloc: Global, object: &mut Object, field: u32, bytes: &[u8]) -> u32
-    ensures { SetsOr (targ_in (Some object.old)) objects.Targ (with_targ_field field bytes.now) (Some object.old) (Some object.new)
+    ensures { SetsOr (targ_in (Some object.old)) objects.Targ (with_targ_field field bytes.now)
+        (Some object.old) (Some object.new)
         result }
 {
     match object {
@@ -84,7 +87,8 @@ pub extern "C" fn newaksu_targ_set_field(
     field: u32,
     bytes: &[u8],
 ) -> u32
-    ensures { SetsOr (targ_in handle.old.held) objects.Targ (with_targ_field field bytes.now) handle.old.held handle.new.held
+    ensures { SetsOr (targ_in handle.old.held) objects.Targ (with_targ_field field bytes.now)
+        handle.old.held handle.new.held
         result }
 {
     let Some(mut object) = handle.take(alloc) else {

@@ -3,7 +3,10 @@ ghost use Rattle.std.specs.Prelude.{◌≡◌, Err, Ok, option_map, IfErr, IfOk}
 ghost use Rattle.newaksu_c.specs.Giving.{Answers, told};
 ghost use Rattle.newaksu_c.specs.Held.{acts_in, last_in, state_in};
 ghost use Rattle.newaksu_c.specs.Requests.{Tells};
-ghost use Rattle.newaksu_c.specs.Telling.{acts_told, error_of, flag, identity_in, identity_part, outcome_number, outcome_told, part_of, reason_of, refusal_of, state_number, state_told, step_status, stepped, told_acts, TellsAll};
+ghost use Rattle.newaksu_c.specs.Telling.{acts_told, error_of, flag, identity_in, identity_part};
+ghost use Rattle.newaksu_c.specs.Telling.{outcome_number, outcome_told, part_of, reason_of};
+ghost use Rattle.newaksu_c.specs.Telling.{refusal_of, state_number, state_told, step_status};
+ghost use Rattle.newaksu_c.specs.Telling.{stepped, told_acts, TellsAll};
 
 use crate::ends::{acts_of, last_of, state_of};
 use crate::giving::answer;
@@ -36,7 +39,8 @@ pub struct ToldActs {
     pub opened: u32,
 }
 
-/// A refusal: the SSPI code of its kind, 1 where the peer told an NTSTATUS code, and that code, else 0.
+/// A refusal: the SSPI code of its kind, 1 where the peer told an NTSTATUS code, and that code,
+/// else 0.
 #[derive(Clone, Copy)]
 pub struct ToldRefusal {
     kind: u32,
@@ -87,7 +91,8 @@ fn outcome_of(last: &Last) -> u32
 }
 
 fn tell_outcome(object: &Option<Box<Object>>, outcome: &mut u32) -> u32
-    ensures { Tells (outcome_told (last_in (option_map (λ b. b.value) object.now))) outcome.old outcome.new result }
+    ensures { Tells (outcome_told (last_in (option_map (λ b. b.value) object.now))) outcome.old
+        outcome.new result }
 {
     match last_of(object) {
         Some(last) => {
@@ -241,7 +246,8 @@ pub extern "C" fn newaksu_end_reason(
     written: &mut usize,
 ) -> u32
     ensures kept { end.new.held ≡ end.old.held }
-    ensures gives { Answers (reason_of (error_of (last_in end.old.held))) out.old out.new written.new result }
+    ensures gives { Answers (reason_of (error_of (last_in end.old.held))) out.old out.new
+        written.new result }
 {
     let object = end.take(alloc);
     let found = error_of(&object);
@@ -250,8 +256,10 @@ pub extern "C" fn newaksu_end_reason(
 }
 
 fn identity_of(object: &Option<Box<Object>>) -> Result<&AuthIdentity, u32>
-    ensures ok { IfOk result (λ identity. identity_in (last_in (option_map (λ b. b.value) object.now)) ≡ Ok identity.now) }
-    ensures err { IfErr result (λ status. identity_in (last_in (option_map (λ b. b.value) object.now)) ≡ Err status) }
+    ensures ok { IfOk result (λ identity. identity_in
+        (last_in (option_map (λ b. b.value) object.now)) ≡ Ok identity.now) }
+    ensures err { IfErr result (λ status. identity_in
+        (last_in (option_map (λ b. b.value) object.now)) ≡ Err status) }
 {
     match last_of(object) {
         Some(Last::Finished(identity)) => Ok(identity),
@@ -276,7 +284,8 @@ fn part_of(identity: &AuthIdentity, which: u32) -> Result<&[u8], u32>
 }
 
 fn part_in(object: &Option<Box<Object>>, which: u32) -> Result<&[u8], u32>
-    ensures { told result ≡ identity_part which (identity_in (last_in (option_map (λ b. b.value) object.now))) }
+    ensures { told result ≡ identity_part which
+        (identity_in (last_in (option_map (λ b. b.value) object.now))) }
 {
     match identity_of(object) {
         Ok(identity) => part_of(identity, which),
@@ -294,7 +303,8 @@ pub extern "C" fn newaksu_server_identity(
     written: &mut usize,
 ) -> u32
     ensures kept { server.new.held ≡ server.old.held }
-    ensures gives { Answers (identity_part which (identity_in (last_in server.old.held))) out.old out.new written.new result }
+    ensures gives { Answers (identity_part which (identity_in (last_in server.old.held))) out.old
+        out.new written.new result }
 {
     let object = server.take(alloc);
     let status = answer(part_in(&object, which), out, written);

@@ -1,11 +1,12 @@
--- What recorded turns tell of an end: its state, the version that it pinned of its peer, and its own version. Turns are lists, the
--- newest first, and each list has the turns of one end.
+-- What recorded turns tell of an end: its state, the version that it pinned of its peer, and its
+-- own version. Turns are lists, the newest first, and each list has the turns of one end.
 use Rattle.std.specs.Prelude.{ℕ, List, [], ◌∷◌, Option, None, Some, true}
 use Rattle.sspi_credssp.specs.declared.turn.Outcome.{Outcome}
 use Rattle.sspi_credssp.specs.declared.turn.Outcome.TheVariants as outcome
 use Rattle.sspi_credssp.specs.declared.turn.Turn.{Turn}
 use Rattle.sspi_credssp.specs.Turn.{ShownFrame}
-use Rattle.sspi_delegate.specs.Turns.{client_state, client_noted, has_turn, server_state, server_noted}
+use Rattle.sspi_delegate.specs.Turns.{client_state, client_noted, has_turn, server_state}
+use Rattle.sspi_delegate.specs.Turns.{server_noted}
 
 -- which version an end speaks, as its first message without an error code shows it
 abbrev pub told_by : Option ℕ → Outcome → Option ℕ

@@ -4,14 +4,20 @@
 -- kind; a context may refuse with any. Once an end has sealed what it owes its turn is not refused.
 use Rattle.std.specs.Prelude.{◌≡◌, ◌⊎◌, ℕ, Option, None, Some, Bool, true, false, nat_lt}
 use Rattle.sspi_types.specs.declared.error_kind.ErrorKind.{ErrorKind}
-use Rattle.sspi_types.specs.declared.error_kind.ErrorKind.TheVariants.{DowngradeDetected, InternalError, InvalidParameter, InvalidToken}
-use Rattle.sspi_types.specs.declared.error_kind.ErrorKind.TheVariants.{MessageAltered, OutOfSequence, UnsupportedFunction}
+use Rattle.sspi_types.specs.declared.error_kind.ErrorKind.TheVariants.{DowngradeDetected}
+use Rattle.sspi_types.specs.declared.error_kind.ErrorKind.TheVariants.{InternalError}
+use Rattle.sspi_types.specs.declared.error_kind.ErrorKind.TheVariants.{InvalidParameter}
+use Rattle.sspi_types.specs.declared.error_kind.ErrorKind.TheVariants.{InvalidToken}
+use Rattle.sspi_types.specs.declared.error_kind.ErrorKind.TheVariants.{MessageAltered}
+use Rattle.sspi_types.specs.declared.error_kind.ErrorKind.TheVariants.{OutOfSequence}
+use Rattle.sspi_types.specs.declared.error_kind.ErrorKind.TheVariants.{UnsupportedFunction}
 use Rattle.sspi_types.specs.declared.security_status.SecurityStatus.{SecurityStatus}
 use Rattle.sspi_types.specs.declared.security_status.SecurityStatus.TheVariants as statuses
 use Rattle.sspi_tsreq.specs.declared.request.TsRequest.{TsRequest}
 use Rattle.sspi_credssp.specs.declared.acts.Acts.{Acts}
 use Rattle.sspi_credssp.specs.declared.state.CredSspState.{CredSspState}
-use Rattle.sspi_credssp.specs.declared.state.CredSspState.TheVariants.{NegoToken, PubKeyInfo, AuthInfo, Final}
+use Rattle.sspi_credssp.specs.declared.state.CredSspState.TheVariants.{NegoToken, PubKeyInfo}
+use Rattle.sspi_credssp.specs.declared.state.CredSspState.TheVariants.{AuthInfo, Final}
 use Rattle.sspi_credssp.specs.declared.turn.Turn.{Turn}
 use Rattle.sspi_credssp.specs.Acts.{no_acts}
 use Rattle.sspi_credssp.specs.Exchange.{BlobStops}
@@ -73,12 +79,14 @@ TokenRefusedBack f acts (Some other) kind = kind ≡ InternalError
 abbrev pub ProofRefusedBack : Option ℕ → TsRequest → ErrorKind → Type 0
 ProofRefusedBack None d kind = ⊥
 ProofRefusedBack (Some noted) d kind =
-    StopsIf (lacks_nonce (nat_lt noted 5) d.client_nonce) InvalidToken kind (BlobStops d.pub_key_auth kind (λ blob. Unit {0}))
+    StopsIf (lacks_nonce (nat_lt noted 5) d.client_nonce) InvalidToken kind
+    (BlobStops d.pub_key_auth kind (λ blob. Unit {0}))
 
 -- credentials that were opened are no TSCredentials, no password, no UTF-16, or no name (MS-CSSP
 -- 2.2.1.2)
 abbrev pub AreUnreadable : ErrorKind → Type 0
-AreUnreadable kind = (kind ≡ InvalidToken) ⊎ ((kind ≡ UnsupportedFunction) ⊎ (kind ≡ InvalidParameter))
+AreUnreadable kind = (kind ≡ InvalidToken) ⊎
+    ((kind ≡ UnsupportedFunction) ⊎ (kind ≡ InvalidParameter))
 
 abbrev pub OpenedRefused : Bool → ErrorKind → Type 0
 OpenedRefused false kind = Unit {0}
@@ -87,11 +95,13 @@ OpenedRefused true kind = OrMemory kind (AreUnreadable kind)
 abbrev pub ServerStateRefuses : ShownFrame → Turn → CredSspState → ErrorKind → Type 0
 ServerStateRefuses f t NegoToken kind = OrMemory kind (TokenRefusedBack f t.acts t.acts.status kind)
 ServerStateRefuses f t PubKeyInfo kind = ProofRefusedBack f.noted t.delivered kind
-ServerStateRefuses f t AuthInfo kind = BlobStops t.delivered.auth_info kind (λ blob. OpenedRefused t.acts.opened kind)
+ServerStateRefuses f t AuthInfo kind = BlobStops t.delivered.auth_info kind
+    (λ blob. OpenedRefused t.acts.opened kind)
 ServerStateRefuses f t Final kind = kind ≡ UnsupportedFunction
 
 abbrev pub ServerStops : ShownFrame → Turn → ErrorKind → Type 0
-ServerStops f t kind = StopsIf (differs f.noted t.delivered.version) MessageAltered kind (ServerStateRefuses f t f.state kind)
+ServerStops f t kind = StopsIf (differs f.noted t.delivered.version) MessageAltered kind
+    (ServerStateRefuses f t f.state kind)
 
 abbrev pub ServerRefuses : ShownFrame → Turn → ErrorKind → Type 0
 ServerRefuses f t kind = (t.acts.proved ≡ false) × ServerStops f t kind

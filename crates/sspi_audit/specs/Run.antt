@@ -1,7 +1,8 @@
 -- All that recorded bytes can show of a run of two ends, whatever key, nonce and context stand
 -- behind it (MS-CSSP 3.1.5): what is shown of each turn, what its end heeds and how it refuses, and
 -- what was taken of the last delivery. Turns are the newest first, the log is the oldest first.
-use Rattle.std.specs.Prelude.{◌≡◌, ◌≤◌, ℕ, Option, None, Some, true, false, List, [], ◌∷◌, length, nat_lt, slice_get, IfSome}
+use Rattle.std.specs.Prelude.{◌≡◌, ◌≤◌, ℕ, Option, None, Some, true, false, List, [], ◌∷◌, length}
+use Rattle.std.specs.Prelude.{nat_lt, slice_get, IfSome}
 use Rattle.std.specs.Prelude.{if◌then◌else◌}
 use Rattle.sspi_types.specs.declared.error_kind.ErrorKind.{ErrorKind}
 use Rattle.sspi_tsreq.specs.declared.request.TsRequest.{TsRequest}
@@ -42,10 +43,12 @@ pub record ClientHeeds (f : ShownFrame) (t : Turn) : Type 0 where
 -- it is not the pinned one
 abbrev pub TellsVersion : Option ℕ → Option ℕ → ℕ → ℕ → Type 0
 TellsVersion None noted delivered version = Unit {0}
-TellsVersion (Some own) noted delivered version = version ≡ (if differs noted delivered then delivered else own)
+TellsVersion (Some own) noted delivered version =
+    version ≡ (if differs noted delivered then delivered else own)
 
 abbrev pub ErrorTells : ShownFrame → TsRequest → Outcome → Type 0
-ErrorTells f d (outcome.Refused kind (Some reply)) = TellsVersion f.version f.noted d.version reply.version
+ErrorTells f d (outcome.Refused kind (Some reply)) =
+    TellsVersion f.version f.noted d.version reply.version
 ErrorTells f d other = Unit {0}
 
 -- told another version than the pinned one, a server does nothing; from version 5 on it opens no
@@ -54,7 +57,8 @@ pub record ServerHeeds (f : ShownFrame) (t : Turn) : Type 0 where
   pub altered : differs f.noted t.delivered.version ≡ true → t.acts ≡ no_acts
   pub unanswered : t.acts.status ≡ None → t.output ≡ []
   pub checked : t.acts.checked ≡ true →
-      AtNoted (server_note f.noted t.delivered.version) (λ noted. HasNonce (nat_lt noted 5) t.delivered.client_nonce)
+      AtNoted (server_note f.noted t.delivered.version)
+      (λ noted. HasNonce (nat_lt noted 5) t.delivered.client_nonce)
   pub refused : IfRefused t.outcome (ServerRefuses f t)
   pub tells : ErrorTells f t.delivered t.outcome
 

@@ -20,4 +20,5 @@ pub record IsFirstFaultInRun (turns : List Turn) (log : List Carried) (place : �
 
 abbrev pub JudgesRun : List Turn → List Carried → Verdict → Type 0
 JudgesRun turns log (Yes sealing) = IsShownRun (reverse turns) log × SealsOnlyIn turns sealing
-JudgesRun turns log (No place) = IsFirstFaultInRun turns log place × (IsShownRun (reverse turns) log → ⊥)
+JudgesRun turns log (No place) = IsFirstFaultInRun turns log place ×
+    (IsShownRun (reverse turns) log → ⊥)

@@ -1,5 +1,6 @@
--- What recorded bytes can show of an exchange: what its turns and its log have if two ends made them, whatever key, nonce and context
--- stand behind them. Turns are a list, the newest first; the log is the oldest first, so that entry i is that of turn i.
+-- What recorded bytes can show of an exchange: what its turns and its log have if two ends made
+-- them, whatever key, nonce and context stand behind them. Turns are a list, the newest first; the
+-- log is the oldest first, so that entry i is that of turn i.
 use Rattle.std.specs.Prelude.{◌≡◌, ◌+◌, ◌≤◌, true, List, [], ◌∷◌, length, slice_get, IfSome}
 use Rattle.sspi_tsreq.specs.declared.request.TsRequest.{TsRequest}
 use Rattle.sspi_tsreq.specs.Grammar.{first_request}
@@ -15,7 +16,8 @@ use Rattle.sspi_delegate.specs.Log.{delivery_limit, is_taken, IsRead, IsEntry}
 use Rattle.sspi_delegate.specs.Turns.{client_turns, server_turns, next_end, AllGoOn}
 use Rattle.sspi_audit.specs.Frames.{client_frame, server_frame}
 
--- by its end's own turns before, a turn has only acts that it may have, and the message that it owes
+-- by its end's own turns before, a turn has only acts that it may have, and the message that it
+-- owes
 abbrev pub ShowsTurn : End → List Turn → Turn → Type 0
 ShowsTurn Client past t = ShowsClient (client_frame (client_turns past) t) t
 ShowsTurn Server past t = ShowsServer (server_frame (server_turns past) t) t
@@ -27,12 +29,14 @@ HasLongBlobs t (outcome.Final r) = IsLong r.auth_info
 HasLongBlobs t outcome.Finished = Unit {0}
 HasLongBlobs t (outcome.Refused kind reply) = Unit {0}
 
--- a turn after these was given what the entry of the turn before it delivered, taken to its end or to the limit and no further, where
--- that is recorded, and the first one its end's own first request
+-- a turn after these was given what the entry of the turn before it delivered, taken to its end or
+-- to the limit and no further, where that is recorded, and the first one its end's own first
+-- request
 abbrev pub IsGiven : List Turn → List Carried → TsRequest → Type 0
 IsGiven [] log request = request ≡ first_request
 IsGiven (t ∷ past) log request =
-    IfSome (slice_get log (length past)) (λ e. (is_taken e ≡ true) × IsRead e.delivered request × (length e.delivered ≤ delivery_limit))
+    IfSome (slice_get log (length past)) (λ e. (is_taken e ≡ true) × IsRead e.delivered request ×
+    (length e.delivered ≤ delivery_limit))
 
 -- one turn, after these
 pub record ShownTurn (log : List Carried) (past : List Turn) (t : Turn) : Type 0 where

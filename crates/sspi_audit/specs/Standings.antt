@@ -5,7 +5,8 @@ use Rattle.sspi_delegate.specs.Turns.{client_turns, server_turns, next_end, AllG
 use Rattle.sspi_audit.specs.Frames.{client_before, server_before}
 use Rattle.sspi_audit.specs.declared.standing.Standing.{Standing}
 
--- the version that a client has pinned once it was given one more request: it does not look at its first
+-- the version that a client has pinned once it was given one more request: it does not look at its
+-- first
 abbrev pub client_note : Bool → Option ℕ → ℕ → Option ℕ
 client_note looks (Some noted) version = Some noted
 client_note true None version = Some version

@@ -1,5 +1,6 @@
 -- What the verdict of an auditor means. Turns and log are those recorded, the oldest first.
-use Rattle.std.specs.Prelude.{◌≡◌, ℕ, List, length, take, reverse, slice_get, Option, None, Some, true, false}
+use Rattle.std.specs.Prelude.{◌≡◌, ℕ, List, length, take, reverse, slice_get, Option, None, Some}
+use Rattle.std.specs.Prelude.{true, false}
 use Rattle.sspi_credssp.specs.declared.turn.Turn.{Turn}
 use Rattle.sspi_delegate.specs.declared.carried.Carried.{Carried}
 use Rattle.sspi_audit.specs.declared.verdict.Verdict.{Verdict}
@@ -13,7 +14,8 @@ SealsOnlyIn turns (Some place) =
     (t : Turn) × (slice_get turns place ≡ Some t) × (t.acts.sealed ≡ true)
     × ((i : ℕ) (u : Turn) → slice_get turns i ≡ Some u → u.acts.sealed ≡ true → i ≡ place)
 
--- the turn of this number is not shown right, or there is none and the entries are too many or too few
+-- the turn of this number is not shown right, or there is none and the entries are too many or too
+-- few
 abbrev pub IsFaulty : List Turn → List Carried → ℕ → Option Turn → Type 0
 IsFaulty turns log place (Some t) = ShownTurn log (reverse (take place turns)) t → ⊥
 IsFaulty turns log place None = (place ≡ length turns) × (IsCounted turns log → ⊥)

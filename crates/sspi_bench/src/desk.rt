@@ -13,7 +13,8 @@ type PlainServer = CredSspServer<Ntlm, Kerberos, TableProxy>;
 
 type PlainDesk = Desk<Ntlm, Kerberos, TableProxy>;
 
-/// A desk of so many sessions of plain NTLM is served these bytes so many times, one session after the other.
+/// A desk of so many sessions of plain NTLM is served these bytes so many times, one session after
+/// the other.
 pub(crate) fn repeat(
     alloc: Global,
     sessions: u32,

@@ -1,11 +1,14 @@
-//! Decodes or encodes one message many times, so that a counter of instructions can say what one costs.
+//! Decodes or encodes one message many times, so that a counter of instructions can say what one
+//! costs.
 //!
-//! Words: `decode`, `encode` or `both`, how many times, and any of `request` (a TSRequest), `init` and `targ` (the tokens of
-//! SPNEGO); without such a word, `request`. For each of these a line of hex comes on standard input. Or `feed`, how many times,
-//! and a size: one line, a TSRequest, is decoded from pieces of that many bytes. Or `desk`, how many times, and a number of sessions:
-//! a desk of so many serves them one line, one session after the other. Each line is parsed before its loop, and one
-//! checksum is printed, so that no result goes unused. docs/PERFORMANCE.md says how it is measured. Or `show` and how many lines: of
-//! each, what is read of the request that it begins with.
+//! Words: `decode`, `encode` or `both`, how many times, and any of `request` (a TSRequest), `init`
+//! and `targ` (the tokens of SPNEGO); without such a word, `request`. For each of these a line of
+//! hex comes on standard input. Or `feed`, how many times, and a size: one line, a TSRequest, is
+//! decoded from pieces of that many bytes. Or `desk`, how many times, and a number of sessions: a
+//! desk of so many serves them one line, one session after the other. Each line is parsed before
+//! its loop, and one checksum is printed, so that no result goes unused. docs/PERFORMANCE.md says
+//! how it is measured. Or `show` and how many lines: of each, what is read of the request that it
+//! begins with.
 #![tactic(auto)]
 
 use crate::work::{Job, Message, Work, message_of, work_of};

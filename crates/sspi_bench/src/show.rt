@@ -64,8 +64,8 @@ fn name_of(kind: WireKind) -> &'static str {
     }
 }
 
-/// A line of these bytes: version, `negoTokens`, `authInfo`, `pubKeyAuth`, code, nonce and the shortest encoding of the
-/// request that they begin with, or the fault.
+/// A line of these bytes: version, `negoTokens`, `authInfo`, `pubKeyAuth`, code, nonce and the
+/// shortest encoding of the request that they begin with, or the fault.
 pub(crate) fn show(rt: &HostRuntime, bytes: &[u8]) -> Result<()> {
     match TsRequest::from_buffer(rt.alloc(), bytes) {
         Ok(request) => show_request(rt, &request)?,

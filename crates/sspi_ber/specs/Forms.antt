@@ -1,5 +1,7 @@
--- The pieces of BER, as relations between bytes and what they stand for (X.690 8.1.3, 8.3, 8.7), and the one limit of all lengths.
-use Rattle.std.specs.Prelude.{ℕ, ◌≡◌, ◌+◌, ◌*◌, ◌<◌, ◌≤◌, Bool, ◌||◌, ◌==◌, IsTrue, List, [], ◌∷◌, ◌++◌, length, fold, Option, None, Some}
+-- The pieces of BER, as relations between bytes and what they stand for (X.690 8.1.3, 8.3, 8.7),
+-- and the one limit of all lengths.
+use Rattle.std.specs.Prelude.{ℕ, ◌≡◌, ◌+◌, ◌*◌, ◌<◌, ◌≤◌, Bool, ◌||◌, ◌==◌, IsTrue, List, [], ◌∷◌}
+use Rattle.std.specs.Prelude.{◌++◌, length, fold, Option, None, Some}
 
 -- the most bytes that the content of an element may have
 abbrev pub max_content : ℕ
@@ -13,16 +15,16 @@ max_length_octets = 3
 abbrev pub big_endian : List ℕ → ℕ
 big_endian bytes = fold (λ high byte. high * 256 + byte) 0 bytes
 
--- The long form of a length (X.690 8.1.3.5): the low seven bits of its first octet count the octets behind it, and these
--- stand for the length.
+-- The long form of a length (X.690 8.1.3.5): the low seven bits of its first octet count the octets
+-- behind it, and these stand for the length.
 pub record IsLongLength (first : ℕ) (octets : List ℕ) (n : ℕ) : Type 0 where
   pub counted : first ≡ 0x80 + length octets
   pub few : length octets ≤ max_length_octets
   pub stands_for : n ≡ big_endian octets
   pub limited : n ≤ max_content
 
--- A length: one octet below 0x80, or a long form, which need not be the shortest. An octet 0x80 alone, which stands before
--- contents of no stated length (X.690 8.1.3.6), is none.
+-- A length: one octet below 0x80, or a long form, which need not be the shortest. An octet 0x80
+-- alone, which stands before contents of no stated length (X.690 8.1.3.6), is none.
 abbrev pub IsLength : List ℕ → ℕ → Type 0
 IsLength [] n = ⊥
 IsLength (first ∷ []) n = (first < 0x80) × (n ≡ first)
@@ -47,7 +49,8 @@ pub record IsTagged (tag : ℕ) (text inner : List ℕ) : Type 0 where
   pub spelled : text ≡ tag ∷ (len ++ inner)
   pub measured : IsLength len number
 
--- content bytes that stand for a number which is not negative: the highest bit, the sign, is clear (X.690 8.3.3)
+-- content bytes that stand for a number which is not negative: the highest bit, the sign, is clear
+-- (X.690 8.3.3)
 abbrev pub IsNotNegative : List ℕ → Type 0
 IsNotNegative [] = ⊥
 IsNotNegative (high ∷ rest) = high < 0x80
@@ -72,7 +75,8 @@ IsNotNext tag (byte ∷ rest) = byte ≡ tag → ⊥
 abbrev pub IsWrapped : {A : Type 0} → ℕ → (List ℕ → A → Type 0) → List ℕ → A → Type 0
 IsWrapped tag Inner text x = (inner : List ℕ) × IsTagged tag text inner × Inner inner x
 
--- An optional field, with what follows it. A field that is absent encodes nothing, and its tag does not come next.
+-- An optional field, with what follows it. A field that is absent encodes nothing, and its tag does
+-- not come next.
 abbrev pub IsField : {A : Type 0} → ℕ → (List ℕ → A → Type 0) → List ℕ → Option A → List ℕ → Type 0
 IsField tag Inner text None following = (text ≡ []) × IsNotNext tag following
 IsField tag Inner text (Some x) following = IsWrapped tag Inner text x

@@ -1,10 +1,13 @@
--- Identifier octets with tag numbers below 31 (X.690 8.1.2): class, primitive or constructed, tag number.
+-- Identifier octets with tag numbers below 31 (X.690 8.1.2): class, primitive or constructed, tag
+-- number.
 use Rattle.std.specs.Prelude.{ℕ, ◌+◌, ◌%◌}
 use Rattle.sspi_ber.specs.declared.identifier.Pc.{Pc}
 use Rattle.sspi_ber.specs.declared.identifier.Pc.TheVariants.{Primitive, Construct}
 use Rattle.sspi_ber.specs.declared.identifier.Tag.{Tag}
-use Rattle.sspi_ber.specs.declared.identifier.Tag.TheVariants.{Boolean, Integer, BitString, OctetString}
-use Rattle.sspi_ber.specs.declared.identifier.Tag.TheVariants.{ObjectIdentifier, Enumerated, Sequence}
+use Rattle.sspi_ber.specs.declared.identifier.Tag.TheVariants.{Boolean, Integer, BitString}
+use Rattle.sspi_ber.specs.declared.identifier.Tag.TheVariants.{OctetString}
+use Rattle.sspi_ber.specs.declared.identifier.Tag.TheVariants.{ObjectIdentifier, Enumerated}
+use Rattle.sspi_ber.specs.declared.identifier.Tag.TheVariants.{Sequence}
 
 -- bit 6: the encoding is constructed
 abbrev pub encoding_bit : Pc → ℕ

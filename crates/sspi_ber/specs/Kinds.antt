@@ -7,7 +7,9 @@ use Rattle.sspi_types.specs.declared.reason.Reason.TheVariants.{Io}
 use Rattle.sspi_ber.specs.declared.sink.SinkError.{SinkError}
 use Rattle.sspi_ber.specs.declared.sink.SinkError.TheVariants as sink_errors
 use Rattle.sspi_ber.specs.declared.wire_kind.WireKind.{WireKind}
-use Rattle.sspi_ber.specs.declared.wire_kind.WireKind.TheVariants.{UnexpectedEof, InvalidData, ReadFault, WriteFault, InsufficientMemory}
+use Rattle.sspi_ber.specs.declared.wire_kind.WireKind.TheVariants.{UnexpectedEof, InvalidData}
+use Rattle.sspi_ber.specs.declared.wire_kind.WireKind.TheVariants.{ReadFault, WriteFault}
+use Rattle.sspi_ber.specs.declared.wire_kind.WireKind.TheVariants.{InsufficientMemory}
 
 abbrev pub kind_of : SinkError → WireKind
 kind_of sink_errors.Failed = WriteFault

@@ -1,6 +1,7 @@
--- What a call on a source or a sink says of the world outside: the bytes that are left or written where they are told,
--- and the count of faults of the object.
-use Rattle.std.specs.Prelude.{◌≡◌, ◌≢◌, ℕ, ◌≤◌, Bool, true, false, List, [], ◌∷◌, ◌++◌, Option, None, Some, Result, Ok, Err}
+-- What a call on a source or a sink says of the world outside: the bytes that are left or written
+-- where they are told, and the count of faults of the object.
+use Rattle.std.specs.Prelude.{◌≡◌, ◌≢◌, ℕ, ◌≤◌, Bool, true, false, List, [], ◌∷◌, ◌++◌, Option}
+use Rattle.std.specs.Prelude.{None, Some, Result, Ok, Err}
 use Rattle.std.specs.Io.KnownBytes.{Appends, Consumes, Keeps, IsAtEnd}
 use Rattle.sspi_types.specs.Counting.{counted_on}
 use Rattle.sspi_ber.specs.declared.source.SourceError.{SourceError}
@@ -8,7 +9,9 @@ use Rattle.sspi_ber.specs.declared.source.SourceError.TheVariants as source_erro
 use Rattle.sspi_ber.specs.declared.sink.SinkError.{SinkError}
 use Rattle.sspi_ber.specs.declared.sink.SinkError.TheVariants as sink_errors
 use Rattle.sspi_ber.specs.declared.wire_kind.WireKind.{WireKind}
-use Rattle.sspi_ber.specs.declared.wire_kind.WireKind.TheVariants.{UnexpectedEof, InvalidData, ReadFault, WriteFault, InsufficientMemory}
+use Rattle.sspi_ber.specs.declared.wire_kind.WireKind.TheVariants.{UnexpectedEof, InvalidData}
+use Rattle.sspi_ber.specs.declared.wire_kind.WireKind.TheVariants.{ReadFault, WriteFault}
+use Rattle.sspi_ber.specs.declared.wire_kind.WireKind.TheVariants.{InsufficientMemory}
 use Rattle.sspi_ber.specs.Pieces.{Ended, Invalid, Read}
 
 -- the count of faults rose, or stands at the last value of its counter
@@ -34,8 +37,8 @@ SinkCause before now (Err sink_errors.InsufficientMemory) = now ≡ before
 
 -- ---- readers
 
--- What a reader says of the source's count: `ReadFault` only where it rose, and no other fault of the outside comes; at any other
--- answer it did not move, so no failed call was tried again.
+-- What a reader says of the source's count: `ReadFault` only where it rose, and no other fault of
+-- the outside comes; at any other answer it did not move, so no failed call was tried again.
 abbrev pub ReadCause : {X : Type 0} → ℕ → ℕ → Result X WireKind → Type 0
 ReadCause before now (Ok x) = now ≡ before
 ReadCause before now (Err UnexpectedEof) = now ≡ before
@@ -59,7 +62,8 @@ pub record LeavesRest (before after : Option (List ℕ)) : Type 0 where
   pub consumed : Consumes before after taken
 
 -- a reader's answer, seen by view, is what reading the list gives, up to a fault of the source
-abbrev pub Answers : {X A : Type 0} → (X → A) → Option (List ℕ) → Result X WireKind → Read A → Type 0
+abbrev pub Answers : {X A : Type 0} → (X → A) → Option (List ℕ) → Result X WireKind → Read A →
+    Type 0
 Answers view after (Ok x) (Ok read) = (view x ≡ read.0) × (after ≡ Some read.1)
 Answers view after (Ok x) (Err fault) = ⊥
 Answers view after (Err UnexpectedEof) read = read ≡ Err Ended
@@ -69,11 +73,13 @@ Answers view after (Err WriteFault) read = Unit {0}
 Answers view after (Err InsufficientMemory) read = Unit {0}
 
 -- the same of a source that may tell nothing of its bytes
-abbrev pub Reads : {X A : Type 0} → (X → A) → Option (List ℕ) → Option (List ℕ) → Result X WireKind → (List ℕ → Read A) → Type 0
+abbrev pub Reads : {X A : Type 0} → (X → A) → Option (List ℕ) → Option (List ℕ) →
+    Result X WireKind → (List ℕ → Read A) → Type 0
 Reads view None after result read = Unit {0}
 Reads view (Some bytes) after result read = Answers view after result (read bytes)
 
--- the same over a slice, where no fault of the outside comes; out of memory is free, for readers that copy
+-- the same over a slice, where no fault of the outside comes; out of memory is free, for readers
+-- that copy
 abbrev pub Gives : {X A : Type 0} → (X → A) → List ℕ → Result X WireKind → Read A → Type 0
 Gives view after (Ok x) read = read ≡ Ok (view x, after)
 Gives view after (Err UnexpectedEof) read = read ≡ Err Ended
@@ -106,7 +112,8 @@ pub record WroteFront (before after : Option (List ℕ)) (text : List ℕ) : Typ
   pub cut : rest ≢ []
 
 -- what a writer of this text did: all of it was written, or it was refused and something is missing
-abbrev pub Writes : {X : Type 0} → Option (List ℕ) → Option (List ℕ) → Result X WireKind → List ℕ → Type 0
+abbrev pub Writes : {X : Type 0} → Option (List ℕ) → Option (List ℕ) → Result X WireKind → List ℕ →
+    Type 0
 Writes before after (Ok x) text = Wrote before after text
 Writes before after (Err UnexpectedEof) text = ⊥
 Writes before after (Err InvalidData) text = ⊥
@@ -115,12 +122,14 @@ Writes before after (Err WriteFault) text = WroteFront before after text
 Writes before after (Err InsufficientMemory) text = WroteFront before after text
 
 -- A writer that refuses what is too long, and then leaves the sink as it was.
-abbrev pub WritesIf : {X W : Type 0} → Bool → (W → Option (List ℕ)) → W → W → Result X WireKind → List ℕ → Type 0
+abbrev pub WritesIf : {X W : Type 0} → Bool → (W → Option (List ℕ)) → W → W → Result X WireKind →
+    List ℕ → Type 0
 WritesIf true written old new result text = Writes (written old) (written new) result text
 WritesIf false written old new result text = (result ≡ Err InvalidData) × (new ≡ old)
 
--- What a writer says of the sink's count: `WriteFault` only where it rose, and after a fault of the sink, which moves the
--- count below its last value, no other answer: out of memory does not stand in its place.
+-- What a writer says of the sink's count: `WriteFault` only where it rose, and after a fault of the
+-- sink, which moves the count below its last value, no other answer: out of memory does not stand
+-- in its place.
 abbrev pub WriteCause : {X : Type 0} → ℕ → ℕ → Result X WireKind → Type 0
 WriteCause before now (Ok x) = now ≡ before
 WriteCause before now (Err UnexpectedEof) = now ≡ before

@@ -1,6 +1,8 @@
--- What reading a list of bytes from left to right gives, a value and the bytes behind it, or the first fault; and the pieces of BER
--- read so. What is wrong with a length's first byte, or with the length of an integer, comes before a want of the bytes behind it.
-use Rattle.std.specs.Prelude.{ℕ, List, Result, Ok, Err, replicate, Option, None, Some, ◌-◌, nat_lt, nat_le, Bool, ◌&&◌, ◌==◌, [], ◌∷◌}
+-- What reading a list of bytes from left to right gives, a value and the bytes behind it, or the
+-- first fault; and the pieces of BER read so. What is wrong with a length's first byte, or with the
+-- length of an integer, comes before a want of the bytes behind it.
+use Rattle.std.specs.Prelude.{ℕ, List, Result, Ok, Err, replicate, Option, None, Some, ◌-◌, nat_lt}
+use Rattle.std.specs.Prelude.{nat_le, Bool, ◌&&◌, ◌==◌, [], ◌∷◌}
 use Rattle.std.specs.Prelude.{length, take, drop, if◌then◌else◌}
 use Rattle.sspi_ber.specs.Forms.{max_content, max_length_octets, big_endian, is_integer_size}
 
@@ -58,7 +60,8 @@ is_octet_count count = nat_le 1 count && nat_le count max_length_octets
 unfoldable pub length_at : List ℕ → Read ℕ
 length_at bytes = do
   first ← byte_at bytes
-  if nat_lt first.0 0x80 then Ok first else if is_octet_count (first.0 - 0x80) then limited_at (first.0 - 0x80) first.1 else Err Invalid
+  if nat_lt first.0 0x80 then Ok first else if is_octet_count (first.0 - 0x80)
+  then limited_at (first.0 - 0x80) first.1 else Err Invalid
 
 unfoldable pub header_at : ℕ → List ℕ → Read ℕ
 header_at tag bytes = do
@@ -84,13 +87,15 @@ integer_at bytes = do
 -- the length behind a tag, or nothing where another byte comes next, or none
 unfoldable pub tag_or_absent_at : ℕ → List ℕ → Read (Option ℕ)
 tag_or_absent_at tag [] = Ok (None, [])
-tag_or_absent_at tag (byte ∷ rest) = if byte == tag then (length_at rest >>= λ n. Ok (Some n.0, n.1)) else Ok (None, byte ∷ rest)
+tag_or_absent_at tag (byte ∷ rest) = if byte == tag
+    then (length_at rest >>= λ n. Ok (Some n.0, n.1)) else Ok (None, byte ∷ rest)
 
 abbrev pub present_at : {A : Type 0} → (List ℕ → Read A) → Option ℕ → List ℕ → Read (Option A)
 present_at inner None bytes = Ok (None, bytes)
 present_at inner (Some n) bytes = inner bytes >>= λ x. Ok (Some x.0, x.1)
 
--- an optional field: behind its tag and a length stands what inner reads; the length is not compared
+-- an optional field: behind its tag and a length stands what inner reads; the length is not
+-- compared
 unfoldable pub field_at : {A : Type 0} → ℕ → (List ℕ → Read A) → List ℕ → Read (Option A)
 field_at tag inner bytes = do
   n ← tag_or_absent_at tag bytes

@@ -4,7 +4,8 @@ ghost use Rattle.std.specs.Prelude.{◌≡◌, ◌≤◌, IfOk, IsTrue};
 ghost use Rattle.sspi_ber.specs.Forms.{is_integer_size};
 ghost use Rattle.sspi_ber.specs.Identifier.{contextual_identifier};
 ghost use Rattle.sspi_ber.specs.Outside.{Reads, ReadCause, LeavesRest};
-ghost use Rattle.sspi_ber.specs.Pieces.{byte_at, is_octet_count, limited_at, length_at, header_at, sized_header_at, number_at, integer_at};
+ghost use Rattle.sspi_ber.specs.Pieces.{byte_at, is_octet_count, limited_at, length_at, header_at};
+ghost use Rattle.sspi_ber.specs.Pieces.{sized_header_at, number_at, integer_at};
 ghost use Rattle.sspi_ber.specs.Sized.{sized_length_at};
 
 use crate::identifier::{INTEGER, OCTET_STRING, Pc, SEQUENCE, contextual_identifier};
@@ -43,7 +44,8 @@ fn read_number<S: Source>(source: &mut S, size: u32) -> Result<u64, WireKind>
 #[tactic(auto, unfolding(crate::specs::Pieces::limited_at))]
 fn read_limited<S: Source>(source: &mut S, count: u32) -> Result<u32, WireKind>
     requires { count ≤ 8 }
-    ensures read { Reads (λ n. n) (S.left source.old) (S.left source.new) result (limited_at count) }
+    ensures read { Reads (λ n. n) (S.left source.old) (S.left source.new) result
+        (limited_at count) }
     ensures cause { ReadCause (S.faults source.old) (S.faults source.new) result }
     ensures rest { LeavesRest (S.left source.old) (S.left source.new) }
 {
@@ -64,7 +66,8 @@ fn is_octet_count(count: u32) -> bool
 /// A length in one of its four forms, and how many bytes it took.
 #[tactic(auto, unfolding(crate::specs::Sized::sized_length_at, crate::specs::Pieces::length_at))]
 fn read_sized_length<S: Source>(source: &mut S) -> Result<(u32, usize), WireKind>
-    ensures read { Reads (λ sized. (sized.0, sized.1)) (S.left source.old) (S.left source.new) result sized_length_at }
+    ensures read { Reads (λ sized. (sized.0, sized.1)) (S.left source.old) (S.left source.new)
+        result sized_length_at }
     ensures size { IfOk result (λ sized. sized.1 ≤ 4) }
     ensures cause { ReadCause (S.faults source.old) (S.faults source.new) result }
     ensures rest { LeavesRest (S.left source.old) (S.left source.new) }
@@ -83,8 +86,8 @@ fn read_sized_length<S: Source>(source: &mut S) -> Result<(u32, usize), WireKind
 
 /// A length in one of its four forms, shortest or not (X.690 8.1.3).
 ///
-/// `UnexpectedEof` where the input ends, `InvalidData` for a first octet of 0x80 or above 0x83 and for a length past the limit,
-/// `ReadFault` only where the source failed.
+/// `UnexpectedEof` where the input ends, `InvalidData` for a first octet of 0x80 or above 0x83 and
+/// for a length past the limit, `ReadFault` only where the source failed.
 #[tactic(auto, using(crate::proofs::Sized::length_half, crate::proofs::Sized::length_fault))]
 pub fn read_length<S: Source>(source: &mut S) -> Result<u32, WireKind>
     ensures read { Reads (λ n. n) (S.left source.old) (S.left source.new) result length_at }
@@ -97,8 +100,8 @@ pub fn read_length<S: Source>(source: &mut S) -> Result<u32, WireKind>
     }
 }
 
-/// This identifier octet and a length, which is the answer. `InvalidData` where another byte comes first; else refused as
-/// `read_length`.
+/// This identifier octet and a length, which is the answer. `InvalidData` where another byte comes
+/// first; else refused as `read_length`.
 #[tactic(auto, unfolding(crate::specs::Pieces::header_at))]
 pub fn read_header<S: Source>(source: &mut S, tag: u8) -> Result<u32, WireKind>
     ensures read { Reads (λ n. n) (S.left source.old) (S.left source.new) result (header_at tag) }
@@ -114,7 +117,8 @@ pub fn read_header<S: Source>(source: &mut S, tag: u8) -> Result<u32, WireKind>
 /// The same as `read_header`, with how many bytes the header took.
 #[tactic(auto, unfolding(crate::specs::Pieces::sized_header_at, crate::specs::Pieces::header_at, crate::specs::Sized::sized_length_at))]
 pub fn read_sized_header<S: Source>(source: &mut S, tag: u8) -> Result<(u32, usize), WireKind>
-    ensures read { Reads (λ sized. (sized.0, sized.1)) (S.left source.old) (S.left source.new) result (sized_header_at tag) }
+    ensures read { Reads (λ sized. (sized.0, sized.1)) (S.left source.old) (S.left source.new)
+        result (sized_header_at tag) }
     ensures size { IfOk result (λ sized. sized.1 ≤ 5) }
     ensures cause { ReadCause (S.faults source.old) (S.faults source.new) result }
     ensures rest { LeavesRest (S.left source.old) (S.left source.new) }
@@ -126,7 +130,8 @@ pub fn read_sized_header<S: Source>(source: &mut S, tag: u8) -> Result<(u32, usi
     Ok((len, 1 + size))
 }
 
-/// The header of a SEQUENCE: its identifier octet and a length, which is the answer. Refused as `read_header`.
+/// The header of a SEQUENCE: its identifier octet and a length, which is the answer. Refused as
+/// `read_header`.
 pub fn read_sequence_tag<S: Source>(source: &mut S) -> Result<u32, WireKind>
     ensures read { Reads (λ n. n) (S.left source.old) (S.left source.new) result (header_at 0x30) }
     ensures cause { ReadCause (S.faults source.old) (S.faults source.new) result }
@@ -135,9 +140,11 @@ pub fn read_sequence_tag<S: Source>(source: &mut S) -> Result<u32, WireKind>
     read_header(source, SEQUENCE)
 }
 
-/// The header of a context-specific element. Of `tagnum` the low five bits count. Refused as `read_header`.
+/// The header of a context-specific element. Of `tagnum` the low five bits count. Refused as
+/// `read_header`.
 pub fn read_contextual_tag<S: Source>(source: &mut S, tagnum: u8, pc: Pc) -> Result<u32, WireKind>
-    ensures read { Reads (λ n. n) (S.left source.old) (S.left source.new) result (header_at (contextual_identifier tagnum pc)) }
+    ensures read { Reads (λ n. n) (S.left source.old) (S.left source.new) result
+        (header_at (contextual_identifier tagnum pc)) }
     ensures cause { ReadCause (S.faults source.old) (S.faults source.new) result }
     ensures rest { LeavesRest (S.left source.old) (S.left source.new) }
 {
@@ -160,8 +167,8 @@ fn is_integer_size(size: u32) -> bool
     size == 1 || size == 2 || size == 3 || size == 4 || size == 8
 }
 
-/// An INTEGER without sign, whose content has 1, 2, 3, 4 or 8 bytes. A length other than these is `InvalidData`, whatever
-/// stands behind it.
+/// An INTEGER without sign, whose content has 1, 2, 3, 4 or 8 bytes. A length other than these is
+/// `InvalidData`, whatever stands behind it.
 #[tactic(auto, unfolding(crate::specs::Pieces::integer_at))]
 pub fn read_integer<S: Source>(source: &mut S) -> Result<u64, WireKind>
     ensures read { Reads (λ n. n) (S.left source.old) (S.left source.new) result integer_at }

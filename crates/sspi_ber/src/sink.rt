@@ -23,7 +23,8 @@ pub trait Sink {
     // How often the sink failed. It never falls, and stays at `u64::MAX` once it is there.
     ghost faults: { Self → ℕ };
 
-    /// Writes a prefix of `piece`, and answers how many bytes: at least one of a nonempty `piece`. A refusal wrote nothing.
+    /// Writes a prefix of `piece`, and answers how many bytes: at least one of a nonempty `piece`.
+    /// A refusal wrote nothing.
     fn write(&mut self, piece: &[u8]) -> Result<usize, SinkError>
         ensures bound { IfOk result (λ count. count ≤ length piece.now) }
         ensures some { 0 < length piece.now → IfOk result (λ count. 0 < count) }

@@ -35,7 +35,8 @@ pub fn sizeof_length(len: usize) -> Result<usize, WireKind>
     Ok(length_size(len))
 }
 
-/// How many bytes the header of a SEQUENCE takes whose content has `len` bytes. `InvalidData` exactly past the limit.
+/// How many bytes the header of a SEQUENCE takes whose content has `len` bytes. `InvalidData`
+/// exactly past the limit.
 pub fn sizeof_sequence_tag(len: usize) -> Result<usize, WireKind>
     ensures { IsSizeIf (nat_le len max_content) result (1 + length (len_short len)) }
 {
@@ -45,7 +46,8 @@ pub fn sizeof_sequence_tag(len: usize) -> Result<usize, WireKind>
     Ok(1 + length_size(len))
 }
 
-/// How many bytes the header of a context-specific element takes. `InvalidData` exactly past the limit.
+/// How many bytes the header of a context-specific element takes. `InvalidData` exactly past the
+/// limit.
 pub fn sizeof_contextual_tag(len: usize) -> Result<usize, WireKind>
     ensures { IsSizeIf (nat_le len max_content) result (1 + length (len_short len)) }
 {
@@ -71,7 +73,8 @@ pub(crate) fn fits_in_element(len: usize) -> bool
     len <= MAX_CONTENT && size_of_element(len) <= MAX_CONTENT
 }
 
-/// How many bytes a SEQUENCE takes whose content has `len` bytes. `InvalidData` exactly where `len` passes the limit.
+/// How many bytes a SEQUENCE takes whose content has `len` bytes. `InvalidData` exactly where `len`
+/// passes the limit.
 pub fn sizeof_sequence(len: usize) -> Result<usize, WireKind>
     ensures { IsSizeIf (nat_le len max_content) result (element_size len) }
 {
@@ -81,17 +84,19 @@ pub fn sizeof_sequence(len: usize) -> Result<usize, WireKind>
     Ok(size_of_element(len))
 }
 
-/// How many bytes an OCTET STRING of `len` bytes takes. `InvalidData` exactly where `len` passes the limit.
+/// How many bytes an OCTET STRING of `len` bytes takes. `InvalidData` exactly where `len` passes
+/// the limit.
 pub fn sizeof_octet_string(len: usize) -> Result<usize, WireKind>
     ensures { IsSizeIf (nat_le len max_content) result (element_size len) }
 {
     sizeof_sequence(len)
 }
 
-/// How many bytes an OCTET STRING of `len` bytes takes inside another tag. `InvalidData` exactly where that tag's content,
-/// the whole OCTET STRING, passes the limit.
+/// How many bytes an OCTET STRING of `len` bytes takes inside another tag. `InvalidData` exactly
+/// where that tag's content, the whole OCTET STRING, passes the limit.
 pub fn sizeof_sequence_octet_string(len: usize) -> Result<usize, WireKind>
-    ensures { IsSizeIf (nat_le (element_size len) max_content) result (element_size (element_size len)) }
+    ensures { IsSizeIf (nat_le (element_size len) max_content) result
+        (element_size (element_size len)) }
 {
     if !fits_in_element(len) {
         return Err(WireKind::InvalidData);

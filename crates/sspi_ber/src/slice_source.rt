@@ -40,7 +40,8 @@ impl<'a> SliceSource<'a> {
 
     /// Takes the next byte where it is this one, and else nothing.
     pub fn take_if(&mut self, byte: u8) -> bool
-        ensures { MatchBool result (self.old ≡ byte ∷ self.new) ((self.new ≡ self.old) × IsNotNext byte self.old) }
+        ensures { MatchBool result (self.old ≡ byte ∷ self.new) ((self.new ≡ self.old) ×
+            IsNotNext byte self.old) }
     {
         match self.rest.split_first() {
             None => false,
@@ -54,7 +55,8 @@ impl<'a> SliceSource<'a> {
         }
     }
 
-    /// The next `len` bytes. `UnexpectedEof` exactly where fewer are left, and then nothing is taken.
+    /// The next `len` bytes. `UnexpectedEof` exactly where fewer are left, and then nothing is
+    /// taken.
     #[tactic(auto, unfolding(crate::specs::Pieces::bytes_at))]
     pub fn take(&mut self, len: usize) -> Result<&'a [u8], WireKind>
         ensures read { Gives (λ bytes. bytes.now) self.new result (bytes_at len self.old) }

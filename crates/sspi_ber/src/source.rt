@@ -21,7 +21,8 @@ pub trait Source {
     // How often the source failed. It never falls, and stays at `u64::MAX` once it is there.
     ghost faults: { Self → ℕ };
 
-    /// Reads the next bytes into `into`, and answers how many. Where `into` has room, 0 says that nothing is left.
+    /// Reads the next bytes into `into`, and answers how many. Where `into` has room, 0 says that
+    /// nothing is left.
     fn read(&mut self, into: &mut [u8]) -> Result<usize, SourceError>
         ensures bound { IfOk result (λ count. count ≤ length into.new) }
         ensures bytes { ReadConsumes (left self.old) (left self.new) result into.new }

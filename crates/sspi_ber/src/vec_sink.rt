@@ -6,7 +6,8 @@ use crate::sink::{Sink, SinkError};
 use std::alloc::{AllocError, Global};
 use std::marker::Model;
 
-/// A sink that keeps what was written in memory. It fails only when out of memory, which is no fault.
+/// A sink that keeps what was written in memory. It fails only when out of memory, which is no
+/// fault.
 #[derive(Drop)]
 pub struct VecSink {
     content: Vec<u8>,

@@ -14,8 +14,9 @@ use crate::sink::Sink;
 use crate::sizes::{fits_in_element, length_size, size_of_element, sizeof_integer};
 use crate::wire_kind::WireKind;
 
-/// All of `piece`, in as many writes as the sink needs. `WriteFault` and `InsufficientMemory` only where not all of it was written: a
-/// proper prefix of it was, and of an empty piece nothing is refused.
+/// All of `piece`, in as many writes as the sink needs. `WriteFault` and `InsufficientMemory` only
+/// where not all of it was written: a proper prefix of it was, and of an empty piece nothing is
+/// refused.
 pub fn write_all<W: Sink>(sink: &mut W, piece: &[u8]) -> Result<(), WireKind>
     ensures wrote { Writes (W.written sink.old) (W.written sink.new) result piece.now }
     ensures cause { WriteCause (W.faults sink.old) (W.faults sink.new) result }
@@ -85,7 +86,8 @@ pub fn write_header<W: Sink>(sink: &mut W, tag: u8, len: usize) -> Result<(), Wi
 #[tactic(auto, using(crate::proofs::Written::writing), unfolding(crate::specs::Short::element))]
 pub fn write_element<W: Sink>(sink: &mut W, tag: u8, content: &[u8]) -> Result<(), WireKind>
     requires { length content.now ≤ max_content }
-    ensures wrote { Writes (W.written sink.old) (W.written sink.new) result (element tag content.now) }
+    ensures wrote { Writes (W.written sink.old) (W.written sink.new) result
+        (element tag content.now) }
     ensures cause { WriteCause (W.faults sink.old) (W.faults sink.new) result }
 {
     write_header(sink, tag, content.len())?;
@@ -97,7 +99,8 @@ pub fn write_element<W: Sink>(sink: &mut W, tag: u8, content: &[u8]) -> Result<(
 pub fn write_wrapped_octets<W: Sink>(sink: &mut W, tag: u8, value: &[u8]) -> Result<(), WireKind>
     requires value { length value.now ≤ max_content }
     requires whole { element_size (length value.now) ≤ max_content }
-    ensures wrote { Writes (W.written sink.old) (W.written sink.new) result (element tag (element 0x04 value.now)) }
+    ensures wrote { Writes (W.written sink.old) (W.written sink.new) result
+        (element tag (element 0x04 value.now)) }
     ensures cause { WriteCause (W.faults sink.old) (W.faults sink.new) result }
 {
     let len = value.len();
@@ -109,9 +112,11 @@ pub fn write_wrapped_octets<W: Sink>(sink: &mut W, tag: u8, value: &[u8]) -> Res
     write_element(sink, OCTET_STRING, value)
 }
 
-/// The shortest length, and how many bytes it took. `InvalidData` exactly where it passes the limit.
+/// The shortest length, and how many bytes it took. `InvalidData` exactly where it passes the
+/// limit.
 pub fn write_length<W: Sink>(sink: &mut W, len: usize) -> Result<usize, WireKind>
-    ensures wrote { WritesIf (nat_le len max_content) W.written sink.old sink.new result (len_short len) }
+    ensures wrote { WritesIf (nat_le len max_content) W.written sink.old sink.new result
+        (len_short len) }
     ensures count { IfOk result (λ count. count ≡ length (len_short len)) }
     ensures cause { WriteCause (W.faults sink.old) (W.faults sink.new) result }
 {
@@ -124,7 +129,8 @@ pub fn write_length<W: Sink>(sink: &mut W, len: usize) -> Result<usize, WireKind
 
 #[tactic(auto, using(crate::proofs::Written::lengths))]
 fn write_tag<W: Sink>(sink: &mut W, tag: u8, len: usize) -> Result<usize, WireKind>
-    ensures wrote { WritesIf (nat_le len max_content) W.written sink.old sink.new result (header tag len) }
+    ensures wrote { WritesIf (nat_le len max_content) W.written sink.old sink.new result
+        (header tag len) }
     ensures count { IfOk result (λ count. count ≡ length (header tag len)) }
     ensures cause { WriteCause (W.faults sink.old) (W.faults sink.new) result }
 {
@@ -135,45 +141,51 @@ fn write_tag<W: Sink>(sink: &mut W, tag: u8, len: usize) -> Result<usize, WireKi
     Ok(1 + length_size(len))
 }
 
-/// The header of a SEQUENCE whose content has `len` bytes, and how many bytes the header took. `InvalidData` exactly where
-/// `len` passes the limit.
+/// The header of a SEQUENCE whose content has `len` bytes, and how many bytes the header took.
+/// `InvalidData` exactly where `len` passes the limit.
 pub fn write_sequence_tag<W: Sink>(sink: &mut W, len: usize) -> Result<usize, WireKind>
-    ensures wrote { WritesIf (nat_le len max_content) W.written sink.old sink.new result (header 0x30 len) }
+    ensures wrote { WritesIf (nat_le len max_content) W.written sink.old sink.new result
+        (header 0x30 len) }
     ensures count { IfOk result (λ count. count ≡ length (header 0x30 len)) }
     ensures cause { WriteCause (W.faults sink.old) (W.faults sink.new) result }
 {
     write_tag(sink, SEQUENCE, len)
 }
 
-/// The header of a context-specific element, and how many bytes it took. Of `tagnum` the low five bits count.
-/// `InvalidData` exactly where `len` passes the limit.
+/// The header of a context-specific element, and how many bytes it took. Of `tagnum` the low five
+/// bits count. `InvalidData` exactly where `len` passes the limit.
 pub fn write_contextual_tag<W: Sink>(
     sink: &mut W,
     tagnum: u8,
     len: usize,
     pc: Pc,
 ) -> Result<usize, WireKind>
-    ensures wrote { WritesIf (nat_le len max_content) W.written sink.old sink.new result (header (contextual_identifier tagnum pc) len) }
-    ensures count { IfOk result (λ count. count ≡ length (header (contextual_identifier tagnum pc) len)) }
+    ensures wrote { WritesIf (nat_le len max_content) W.written sink.old sink.new result
+        (header (contextual_identifier tagnum pc) len) }
+    ensures count { IfOk result (λ count. count ≡ length
+        (header (contextual_identifier tagnum pc) len)) }
     ensures cause { WriteCause (W.faults sink.old) (W.faults sink.new) result }
 {
     write_tag(sink, contextual_identifier(tagnum, pc), len)
 }
 
-/// The header of an OCTET STRING of `len` bytes, and how many bytes it took. `InvalidData` exactly where `len` passes the
-/// limit.
+/// The header of an OCTET STRING of `len` bytes, and how many bytes it took. `InvalidData` exactly
+/// where `len` passes the limit.
 pub fn write_octet_string_tag<W: Sink>(sink: &mut W, len: usize) -> Result<usize, WireKind>
-    ensures wrote { WritesIf (nat_le len max_content) W.written sink.old sink.new result (header 0x04 len) }
+    ensures wrote { WritesIf (nat_le len max_content) W.written sink.old sink.new result
+        (header 0x04 len) }
     ensures count { IfOk result (λ count. count ≡ length (header 0x04 len)) }
     ensures cause { WriteCause (W.faults sink.old) (W.faults sink.new) result }
 {
     write_tag(sink, OCTET_STRING, len)
 }
 
-/// An OCTET STRING, and how many bytes it took. `InvalidData` exactly where the value passes the limit.
+/// An OCTET STRING, and how many bytes it took. `InvalidData` exactly where the value passes the
+/// limit.
 #[tactic(auto, using(crate::proofs::Written::lengths))]
 pub fn write_octet_string<W: Sink>(sink: &mut W, value: &[u8]) -> Result<usize, WireKind>
-    ensures wrote { WritesIf (nat_le (length value.now) max_content) W.written sink.old sink.new result (element 0x04 value.now) }
+    ensures wrote { WritesIf (nat_le (length value.now) max_content) W.written sink.old sink.new
+        result (element 0x04 value.now) }
     ensures count { IfOk result (λ count. count ≡ length (element 0x04 value.now)) }
     ensures cause { WriteCause (W.faults sink.old) (W.faults sink.new) result }
 {
@@ -184,17 +196,20 @@ pub fn write_octet_string<W: Sink>(sink: &mut W, value: &[u8]) -> Result<usize, 
     Ok(size_of_element(value.len()))
 }
 
-/// An OCTET STRING inside a constructed context-specific tag, and how many bytes both took. Of `tagnum` the low five bits
-/// count. `InvalidData` exactly where the whole OCTET STRING passes the limit.
+/// An OCTET STRING inside a constructed context-specific tag, and how many bytes both took. Of
+/// `tagnum` the low five bits count. `InvalidData` exactly where the whole OCTET STRING passes the
+/// limit.
 #[tactic(auto, using(crate::proofs::Written::writing, crate::proofs::Written::lengths), unfolding(crate::specs::Short::element))]
 pub fn write_sequence_octet_string<W: Sink>(
     sink: &mut W,
     tagnum: u8,
     value: &[u8],
 ) -> Result<usize, WireKind>
-    ensures wrote { WritesIf (nat_le (element_size (length value.now)) max_content) W.written sink.old sink.new result
+    ensures wrote { WritesIf (nat_le (element_size (length value.now)) max_content) W.written
+        sink.old sink.new result
         (element (contextual_identifier tagnum Pc.Construct) (element 0x04 value.now)) }
-    ensures count { IfOk result (λ count. count ≡ length (element (contextual_identifier tagnum Pc.Construct) (element 0x04 value.now))) }
+    ensures count { IfOk result (λ count. count ≡ length
+        (element (contextual_identifier tagnum Pc.Construct) (element 0x04 value.now))) }
     ensures cause { WriteCause (W.faults sink.old) (W.faults sink.new) result }
 {
     if !fits_in_element(value.len()) {
@@ -206,7 +221,8 @@ pub fn write_sequence_octet_string<W: Sink>(
 
 /// One identifier octet, in the class of its tag.
 pub fn write_universal_tag<W: Sink>(sink: &mut W, tag: Tag, pc: Pc) -> Result<usize, WireKind>
-    ensures wrote { Writes (W.written sink.old) (W.written sink.new) result (universal_identifier tag pc ∷ []) }
+    ensures wrote { Writes (W.written sink.old) (W.written sink.new) result
+        (universal_identifier tag pc ∷ []) }
     ensures count { IfOk result (λ count. count ≡ 1) }
     ensures cause { WriteCause (W.faults sink.old) (W.faults sink.new) result }
 {
@@ -234,7 +250,8 @@ fn write_short_integer<W: Sink>(sink: &mut W, value: u32) -> Result<(), WireKind
     }
 }
 
-/// An INTEGER in its shortest encoding of at most four content bytes, and how many bytes it took: 3 to 6.
+/// An INTEGER in its shortest encoding of at most four content bytes, and how many bytes it took: 3
+/// to 6.
 pub fn write_integer<W: Sink>(sink: &mut W, value: u32) -> Result<usize, WireKind>
     ensures wrote { Writes (W.written sink.old) (W.written sink.new) result (int_short value) }
     ensures count { IfOk result (λ count. count ≡ length (int_short value)) }

@@ -1,5 +1,6 @@
 -- The end of a scenario over a channel, up to the end of its delegation.
-use Rattle.std.specs.Prelude.{◌≡◌, ℕ, ◌≤◌, ◌==◌, not, Bool, true, false, List, length, Option, Result, Ok, Err}
+use Rattle.std.specs.Prelude.{◌≡◌, ℕ, ◌≤◌, ◌==◌, not, Bool, true, false, List, length, Option}
+use Rattle.std.specs.Prelude.{Result, Ok, Err}
 use Rattle.sspi_credssp.specs.declared.turn.End.TheVariants.{Client, Server}
 use Rattle.sspi_credssp.specs.declared.turn.Turn.{Turn}
 use Rattle.sspi_credssp.specs.Ends.{ClientView, IsFreshClient, IsFreshServer, ServerView}
@@ -25,23 +26,43 @@ use Rattle.sspi_channel.specs.declared.answer.ChannelError.TheVariants as channe
 use Rattle.sspi_channel.specs.declared.counted.Counted.{Counted}
 
 -- what a counted source and a counted sink show at one moment
-abbrev pub counted_channel : {S W : Type 0} → (S → Option (List ℕ)) → (W → Option (List ℕ)) → Counted S → Counted W → Channel
+abbrev pub counted_channel : {S W : Type 0} → (S → Option (List ℕ)) → (W → Option (List ℕ)) →
+    Counted S → Counted W → Channel
 counted_channel left written source sink =
-    record { left = left source.inner; read_faults = source.faults; written = written sink.inner; write_faults = sink.faults }
+    record {
+      left = left source.inner;
+      read_faults = source.faults;
+      written = written sink.inner;
+      write_faults = sink.faults;
+    }
 
 -- the same where the other side of the channel shows this
-abbrev pub sink_channel : {W : Type 0} → (W → Option (List ℕ)) → Option (List ℕ) → ℕ → Counted W → Channel
+abbrev pub sink_channel : {W : Type 0} → (W → Option (List ℕ)) → Option (List ℕ) → ℕ → Counted W →
+    Channel
 sink_channel written left read_faults sink =
-    record { left = left; read_faults = read_faults; written = written sink.inner; write_faults = sink.faults }
+    record {
+      left = left;
+      read_faults = read_faults;
+      written = written sink.inner;
+      write_faults = sink.faults;
+    }
 
-abbrev pub source_channel : {S : Type 0} → (S → Option (List ℕ)) → Option (List ℕ) → ℕ → Counted S → Channel
+abbrev pub source_channel : {S : Type 0} → (S → Option (List ℕ)) → Option (List ℕ) → ℕ → Counted S →
+    Channel
 source_channel left written write_faults source =
-    record { left = left source.inner; read_faults = source.faults; written = written; write_faults = write_faults }
+    record {
+      left = left source.inner;
+      read_faults = source.faults;
+      written = written;
+      write_faults = write_faults;
+    }
 
 -- ---- the ends
 
--- The server of a scenario, fresh, ran over the channel and came to this answer: all that `serve` promises holds.
-pub record IsServed (scenario : Scenario) (before after : Channel) (answer : Result Delegation DelegateError) : Type 0 where
+-- The server of a scenario, fresh, ran over the channel and came to this answer: all that `serve`
+-- promises holds.
+pub record IsServed (scenario : Scenario) (before after : Channel)
+    (answer : Result Delegation DelegateError) : Type 0 where
   -- the server as it was made, and as it was left
   pub server : ServerView PlainContext TableView
   pub server2 : ServerView PlainContext TableView
@@ -56,7 +77,8 @@ pub record IsServed (scenario : Scenario) (before after : Channel) (answer : Res
   pub proxy : ProxyStays table_meaning server.proxy server2.proxy
 
 -- The same of the client of a scenario and of its KDC, and of all that `connect` promises.
-pub record IsConnected (scenario : Scenario) (before after : Channel) (answer : Result ℕ DelegateError) : Type 0 where
+pub record IsConnected (scenario : Scenario) (before after : Channel)
+    (answer : Result ℕ DelegateError) : Type 0 where
   pub client : ClientView PlainContext
   pub client2 : ClientView PlainContext
   pub kdc2 : PlainKdcState
@@ -66,9 +88,11 @@ pub record IsConnected (scenario : Scenario) (before after : Channel) (answer : 
   pub connects : Connects scenario.turns before after answer turns
   pub within : length turns ≤ scenario.turns
   pub whose : AreOf Client turns × BeginsItself turns
-  pub history : ConnectPast plain_meaning (calls_of_kdc around) (IsDue Client turns before after) client (kdc_in scenario) answer turns
+  pub history : ConnectPast plain_meaning (calls_of_kdc around) (IsDue Client turns before after)
+      client (kdc_in scenario) answer turns
       client2 kdc2
-  pub shown : ConnectedFresh plain_meaning (calls_of_kdc around) (IsDue Client turns before after) client (kdc_in scenario) answer turns
+  pub shown : ConnectedFresh plain_meaning (calls_of_kdc around) (IsDue Client turns before after)
+      client (kdc_in scenario) answer turns
       client2 kdc2
   pub kdc : KdcStays told_replies kdc_faults (kdc_in scenario) kdc2
 
@@ -94,8 +118,11 @@ text_error (texts.Line line) = channel.Scenario line
 text_error texts.InsufficientMemory = channel.InsufficientMemory
 
 -- what came of the delegation; or there was no memory for the end, and the channel is as it was
-pub data Delegates {X : Type 0} (Ran : Channel → Channel → Result X DelegateError → Type 0) (before after : Channel)
+pub data Delegates {X : Type 0} (Ran : Channel → Channel → Result X DelegateError →
+    Type 0) (before after : Channel)
     (result : Result X ChannelError) : Type 0 where
-  ran : (answer : Result X DelegateError) → Ran before after answer → result ≡ by_fault answer (write_failed before after) →
+  ran : (answer : Result X DelegateError) → Ran before after answer →
+      result ≡ by_fault answer (write_failed before after) →
       Delegates Ran before after result
-  unmade : after ≡ before → result ≡ Err channel.InsufficientMemory → Delegates Ran before after result
+  unmade : after ≡ before → result ≡ Err channel.InsufficientMemory →
+      Delegates Ran before after result

@@ -1,5 +1,7 @@
--- The early result behind a delegation (MS-RDPBCGR 2.2.10.2), which is told and heard where the scenario admits anybody.
-use Rattle.std.specs.Prelude.{◌≡◌, ℕ, Bool, true, false, List, [], ◌∷◌, Option, None, Some, Result, Ok, Err}
+-- The early result behind a delegation (MS-RDPBCGR 2.2.10.2), which is told and heard where the
+-- scenario admits anybody.
+use Rattle.std.specs.Prelude.{◌≡◌, ℕ, Bool, true, false, List, [], ◌∷◌, Option, None, Some, Result}
+use Rattle.std.specs.Prelude.{Ok, Err}
 use Rattle.sspi_ber.specs.Outside.{LeavesRest, ReadCause, Reads, WriteCause, Writes}
 use Rattle.sspi_ber.specs.declared.wire_kind.WireKind.{WireKind}
 use Rattle.sspi_ber.specs.declared.wire_kind.WireKind.TheVariants as kinds
@@ -23,12 +25,14 @@ is_asked (name ∷ names) = true
 
 -- ---- the server
 
-abbrev pub told_as : EarlyUserAuthResult → Result (Unit {0}) WireKind → Result (Option EarlyUserAuthResult) ChannelError
+abbrev pub told_as : EarlyUserAuthResult → Result (Unit {0}) WireKind →
+    Result (Option EarlyUserAuthResult) ChannelError
 told_as told (Ok done) = Ok (Some told)
 told_as told (Err kinds.InsufficientMemory) = Err channel.InsufficientMemory
 told_as told (Err kind) = Err channel.WriteFault
 
--- The four octets of this result were written, or a prefix of them; what was written, and the counts of the sink's faults.
+-- The four octets of this result were written, or a prefix of them; what was written, and the
+-- counts of the sink's faults.
 pub record Tells (told : EarlyUserAuthResult) (before after : Option (List ℕ)) (faults faults2 : ℕ)
     (result : Result (Option EarlyUserAuthResult) ChannelError) : Type 0 where
   pub wire : Result (Unit {0}) WireKind
@@ -38,18 +42,22 @@ pub record Tells (told : EarlyUserAuthResult) (before after : Option (List ℕ))
 
 abbrev pub TellsIfAsked : Option EarlyUserAuthResult → Option (List ℕ) → Option (List ℕ) → ℕ → ℕ →
     Result (Option EarlyUserAuthResult) ChannelError → Type 0
-TellsIfAsked None before after faults faults2 result = (after ≡ before) × (faults2 ≡ faults) × (result ≡ Ok None)
-TellsIfAsked (Some told) before after faults faults2 result = Tells told before after faults faults2 result
+TellsIfAsked None before after faults faults2 result = (after ≡ before) × (faults2 ≡ faults) ×
+    (result ≡ Ok None)
+TellsIfAsked (Some told) before after faults faults2 result =
+    Tells told before after faults faults2 result
 
 -- ---- the client
 
-abbrev pub heard_as : Result EarlyUserAuthResult WireKind → Result (Option EarlyUserAuthResult) ChannelError
+abbrev pub heard_as : Result EarlyUserAuthResult WireKind →
+    Result (Option EarlyUserAuthResult) ChannelError
 heard_as (Ok heard) = Ok (Some heard)
 heard_as (Err kinds.ReadFault) = Err channel.ReadFault
 heard_as (Err kind) = Err (channel.Early kind)
 
 -- Four octets were read, and none behind them; what is left, and the counts of the source's faults.
-pub record Hears (before after : Option (List ℕ)) (faults faults2 : ℕ) (result : Result (Option EarlyUserAuthResult) ChannelError)
+pub record Hears (before after : Option (List ℕ)) (faults faults2 : ℕ)
+    (result : Result (Option EarlyUserAuthResult) ChannelError)
     : Type 0 where
   pub wire : Result EarlyUserAuthResult WireKind
   pub read : Reads (λ r. r) before after wire early_result_at
@@ -57,6 +65,8 @@ pub record Hears (before after : Option (List ℕ)) (faults faults2 : ℕ) (resu
   pub rest : LeavesRest before after
   pub answer : result ≡ heard_as wire
 
-abbrev pub HearsIfAsked : Bool → Option (List ℕ) → Option (List ℕ) → ℕ → ℕ → Result (Option EarlyUserAuthResult) ChannelError → Type 0
-HearsIfAsked false before after faults faults2 result = (after ≡ before) × (faults2 ≡ faults) × (result ≡ Ok None)
+abbrev pub HearsIfAsked : Bool → Option (List ℕ) → Option (List ℕ) → ℕ → ℕ →
+    Result (Option EarlyUserAuthResult) ChannelError → Type 0
+HearsIfAsked false before after faults faults2 result = (after ≡ before) × (faults2 ≡ faults) ×
+    (result ≡ Ok None)
 HearsIfAsked true before after faults faults2 result = Hears before after faults faults2 result

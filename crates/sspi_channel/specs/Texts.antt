@@ -1,5 +1,6 @@
 -- The line that says what an end over a channel came to.
-use Rattle.std.specs.Prelude.{ℕ, ◌+◌, ◌/◌, ◌%◌, ◌==◌, ◌||◌, nat_lt, List, [], ◌∷◌, ◌++◌, codes, decimal, Option, None, Some, Result, Ok, Err}
+use Rattle.std.specs.Prelude.{ℕ, ◌+◌, ◌/◌, ◌%◌, ◌==◌, ◌||◌, nat_lt, List, [], ◌∷◌, ◌++◌, codes}
+use Rattle.std.specs.Prelude.{decimal, Option, None, Some, Result, Ok, Err}
 use Rattle.std.specs.Prelude.{if◌then◌else◌}
 use Rattle.std.specs.List.{flat_map}
 use Rattle.sspi_names.specs.Name.{inner_of}
@@ -23,7 +24,8 @@ digit n = if nat_lt n 10 then 48 + n else 87 + n
 
 -- a control character of ASCII as a backslash, an x and its number, any other octet as it is
 abbrev pub shown_octet : ℕ → List ℕ
-shown_octet b = if nat_lt b 32 || (b == 127) then 92 ∷ 120 ∷ digit (b / 16) ∷ digit (b % 16) ∷ [] else b ∷ []
+shown_octet b = if nat_lt b 32 || (b == 127) then 92 ∷ 120 ∷ digit (b / 16) ∷ digit (b % 16) ∷ []
+    else b ∷ []
 
 abbrev pub shown : List ℕ → List ℕ
 shown text = flat_map shown_octet text
@@ -57,9 +59,11 @@ head rounds = codes "ok " ++ decimal rounds ++ codes " user="
 abbrev pub serve_line : Result Served ChannelError → List ℕ
 serve_line (Ok served) =
     with_line_feed
-    ((head served.delegation.rounds ++ shown (inner_of served.delegation.credentials.username)) ++ early_part served.told)
+    ((head served.delegation.rounds ++ shown (inner_of served.delegation.credentials.username)) ++
+    early_part served.told)
 serve_line (Err error) = error_text error
 
 abbrev pub connect_line : Result Connected ChannelError → List ℕ
-connect_line (Ok connected) = with_line_feed (codes "ok " ++ decimal connected.rounds ++ early_part connected.heard)
+connect_line (Ok connected) = with_line_feed (codes "ok " ++ decimal connected.rounds ++
+    early_part connected.heard)
 connect_line (Err error) = error_text error

@@ -2,7 +2,8 @@
 
 ghost use Rattle.std.specs.Prelude.{◌≡◌, ℕ, List, Option};
 ghost use Rattle.sspi_channel.specs.Answers.{ConnectsAs, ConnectsText, HearsBehind, connected_with};
-ghost use Rattle.sspi_channel.specs.Delegating.{Delegates, IsConnected, counted_channel, source_channel};
+ghost use Rattle.sspi_channel.specs.Delegating.{Delegates, IsConnected, counted_channel};
+ghost use Rattle.sspi_channel.specs.Delegating.{source_channel};
 
 use crate::answer::{ChannelError, Connected};
 use crate::by_fault::{by_fault, text_error, without};
@@ -72,7 +73,8 @@ fn delegate_by<S: Source, W: Sink>(
     source: &mut Counted<S>,
     sink: &mut Counted<W>,
 ) -> Result<u32, ChannelError>
-    ensures { Delegates (IsConnected scenario.now) (counted_channel S.left W.written source.old sink.old)
+    ensures { Delegates (IsConnected scenario.now)
+        (counted_channel S.left W.written source.old sink.old)
         (counted_channel S.left W.written source.new sink.new) result }
 {
     let faults = sink.faults;

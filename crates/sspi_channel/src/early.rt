@@ -3,7 +3,8 @@
 ghost use Rattle.std.specs.Prelude.{◌≡◌, IfOk};
 ghost use Rattle.sspi_early.specs.Authorizes.{told_of};
 ghost use Rattle.sspi_early.specs.Policy.{is_listed};
-ghost use Rattle.sspi_channel.specs.Early.{Hears, HearsIfAsked, Tells, TellsIfAsked, is_asked, told_by};
+ghost use Rattle.sspi_channel.specs.Early.{Hears, HearsIfAsked, Tells, TellsIfAsked, is_asked};
+ghost use Rattle.sspi_channel.specs.Early.{told_by};
 
 use crate::answer::ChannelError;
 use sspi_ber::{Sink, Source, WireKind};
@@ -43,7 +44,8 @@ pub(crate) fn tell_if_asked<W: Sink>(
     sink: &mut W,
     told: Option<EarlyUserAuthResult>,
 ) -> Result<Option<EarlyUserAuthResult>, ChannelError>
-    ensures { TellsIfAsked told (W.written sink.old) (W.written sink.new) (W.faults sink.old) (W.faults sink.new) result }
+    ensures { TellsIfAsked told (W.written sink.old) (W.written sink.new) (W.faults sink.old)
+        (W.faults sink.new) result }
 {
     match told {
         None => Ok(None),
@@ -55,7 +57,8 @@ fn tell<W: Sink>(
     sink: &mut W,
     told: EarlyUserAuthResult,
 ) -> Result<Option<EarlyUserAuthResult>, ChannelError>
-    ensures { Tells told (W.written sink.old) (W.written sink.new) (W.faults sink.old) (W.faults sink.new) result }
+    ensures { Tells told (W.written sink.old) (W.written sink.new) (W.faults sink.old)
+        (W.faults sink.new) result }
 {
     match told.to_buffer(sink) {
         Ok(()) => Ok(Some(told)),
@@ -76,13 +79,15 @@ pub(crate) fn hear_if_asked<S: Source>(
     source: &mut S,
     asked: bool,
 ) -> Result<Option<EarlyUserAuthResult>, ChannelError>
-    ensures { HearsIfAsked asked (S.left source.old) (S.left source.new) (S.faults source.old) (S.faults source.new) result }
+    ensures { HearsIfAsked asked (S.left source.old) (S.left source.new) (S.faults source.old)
+        (S.faults source.new) result }
 {
     if asked { hear(source) } else { Ok(None) }
 }
 
 fn hear<S: Source>(source: &mut S) -> Result<Option<EarlyUserAuthResult>, ChannelError>
-    ensures { Hears (S.left source.old) (S.left source.new) (S.faults source.old) (S.faults source.new) result }
+    ensures { Hears (S.left source.old) (S.left source.new) (S.faults source.old)
+        (S.faults source.new) result }
 {
     match EarlyUserAuthResult::from_buffer(source) {
         Ok(heard) => Ok(Some(heard)),

@@ -34,7 +34,8 @@ pub fn end_scenario<S: Source, W: Sink, T: Sink>(
     told: &mut T,
 ) -> u8
     ensures { EndsAs end text.now (counted_channel S.left W.written source.old sink.old)
-        (counted_channel S.left W.written source.new sink.new) (T.written told.old) (T.written told.new) result }
+        (counted_channel S.left W.written source.new sink.new) (T.written told.old)
+        (T.written told.new) result }
 {
     match end {
         End::Server => {
@@ -65,7 +66,8 @@ pub fn end_of_file<F: Source, S: Source, W: Sink, T: Sink>(
     told: &mut T,
 ) -> u8
     ensures ends { EndsFile end (F.left file.old) (F.faults file.old) (F.faults file.new)
-        (counted_channel S.left W.written source.old sink.old) (counted_channel S.left W.written source.new sink.new)
+        (counted_channel S.left W.written source.old sink.old)
+        (counted_channel S.left W.written source.new sink.new)
         (T.written told.old) (T.written told.new) result }
     ensures taken { TakesAtMost (text_limit + 1) (F.left file.old) (F.left file.new) }
 {

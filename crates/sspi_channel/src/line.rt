@@ -2,7 +2,8 @@
 
 ghost use Rattle.std.specs.Prelude.{◌≡◌, ◌<◌, ◌++◌, IfOk, OnOk};
 ghost use Rattle.sspi_channel.specs.Texts;
-ghost use Rattle.sspi_channel.specs.Texts.{digit, early_part, early_text, error_text, head, scenario_text, shown, shown_octet};
+ghost use Rattle.sspi_channel.specs.Texts.{digit, early_part, early_text, error_text, head};
+ghost use Rattle.sspi_channel.specs.Texts.{scenario_text, shown, shown_octet};
 ghost use Rattle.sspi_report.specs.Names.{fault_name};
 
 use crate::answer::{ChannelError, Connected, Served};

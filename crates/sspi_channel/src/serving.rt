@@ -72,7 +72,8 @@ fn delegate_to<S: Source, W: Sink>(
     source: &mut Counted<S>,
     sink: &mut Counted<W>,
 ) -> Result<Delegation, ChannelError>
-    ensures { Delegates (IsServed scenario.now) (counted_channel S.left W.written source.old sink.old)
+    ensures { Delegates (IsServed scenario.now)
+        (counted_channel S.left W.written source.old sink.old)
         (counted_channel S.left W.written source.new sink.new) result }
 {
     let faults = sink.faults;
@@ -99,7 +100,8 @@ fn tell_behind<W: Sink>(
     delegated: Result<Delegation, ChannelError>,
 ) -> Result<Served, ChannelError>
     ensures { (left : Option (List ℕ)) (read_faults : ℕ) →
-        TellsBehind scenario.now (sink_channel W.written left read_faults sink.old) (sink_channel W.written left read_faults sink.new)
+        TellsBehind scenario.now (sink_channel W.written left read_faults sink.old)
+        (sink_channel W.written left read_faults sink.new)
         delegated result }
 {
     match delegated {

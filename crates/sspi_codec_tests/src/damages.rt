@@ -1,5 +1,5 @@
-//! Damaged requests, for tests of whoever reads requests: each line is a fault and the bytes that have it, where `end` is
-//! `UnexpectedEof` and `bad` is `InvalidData`.
+//! Damaged requests, for tests of whoever reads requests: each line is a fault and the bytes that
+//! have it, where `end` is `UnexpectedEof` and `bad` is `InvalidData`.
 
 /// Each fault of the outer header, and a content that is not whole.
 pub const OUTER: &str = "
@@ -14,7 +14,8 @@ end: 30 82 ff fc
 end: 30 03 a0 03
 ";
 
-/// Contents, which stand inside a SEQUENCE: each place of the version where the first fault of a content can be.
+/// Contents, which stand inside a SEQUENCE: each place of the version where the first fault of a
+/// content can be.
 pub const VERSION: &str = "
 end:
 bad: a1

@@ -6,9 +6,10 @@ use Rattle.sspi_delegate.specs.declared.answer.Delegation.{Delegation}
 use Rattle.sspi_delegate.specs.declared.answer.DelegateError.{DelegateError}
 use Rattle.sspi_completeness.specs.Matching.{ComesToOkIn, IsCutShort}
 
--- Ok after this many messages of the client, with this identity, where it may make as many, and else the turns are spent; or there
--- was no memory.
-pub record AnswersIn (messages limit : ℕ) (identity : AuthIdentity) (answer : Result Delegation DelegateError) : Type 0 where
+-- Ok after this many messages of the client, with this identity, where it may make as many, and
+-- else the turns are spent; or there was no memory.
+pub record AnswersIn (messages limit : ℕ) (identity : AuthIdentity)
+    (answer : Result Delegation DelegateError) : Type 0 where
   pub comes : messages ≤ limit → ComesToOkIn messages identity answer
   pub short : limit < messages → IsCutShort answer
 

@@ -15,20 +15,31 @@ example_target = codes "TERMSRV/host.example.com"
 
 -- an end that may use both packages, and knows no KDC of a realm
 abbrev pub example_end : ProtocolConfig → List ℕ → NegotiateConfig
-example_end first computer = record { protocol_config = first; package_list = None; client_computer_name = computer; kdcs = [] }
+example_end first computer = record {
+  protocol_config = first;
+  package_list = None;
+  client_computer_name = computer;
+  kdcs = [];
+}
 
 -- with NTLM selected, whose challenge is zeros
 abbrev pub example_ntlm : List ℕ → NegotiateConfig
-example_ntlm computer = example_end (configs.Ntlm (record { client_computer_name = Some computer; challenge = replicate 8 0 })) computer
+example_ntlm computer = example_end (configs.Ntlm
+    (record { client_computer_name = Some computer; challenge = replicate 8 0 })) computer
 
 -- a client with Kerberos selected, which asks this KDC; a server of Kerberos with this ticket
 abbrev pub example_kerberos : List ℕ → List ℕ → NegotiateConfig
 example_kerberos url computer =
-    example_end (configs.Kerberos (record { kdc_url = Some url; kdcs = []; client_computer_name = computer })) computer
+    example_end (configs.Kerberos (record {
+      kdc_url = Some url;
+      kdcs = [];
+      client_computer_name = computer;
+    })) computer
 
 abbrev pub example_ticket : List ℕ → List ℕ → NegotiateConfig
 example_ticket ticket computer =
-    example_end (configs.KerberosServer (record { kdc_url = None; kdcs = []; client_computer_name = computer })
+    example_end (configs.KerberosServer
+    (record { kdc_url = None; kdcs = []; client_computer_name = computer })
     (record { ticket = Some ticket })) computer
 
 -- a plain KDC that knows the client alone, and answers as it usually does

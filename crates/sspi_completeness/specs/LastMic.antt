@@ -1,7 +1,9 @@
--- What a server answers on the MIC that its negotiation waits for, and why it refuses one (RFC 4178, section 5).
+-- What a server answers on the MIC that its negotiation waits for, and why it refuses one (RFC
+-- 4178, section 5).
 use Rattle.std.specs.Prelude.{◌≡◌, ◌≢◌, ℕ, List, [], Option, Some, None, map, option_and_then}
 use Rattle.sspi_types.specs.declared.error_kind.ErrorKind.{ErrorKind}
-use Rattle.sspi_types.specs.declared.error_kind.ErrorKind.TheVariants.{InsufficientMemory, InternalError, NoCredentials}
+use Rattle.sspi_types.specs.declared.error_kind.ErrorKind.TheVariants.{InsufficientMemory}
+use Rattle.sspi_types.specs.declared.error_kind.ErrorKind.TheVariants.{InternalError, NoCredentials}
 use Rattle.sspi_names.specs.Name.{Name}
 use Rattle.sspi_names.specs.declared.credentials.Credentials.{Credentials}
 use Rattle.sspi_names.specs.declared.credentials.Credentials.TheVariants as credentials
@@ -23,10 +25,12 @@ mic_in input = option_and_then (λ token. token.mech_list_mic) (targ_of input)
 abbrev pub found_by : Name → List AuthIdentity → List Credentials
 found_by name known = map credentials.AuthIdentity (named name known)
 
--- c: what the selected mechanism means; m: as it is before the step; known: the identities that the server knows; list: the list of
--- mechanisms as it is kept
-module _ {M : Type 0} (c : Meaning Origin M) (m : M) (known : List AuthIdentity) (list : List (List ℕ)) (mic : List ℕ) where
-  -- the mechanism was given the identities of its peer's name, and found the MIC to be that of the list
+-- c: what the selected mechanism means; m: as it is before the step; known: the identities that the
+-- server knows; list: the list of mechanisms as it is kept
+module _ {M : Type 0} (c : Meaning Origin M) (m : M) (known : List AuthIdentity)
+    (list : List (List ℕ)) (mic : List ℕ) where
+  -- the mechanism was given the identities of its peer's name, and found the MIC to be that of the
+  -- list
   pub record VerifiesLast : Type 0 where
     pub name : Name
     pub text : List ℕ
@@ -42,9 +46,11 @@ module _ {M : Type 0} (c : Meaning Origin M) (m : M) (known : List AuthIdentity)
     -- the mechanism does not name its peer
     unnamed : c.refuses m ToName kind → RefusesLast kind
     -- the server knows nobody of that name
-    unknown : (name : Name) → c.names m ≡ Some name → named name known ≡ [] → kind ≡ NoCredentials → RefusesLast kind
+    unknown : (name : Name) → c.names m ≡ Some name → named name known ≡ [] → kind ≡ NoCredentials →
+        RefusesLast kind
     -- the mechanism takes none of those that it knows
-    unidentified : (name : Name) → c.names m ≡ Some name → c.refuses m (ToIdentify (found_by name known)) kind → RefusesLast kind
+    unidentified : (name : Name) → c.names m ≡ Some name →
+        c.refuses m (ToIdentify (found_by name known)) kind → RefusesLast kind
     -- the list has no encoding within the limit
     too_long : spelled_list list ≡ None → kind ≡ InternalError → RefusesLast kind
     -- the mechanism does not verify the MIC
@@ -52,7 +58,8 @@ module _ {M : Type 0} (c : Meaning Origin M) (m : M) (known : List AuthIdentity)
         c.identifies m (found_by name known) identified → spelled_list list ≡ Some text →
         c.refuses identified (ToVerify mic text) kind → RefusesLast kind
 
-  -- the step is made by a MIC that verified, or refused for one of these reasons; or there was no memory
+  -- the step is made by a MIC that verified, or refused for one of these reasons; or there was no
+  -- memory
   abbrev pub AnswersLast : Answer → Type 0
   AnswersLast (Done step) = VerifiesLast
   AnswersLast (Ask request) = ⊥

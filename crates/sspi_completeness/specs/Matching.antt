@@ -1,4 +1,5 @@
--- Two ends that match, with plain NTLM or a negotiation, over a link that disturbs nothing, and what comes of their exchange.
+-- Two ends that match, with plain NTLM or a negotiation, over a link that disturbs nothing, and
+-- what comes of their exchange.
 use Rattle.std.specs.Prelude.{◌≡◌, ℕ, ◌-◌, ◌^◌, ◌<◌, ◌≤◌, List, [], ◌∷◌, length, Option, Some}
 use Rattle.std.specs.Prelude.{Result, Ok, Err, nat_lt}
 use Rattle.sspi_names.specs.declared.credentials.Credentials.TheVariants as credentials
@@ -44,29 +45,40 @@ pub record IsShort (identity : AuthIdentity) : Type 0 where
   pub password_units : length (buffers_of identity).password.value ≤ 131072
 
 -- both authenticate by plain NTLM alone, or both negotiate
-abbrev pub MatchModes : Option (ℕ → NetworkRequest → Reply) → ℕ → List ℕ → AuthIdentity → ClientMode → ServerMode → Type 0
-MatchModes told call target identity (client_mode.Ntlm config) (server_mode.Ntlm config2) = length config2.challenge ≡ 8
-MatchModes told call target identity (client_mode.Negotiate config) (server_mode.Negotiate config2) =
+abbrev pub MatchModes : Option (ℕ → NetworkRequest → Reply) → ℕ → List ℕ → AuthIdentity →
+    ClientMode → ServerMode → Type 0
+MatchModes told call target identity (client_mode.Ntlm config) (server_mode.Ntlm config2) =
+    length config2.challenge ≡ 8
+MatchModes told call target identity (client_mode.Negotiate config)
+    (server_mode.Negotiate config2) =
     AreNegotiating told call config config2 target identity
 MatchModes told call target identity (client_mode.Ntlm config) (server_mode.Negotiate config2) = ⊥
 MatchModes told call target identity (client_mode.Negotiate config) (server_mode.Ntlm config2) = ⊥
 
 -- how many messages the client makes then
-abbrev pub messages_of : (told : Option (ℕ → NetworkRequest → Reply)) (call : ℕ) (target : List ℕ) (identity : AuthIdentity)
-    (client : ClientMode) (server : ServerMode) → MatchModes told call target identity client server → ℕ
+abbrev pub messages_of : (told : Option (ℕ → NetworkRequest → Reply)) (call : ℕ) (target : List ℕ)
+    (identity : AuthIdentity)
+    (client : ClientMode) (server : ServerMode) →
+    MatchModes told call target identity client server → ℕ
 messages_of told call target identity (client_mode.Ntlm config) (server_mode.Ntlm config2) modes = 3
-messages_of told call target identity (client_mode.Negotiate config) (server_mode.Negotiate config2) modes =
+messages_of told call target identity (client_mode.Negotiate config) (server_mode.Negotiate config2)
+    modes =
     messages_by modes.begins modes.picked.choice
-messages_of told call target identity (client_mode.Ntlm config) (server_mode.Negotiate config2) modes = absurd modes
-messages_of told call target identity (client_mode.Negotiate config) (server_mode.Ntlm config2) modes = absurd modes
+messages_of told call target identity (client_mode.Ntlm config) (server_mode.Negotiate config2)
+    modes = absurd modes
+messages_of told call target identity (client_mode.Negotiate config) (server_mode.Ntlm config2)
+    modes = absurd modes
 
--- Both come to one plain mechanism, with one key and one kind of proof, and each takes the other's version; the client has an
--- identity whose password the server's proxy tells. `told` and `call` are what the client's KDC tells of its replies, and the number of
--- its next call. The last fields say what is so of every client and server that is made.
-pub record AreMatching {C D P : Type 0} (p : ProxyMeaning P) (told : Option (ℕ → NetworkRequest → Reply)) (call : ℕ)
+-- Both come to one plain mechanism, with one key and one kind of proof, and each takes the other's
+-- version; the client has an identity whose password the server's proxy tells. `told` and `call`
+-- are what the client's KDC tells of its replies, and the number of its next call. The last fields
+-- say what is so of every client and server that is made.
+pub record AreMatching {C D P : Type 0} (p : ProxyMeaning P)
+    (told : Option (ℕ → NetworkRequest → Reply)) (call : ℕ)
     (client : ClientView C) (server : ServerView D P) : Type 0 where
   pub identity : AuthIdentity
-  pub modes : MatchModes told call client.settings.target identity client.settings.mode server.settings.mode
+  pub modes : MatchModes told call client.settings.target identity client.settings.mode
+      server.settings.mode
   pub key_same : server.settings.public_key ≡ client.settings.public_key
   pub key_short : length client.settings.public_key ≤ key_limit
   pub versions : nat_lt client.settings.version 5 ≡ nat_lt server.settings.version 5
@@ -83,34 +95,42 @@ pub record AreMatching {C D P : Type 0} (p : ProxyMeaning P) (told : Option (ℕ
   pub nonce : length client.settings.nonce ≡ 32
 
 -- how many messages the client of matching ends makes
-abbrev pub messages_in : {C D P : Type 0} {p : ProxyMeaning P} {told : Option (ℕ → NetworkRequest → Reply)} {call : ℕ}
+abbrev pub messages_in : {C D P : Type 0} {p : ProxyMeaning P}
+    {told : Option (ℕ → NetworkRequest → Reply)} {call : ℕ}
     {client : ClientView C} {server : ServerView D P} → AreMatching p told call client server → ℕ
-messages_in {C = C} {D = D} {P = P} {p = p} {told = told} {call = call} {client = client} {server = server} matching =
-    messages_of told call client.settings.target matching.identity client.settings.mode server.settings.mode matching.modes
+messages_in {C = C} {D = D} {P = P} {p = p} {told = told} {call = call} {client = client}
+    {server = server} matching =
+    messages_of told call client.settings.target matching.identity client.settings.mode
+    server.settings.mode matching.modes
 
 -- a count of faults that did not rise, and that does not stand at its last value
 pub record IsCalm (before now : ℕ) : Type 0 where
   pub same : now ≡ before
   pub counted : before < 2 ^ 64 - 1
 
--- no look-up failed: the proxy tells which calls fail, and there are none; or its count of faults shows it
+-- no look-up failed: the proxy tells which calls fail, and there are none; or its count of faults
+-- shows it
 pub data NoneFailed (failing : Option (List ℕ)) (before now : ℕ) : Type 0 where
   none_told : failing ≡ Some [] → before < 2 ^ 64 - 1 → NoneFailed failing before now
   none_counted : IsCalm before now → NoneFailed failing before now
 
--- each entry of a log, but the oldest `count`, delivers what was sent: a beginning of it, and the whole where the delivery has ended
+-- each entry of a log, but the oldest `count`, delivers what was sent: a beginning of it, and the
+-- whole where the delivery has ended
 abbrev pub AreWholePast : ℕ → List Carried → Type 0
 AreWholePast count [] = Unit {0}
-AreWholePast count (e ∷ log) = (count ≤ length log → Delivers (Some e.sent) e) × AreWholePast count log
+AreWholePast count (e ∷ log) = (count ≤ length log → Delivers (Some e.sent) e) ×
+    AreWholePast count log
 
--- The link changed nothing: it tells its edits, there are none, and its log shows none; or the entries that came behind those of
--- before show it, and no call failed.
-pub data IsUndisturbed (edits : Option (List Edit)) (old new : List Carried) (before now : ℕ) : Type 0 where
+-- The link changed nothing: it tells its edits, there are none, and its log shows none; or the
+-- entries that came behind those of before show it, and no call failed.
+pub data IsUndisturbed (edits : Option (List Edit)) (old new : List Carried) (before now : ℕ) : Type
+    0 where
   unedited : edits ≡ Some [] → AreWholePast 0 old → IsUndisturbed edits old new before now
   shown : AreWholePast (length old) new → IsCalm before now → IsUndisturbed edits old new before now
 
 -- fresh ends, a link that changes nothing, and a proxy of which no look-up fails
-pub record NothingDisturbs {C P L D : Type 0} (around : Around P L D) (old new : Parties C P L D) : Type 0 where
+pub record NothingDisturbs {C P L D : Type 0} (around : Around P L D)
+    (old new : Parties C P L D) : Type 0 where
   pub fresh : IsFresh old.client old.server
   pub link : IsUndisturbed (around.edits old.link) (around.log old.link) (around.log new.link)
       (around.link_faults old.link) (around.link_faults new.link)
@@ -119,7 +139,8 @@ pub record NothingDisturbs {C P L D : Type 0} (around : Around P L D) (old new :
 
 -- this many messages of the client, and this identity; or there was no memory
 abbrev pub ComesToOkIn : ℕ → AuthIdentity → Result Delegation DelegateError → Type 0
-ComesToOkIn messages identity (Ok delegation) = (delegation.rounds ≡ messages) × (delegation.credentials ≡ identity)
+ComesToOkIn messages identity (Ok delegation) = (delegation.rounds ≡ messages) ×
+    (delegation.credentials ≡ identity)
 ComesToOkIn messages identity (Err errors.InsufficientMemory) = Unit {0}
 ComesToOkIn messages identity (Err error) = ⊥
 

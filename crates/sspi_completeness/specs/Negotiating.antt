@@ -1,5 +1,7 @@
--- Two ends that negotiate (RFC 4178; MS-SPNG 3.1.5), each by a mechanism of its own, and what they need to come to their end.
-use Rattle.std.specs.Prelude.{◌≡◌, ◌↔◌, ◌&&◌, ◌||◌, ℕ, Bool, false, IsTrue, List, length, replicate, is_some}
+-- Two ends that negotiate (RFC 4178; MS-SPNG 3.1.5), each by a mechanism of its own, and what they
+-- need to come to their end.
+use Rattle.std.specs.Prelude.{◌≡◌, ◌↔◌, ◌&&◌, ◌||◌, ℕ, Bool, false, IsTrue, List, length, replicate}
+use Rattle.std.specs.Prelude.{is_some}
 use Rattle.std.specs.Prelude.{Option, None, Some, Ok, if◌then◌else◌}
 use Rattle.sspi_names.specs.declared.identity.AuthIdentity.{AuthIdentity}
 use Rattle.sspi_names.specs.declared.network.NetworkRequest.{NetworkRequest}
@@ -35,19 +37,22 @@ protocol_of (Configured (configs.Kerberos config)) = Kerberos
 protocol_of (Configured (configs.KerberosServer config server)) = Kerberos
 protocol_of (InPlaceOfNtlm url kdcs computer) = Kerberos
 
--- What a client begins with, by the mechanism that is selected when it is made and the URL of a KDC for the domain of its name:
--- NTLM, where its target is named by its IP address and NTLM may be used; else Kerberos, where it is selected, or may be used
--- and there is such a KDC.
+-- What a client begins with, by the mechanism that is selected when it is made and the URL of a KDC
+-- for the domain of its name: NTLM, where its target is named by its IP address and NTLM may be
+-- used; else Kerberos, where it is selected, or may be used and there is such a KDC.
 abbrev pub begins_with : Bool → PackageListConfig → Protocol → Option (List ℕ) → Protocol
 begins_with ip packages first url =
     if ip && packages.ntlm then Ntlm
     else if is_kerberos_hand first || (packages.kerberos && is_some url) then Kerberos else Ntlm
 
--- the URL by which its Kerberos asks the KDC: that of its configuration, else the one for the domain of its name
+-- the URL by which its Kerberos asks the KDC: that of its configuration, else the one for the
+-- domain of its name
 abbrev pub kdc_url : NegotiateConfig → Origin → Name → Option (List ℕ)
 kdc_url config (Configured (configs.Ntlm ntlm)) name = url_for config.kdcs (domain_of name)
-kdc_url config (Configured (configs.Kerberos kerberos)) name = url_by kerberos.kdc_url kerberos.kdcs name
-kdc_url config (Configured (configs.KerberosServer kerberos server)) name = url_by kerberos.kdc_url kerberos.kdcs name
+kdc_url config (Configured (configs.Kerberos kerberos)) name =
+    url_by kerberos.kdc_url kerberos.kdcs name
+kdc_url config (Configured (configs.KerberosServer kerberos server)) name =
+    url_by kerberos.kdc_url kerberos.kdcs name
 kdc_url config (InPlaceOfNtlm url kdcs computer) name = url_by url kdcs name
 
 -- the challenge that a server's NTLM sends: eight zeros, where it takes the place of a Kerberos
@@ -66,14 +71,17 @@ ticket_of (InPlaceOfNtlm url kdcs computer) = None
 
 -- ---- what they need
 
--- NTLM: the client is no guest, whose negotiation would go unprotected, and the server's challenge has 8 bytes
+-- NTLM: the client is no guest, whose negotiation would go unprotected, and the server's challenge
+-- has 8 bytes
 pub record SuitNtlm (server : Origin) (identity : AuthIdentity) : Type 0 where
   pub no_guest : is_guest_text (text_of (buffers_of identity).user) ≡ false
   pub challenge : length (challenge_of server) ≡ 8
 
--- The first step of Kerberos: the client has the URL of a KDC, which tells its replies by the number of the call and the request,
--- and which at its next call has a first key for the client's name.
-pub record HasFirstKey (told : Option (ℕ → NetworkRequest → Reply)) (call : ℕ) (url : Option (List ℕ)) (name : Name) : Type 0 where
+-- The first step of Kerberos: the client has the URL of a KDC, which tells its replies by the
+-- number of the call and the request, and which at its next call has a first key for the client's
+-- name.
+pub record HasFirstKey (told : Option (ℕ → NetworkRequest → Reply)) (call : ℕ)
+    (url : Option (List ℕ)) (name : Name) : Type 0 where
   pub at : List ℕ
   pub url_is : url ≡ Some at
   pub replies : ℕ → NetworkRequest → Reply
@@ -82,8 +90,10 @@ pub record HasFirstKey (told : Option (ℕ → NetworkRequest → Reply)) (call 
   pub key_length : length key ≡ 32
   pub reply : replies call (request_at at (as_request (inner_of name))) ≡ Answered (as_reply key)
 
--- Kerberos to its end: the server holds a ticket, for which, beside that first key, the KDC has a session key at the call after.
-pub record HasSessionKey (told : Option (ℕ → NetworkRequest → Reply)) (call : ℕ) (url : Option (List ℕ)) (name : Name)
+-- Kerberos to its end: the server holds a ticket, for which, beside that first key, the KDC has a
+-- session key at the call after.
+pub record HasSessionKey (told : Option (ℕ → NetworkRequest → Reply)) (call : ℕ)
+    (url : Option (List ℕ)) (name : Name)
     (ticket : Option (List ℕ)) : Type 0 where
   pub first : HasFirstKey told call url name
   pub sent : List ℕ
@@ -91,19 +101,25 @@ pub record HasSessionKey (told : Option (ℕ → NetworkRequest → Reply)) (cal
   pub ticket_length : length sent ≡ 32
   pub key : List ℕ
   pub key_length : length key ≡ 32
-  pub reply : first.replies (counted_on call) (request_at first.at (tgs_request first.key sent)) ≡ Answered (tgs_reply key)
+  pub reply : first.replies (counted_on call) (request_at first.at (tgs_request first.key sent)) ≡
+      Answered (tgs_reply key)
 
 module _ (told : Option (ℕ → NetworkRequest → Reply)) (call : ℕ) where
   -- by what the client begins with, and what the server picks
   abbrev pub Needs : Protocol → Choice → Option (List ℕ) → Origin → AuthIdentity → Type 0
   Needs Ntlm choice url server identity = SuitNtlm server identity
-  Needs Kerberos choices.Ntlm url server identity = HasFirstKey told call url identity.username × SuitNtlm server identity
-  Needs Kerberos choices.Kerberos url server identity = HasSessionKey told call url identity.username (ticket_of server)
-  Needs Kerberos choices.MsKerberos url server identity = HasSessionKey told call url identity.username (ticket_of server)
+  Needs Kerberos choices.Ntlm url server identity = HasFirstKey told call url identity.username ×
+      SuitNtlm server identity
+  Needs Kerberos choices.Kerberos url server identity =
+      HasSessionKey told call url identity.username (ticket_of server)
+  Needs Kerberos choices.MsKerberos url server identity =
+      HasSessionKey told call url identity.username (ticket_of server)
 
-  -- Each end has a selected mechanism at first, the server picks of what the client offers, and what they need is there. The KDC
-  -- tells its replies by the number of the call, and this is the number of its next one.
-  pub record AreNegotiating (client server : NegotiateConfig) (target : List ℕ) (identity : AuthIdentity) : Type 0 where
+  -- Each end has a selected mechanism at first, the server picks of what the client offers, and
+  -- what they need is there. The KDC tells its replies by the number of the call, and this is the
+  -- number of its next one.
+  pub record AreNegotiating (client server : NegotiateConfig) (target : List ℕ)
+      (identity : AuthIdentity) : Type 0 where
     pub client_hand : Origin
     pub server_hand : Origin
     pub client_first : first_in_hand Client client ≡ Ok client_hand
@@ -115,8 +131,10 @@ module _ (told : Option (ℕ → NetworkRequest → Reply)) (call : ℕ) where
     pub begins_is : begins ≡ begins_with ip (packages_in client) (protocol_of client_hand)
         (url_for client.kdcs (domain_of identity.username))
     pub picked : Picked
-    pub picks : pick (offered begins (packages_in client)) (packages_in server) (protocol_of server_hand) ≡ Some picked
-    pub needs : Needs begins picked.choice (kdc_url client client_hand identity.username) server_hand identity
+    pub picks : pick (offered begins (packages_in client)) (packages_in server)
+        (protocol_of server_hand) ≡ Some picked
+    pub needs : Needs begins picked.choice (kdc_url client client_hand identity.username)
+        server_hand identity
 
 -- how many messages the client makes
 abbrev pub messages_by : Protocol → Choice → ℕ

@@ -1,5 +1,7 @@
--- Exchanges worked by hand: what the two ends of each are made of, that they match, and what comes of them.
-use Rattle.std.specs.Prelude.{◌≡◌, ℕ, ◌^◌, ◌<◌, ◌≤◌, List, [], ◌∷◌, length, codes, replicate, nat_lt, Option, None, Some}
+-- Exchanges worked by hand: what the two ends of each are made of, that they match, and what comes
+-- of them.
+use Rattle.std.specs.Prelude.{◌≡◌, ℕ, ◌^◌, ◌<◌, ◌≤◌, List, [], ◌∷◌, length, codes, replicate}
+use Rattle.std.specs.Prelude.{nat_lt, Option, None, Some}
 use Rattle.sspi_names.specs.declared.credentials.Credentials.TheVariants as credentials
 use Rattle.sspi_names.specs.declared.identity.AuthIdentity.{AuthIdentity}
 use Rattle.sspi_names.specs.declared.kdc_table.KdcEntry.{KdcEntry}
@@ -26,8 +28,9 @@ use Rattle.sspi_completeness.specs.Matching.{MatchModes, messages_of, IsShort, k
 
 -- ---- what an exchange is made of
 
--- The key of the channel, whom the client authenticates and the server knows, whether the client delegates its credentials, the
--- versions, the least that both ends take, and how each end authenticates.
+-- The key of the channel, whom the client authenticates and the server knows, whether the client
+-- delegates its credentials, the versions, the least that both ends take, and how each end
+-- authenticates.
 pub record Example : Type 0 where
   pub key : List ℕ
   pub identity : AuthIdentity
@@ -54,13 +57,20 @@ pub record IsClientOf {C : Type 0} (x : Example) (client : ClientView C) : Type 
 pub record IsServerOf {C : Type 0} (x : Example) (server : ServerView C TableView) : Type 0 where
   pub fresh : IsFreshServer server
   pub public_key : server.settings.public_key ≡ x.key
-  pub proxy : server.proxy ≡ record { entries = x.identity ∷ []; failing = []; calls = 0; faults = 0 }
+  pub proxy : server.proxy ≡ record {
+    entries = x.identity ∷ [];
+    failing = [];
+    calls = 0;
+    faults = 0;
+  }
   pub version : server.settings.version ≡ x.server_version
   pub least : server.settings.least ≡ x.least
   pub mode : server.settings.mode ≡ x.server
 
--- The ends match, and the client makes this many messages; `told` and `call` are what its KDC tells, and the number of its next call.
-pub record Matches (told : Option (ℕ → NetworkRequest → Reply)) (call messages : ℕ) (x : Example) : Type 0 where
+-- The ends match, and the client makes this many messages; `told` and `call` are what its KDC
+-- tells, and the number of its next call.
+pub record Matches (told : Option (ℕ → NetworkRequest → Reply)) (call messages : ℕ)
+    (x : Example) : Type 0 where
   pub identity_is : IsIdentity x.identity
   pub short : IsShort x.identity
   pub key_short : length x.key ≤ key_limit
@@ -114,7 +124,8 @@ with_kerberos = negotiation (configs.Kerberos realm_kerberos) None realm_table
 -- a server with Kerberos selected and a ticket, and one that may use NTLM alone
 abbrev pub with_ticket : NegotiateConfig
 with_ticket =
-    negotiation (configs.KerberosServer realm_kerberos (record { ticket = Some (replicate 32 0x11) })) None realm_table
+    negotiation (configs.KerberosServer realm_kerberos
+    (record { ticket = Some (replicate 32 0x11) })) None realm_table
 
 abbrev pub with_ntlm_alone : NegotiateConfig
 with_ntlm_alone = negotiation (configs.Ntlm server_ntlm) (Some (codes "ntlm")) realm_table
@@ -148,15 +159,18 @@ negotiated key identity version least client server = record {
 -- NTLM without a negotiation; at versions below 5; and of a client that keeps its credentials
 -- a negotiation of NTLM at version 4; over the key of a channel, of 270 bytes
 abbrev pub negotiated_at_version_4 : Example
-negotiated_at_version_4 = negotiated (1 ∷ 2 ∷ 3 ∷ []) ann 4 4 (with_ntlm client_ntlm) (with_ntlm server_ntlm)
+negotiated_at_version_4 = negotiated (1 ∷ 2 ∷ 3 ∷ []) ann 4 4 (with_ntlm client_ntlm)
+    (with_ntlm server_ntlm)
 
 abbrev pub negotiated_with_a_long_key : Example
 negotiated_with_a_long_key =
-    negotiated (replicate 270 0x3B) (ann_of_realm (codes "fourteenletter")) 6 5 (with_ntlm client_ntlm) (with_ntlm server_ntlm)
+    negotiated (replicate 270 0x3B) (ann_of_realm (codes "fourteenletter")) 6 5
+    (with_ntlm client_ntlm) (with_ntlm server_ntlm)
 
 -- a negotiation that the client begins with Kerberos: the server picks it, or may use NTLM alone
 abbrev pub user_to_user : Example
 user_to_user = negotiated (1 ∷ 2 ∷ 3 ∷ []) (ann_of_realm (codes "pw")) 6 5 with_kerberos with_ticket
 
 abbrev pub given_up_for_ntlm : Example
-given_up_for_ntlm = negotiated (1 ∷ 2 ∷ 3 ∷ []) (ann_of_realm (codes "pw")) 6 5 with_kerberos with_ntlm_alone
+given_up_for_ntlm = negotiated (1 ∷ 2 ∷ 3 ∷ []) (ann_of_realm (codes "pw")) 6 5 with_kerberos
+    with_ntlm_alone

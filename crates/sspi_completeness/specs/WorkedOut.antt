@@ -1,4 +1,5 @@
--- What an exchange that was worked by hand leaves: both ends, its KDC, its link and its transcript, and that they are those of a run.
+-- What an exchange that was worked by hand leaves: both ends, its KDC, its link and its transcript,
+-- and that they are those of a run.
 use Rattle.std.specs.Prelude.{ℕ, Option, Some, Result}
 use Rattle.sspi_names.specs.declared.network.NetworkRequest.{NetworkRequest}
 use Rattle.sspi_mech.specs.declared.step.Reply.{Reply}
@@ -36,11 +37,13 @@ kdc_told kdc = Some (told_by kdc.users kdc.script)
 -- what is round both ends: a proxy with a table, a link in memory and a plain KDC
 abbrev pub in_memory : Around TableView MemoryLinkView PlainKdcState
 in_memory =
-    around_by table_meaning (λ link. link.log) (λ link. Some link.edits) (λ link. link.faults) kdc_told (λ kdc. kdc.asked)
+    around_by table_meaning (λ link. link.log) (λ link. Some link.edits) (λ link. link.faults)
+    kdc_told (λ kdc. kdc.asked)
     (λ kdc. kdc.faults)
 
--- Those that took part had been made as the example has them, and match, and nothing disturbed them. What they left is a
--- delegation's, whose turns and log are a run (`IsRun`); and the answer is the one that was worked by hand.
+-- Those that took part had been made as the example has them, and match, and nothing disturbed
+-- them. What they left is a delegation's, whose turns and log are a run (`IsRun`); and the answer
+-- is the one that was worked by hand.
 pub record WorkedOut (x : Example) (messages limit : ℕ) (answer : Result Delegation DelegateError)
     (new : Parties Plain TableView MemoryLinkView PlainKdcState) : Type 0 where
   pub old : Parties Plain TableView MemoryLinkView PlainKdcState
@@ -52,5 +55,7 @@ pub record WorkedOut (x : Example) (messages limit : ℕ) (answer : Result Deleg
   pub answers : AnswersIn messages limit (delegated_as x.delegation x.identity) answer
 
 -- the same of what was handed out
-abbrev pub IsWorked : Example → ℕ → ℕ → Exchanged (ClientView Plain) (ServerView Plain TableView) → Type 0
-IsWorked x messages limit it = WorkedOut x messages limit it.answer (parties it.client it.server it.link it.kdc it.transcript.turns)
+abbrev pub IsWorked : Example → ℕ → ℕ → Exchanged (ClientView Plain) (ServerView Plain TableView) →
+    Type 0
+IsWorked x messages limit it = WorkedOut x messages limit it.answer
+    (parties it.client it.server it.link it.kdc it.transcript.turns)

@@ -1,4 +1,5 @@
--- What an end did on its security context in one call, and how many messages a context has made and taken.
+-- What an end did on its security context in one call, and how many messages a context has made and
+-- taken.
 use Rattle.std.specs.Prelude.{ℕ, ◌+◌, ◌⊎◌, Bool, true, false, None, ◌≡◌, List, Option, Some}
 use Rattle.sspi_mech.specs.Calls.{Counts}
 use Rattle.sspi_mech.specs.Meaning.{Meaning}
@@ -7,7 +8,14 @@ use Rattle.sspi_credssp.specs.declared.state.CredSspState.{CredSspState}
 use Rattle.sspi_credssp.specs.declared.state.CredSspState.TheVariants.{NegoToken}
 
 abbrev pub no_acts : Acts
-no_acts = record { status = None; negotiated = false; proved = false; checked = false; sealed = false; opened = false }
+no_acts = record {
+  status = None;
+  negotiated = false;
+  proved = false;
+  checked = false;
+  sealed = false;
+  opened = false;
+}
 
 abbrev pub count_of : Bool → ℕ
 count_of true = 1
@@ -38,11 +46,14 @@ module _ {S C : Type 0} (c : Meaning S C) where
   -- the counts are those before and the acts
   abbrev pub AddsActs : Option C → Acts → Option C → Type 0
   AddsActs before acts now =
-      (sealings_in now ≡ sealings_in before + sealings_by acts) × (unsealings_in now ≡ unsealings_in before + unsealings_by acts)
+      (sealings_in now ≡ sealings_in before + sealings_by acts) ×
+      (unsealings_in now ≡ unsealings_in before + unsealings_by acts)
 
-  -- The counts are those before and the acts; or the acts alone, in the authentication, where a step may take another mechanism.
+  -- The counts are those before and the acts; or the acts alone, in the authentication, where a
+  -- step may take another mechanism.
   abbrev pub CountsEachAct : CredSspState → Option C → Acts → Option C → Type 0
-  CountsEachAct state before acts now = AddsActs before acts now ⊎ ((state ≡ NegoToken) × AddsActs None acts now)
+  CountsEachAct state before acts now = AddsActs before acts now ⊎
+      ((state ≡ NegoToken) × AddsActs None acts now)
 
   -- the context but for what it sealed and opened
   abbrev pub cleared : C → C

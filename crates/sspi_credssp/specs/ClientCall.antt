@@ -1,5 +1,7 @@
--- What one call of `CredSspClient::process`, and one of `resume`, is, whatever it answers (MS-CSSP 3.1.5.1).
-use Rattle.std.specs.Prelude.{◌≡◌, ◌<◌, ◌+◌, ℕ, List, [], ◌∷◌, None, Result, IsSome, IsErr, IfErr, OnErr, true, false}
+-- What one call of `CredSspClient::process`, and one of `resume`, is, whatever it answers (MS-CSSP
+-- 3.1.5.1).
+use Rattle.std.specs.Prelude.{◌≡◌, ◌<◌, ◌+◌, ℕ, List, [], ◌∷◌, None, Result, IsSome, IsErr, IfErr}
+use Rattle.std.specs.Prelude.{OnErr, true, false}
 use Rattle.sspi_types.specs.declared.error.Error.{Error}
 use Rattle.sspi_types.specs.declared.error_kind.ErrorKind.TheVariants.{InvalidToken}
 use Rattle.sspi_names.specs.declared.network.NetworkRequest.{NetworkRequest}
@@ -11,7 +13,8 @@ use Rattle.sspi_credssp.specs.declared.client_state.Progress.{Progress}
 use Rattle.sspi_credssp.specs.Acts.{no_acts, is_waiting_in, left_in}
 use Rattle.sspi_credssp.specs.Ends.{ClientView}
 use Rattle.sspi_credssp.specs.ClientCause.{ClientCause, ClientExact, ResumeCause, status_of}
-use Rattle.sspi_credssp.specs.ClientTurn.{Asked, HasStepped, StepsTo, OnSuspended, ClientGoes, IsUnderway}
+use Rattle.sspi_credssp.specs.ClientTurn.{Asked, HasStepped, StepsTo, OnSuspended, ClientGoes}
+use Rattle.sspi_credssp.specs.ClientTurn.{IsUnderway}
 use Rattle.sspi_credssp.specs.Context.{ContextSetting}
 use Rattle.sspi_credssp.specs.Noted.{ClientHeeds, is_altered_in}
 use Rattle.sspi_credssp.specs.Requests.{is_code}
@@ -23,15 +26,18 @@ OnlyForgets old result new = IsErr result × (new ≡ record old { acts = no_act
 module _ {C : Type 0} (c : Meaning ContextSetting C) where
   -- ---- what both calls share
 
-  -- A turn on d that began at `start` is suspended at this question, after those of the log, the newest first; so many refused
-  -- resumes were tried again.
-  pub record Awaits (start : ClientView C) (d : TsRequest) (tries : ℕ) (log : List Asked) (q : NetworkRequest) (now : ClientView C) :
+  -- A turn on d that began at `start` is suspended at this question, after those of the log, the
+  -- newest first; so many refused resumes were tried again.
+  pub record Awaits (start : ClientView C) (d : TsRequest) (tries : ℕ) (log : List Asked)
+      (q : NetworkRequest) (now : ClientView C) :
       Type 0 where
     pub underway : IsUnderway c start d now
     pub walked : StepsTo c start d tries log (Ask q) now
 
-  -- the step that such a turn takes of its context, and that it is refused for the age of the server's version exactly there
-  pub record ClientSteps (start : ClientView C) (d : TsRequest) (tries : ℕ) (log : List Asked) (result : Result Progress Error)
+  -- the step that such a turn takes of its context, and that it is refused for the age of the
+  -- server's version exactly there
+  pub record ClientSteps (start : ClientView C) (d : TsRequest) (tries : ℕ) (log : List Asked)
+      (result : Result Progress Error)
       (new : ClientView C) : Type 0 where
     pub step : HasStepped c start d tries log result new
     pub heeded : ClientHeeds c start d result new
@@ -39,16 +45,19 @@ module _ {C : Type 0} (c : Meaning ContextSetting C) where
   -- ---- process
 
   -- why it is refused; an NTSTATUS code is the server's own
-  pub record ClientIsRefused (old : ClientView C) (d : TsRequest) (result : Result Progress Error) (new : ClientView C) : Type 0 where
+  pub record ClientIsRefused (old : ClientView C) (d : TsRequest) (result : Result Progress Error)
+      (new : ClientView C) : Type 0 where
     pub kind : IfErr result (λ error. ClientCause c old d new error.error_type)
     pub exact : IfErr result (λ error. ClientExact c old d new error.error_type)
     pub status : IfErr result (λ error. error.nstatus ≡ status_of c old d)
 
-  -- What it leaves alone: a suspended turn waits on, a server that reports an error or changes its version moves nothing, and
-  -- nor does a call that leaves no context.
-  pub record ClientKeeps (old : ClientView C) (d : TsRequest) (result : Result Progress Error) (new : ClientView C) : Type 0 where
+  -- What it leaves alone: a suspended turn waits on, a server that reports an error or changes its
+  -- version moves nothing, and nor does a call that leaves no context.
+  pub record ClientKeeps (old : ClientView C) (d : TsRequest) (result : Result Progress Error)
+      (new : ClientView C) : Type 0 where
     pub waited : is_waiting_in c old.context ≡ true → OnlyForgets old result new
-    pub intruded : (start : ClientView C) (d : TsRequest) (tries : ℕ) (log : List Asked) (q : NetworkRequest) →
+    pub intruded : (start : ClientView C) (d : TsRequest) (tries : ℕ) (log : List Asked)
+        (q : NetworkRequest) →
         Awaits start d tries log q old → Awaits start d tries log q new
     pub code : is_waiting_in c old.context ≡ false → is_code d.error_code ≡ true →
         OnlyForgets old result new × IfErr result (λ error. error.error_type ≡ InvalidToken)
@@ -57,7 +66,8 @@ module _ {C : Type 0} (c : Meaning ContextSetting C) where
     pub unmade : new.context ≡ None → new ≡ record old { acts = no_acts; output = [] }
 
   -- the call is one turn, or the beginning of one that is suspended
-  pub record ClientCall (old : ClientView C) (d : TsRequest) (result : Result Progress Error) (new : ClientView C) : Type 0 where
+  pub record ClientCall (old : ClientView C) (d : TsRequest) (result : Result Progress Error)
+      (new : ClientView C) : Type 0 where
     pub turn : ClientGoes c old d result new
     pub steps : ClientSteps old d 0 [] result new
     pub cause : ClientIsRefused old d result new
@@ -66,15 +76,20 @@ module _ {C : Type 0} (c : Meaning ContextSetting C) where
   -- ---- resume
 
   -- why it is refused; no NTSTATUS code tells it
-  pub record ResumeIsRefused (old : ClientView C) (result : Result Progress Error) (new : ClientView C) : Type 0 where
+  pub record ResumeIsRefused (old : ClientView C) (result : Result Progress Error)
+      (new : ClientView C) : Type 0 where
     pub kind : IfErr result (λ error. ResumeCause c old new error.error_type)
     pub codeless : IfErr result (λ error. error.nstatus ≡ None)
 
-  -- what it leaves alone: a turn that it refuses waits on where the context does, and without one nothing moves
-  pub record ResumeKeeps (old : ClientView C) (reply : Reply) (result : Result Progress Error) (new : ClientView C) : Type 0 where
+  -- what it leaves alone: a turn that it refuses waits on where the context does, and without one
+  -- nothing moves
+  pub record ResumeKeeps (old : ClientView C) (reply : Reply) (result : Result Progress Error)
+      (new : ClientView C) : Type 0 where
     pub same : new.settings ≡ old.settings
-    pub still : (start : ClientView C) (d : TsRequest) (tries : ℕ) (log : List Asked) (q : NetworkRequest) →
-        Awaits start d tries log q old → OnErr result (new.acts.status ≡ None → is_waiting_in c new.context ≡ true →
+    pub still : (start : ClientView C) (d : TsRequest) (tries : ℕ) (log : List Asked)
+        (q : NetworkRequest) →
+        Awaits start d tries log q old → OnErr result (new.acts.status ≡ None →
+        is_waiting_in c new.context ≡ true →
         Awaits start d (tries + 1) (record { question = q; reply = reply } ∷ log) q new)
     pub idle : is_waiting_in c old.context ≡ false → OnlyForgets old result new
     -- the request is dropped where the context waits no more
@@ -83,11 +98,16 @@ module _ {C : Type 0} (c : Meaning ContextSetting C) where
     -- nor where the context waits by itself, for no turn that is suspended
     pub stray : is_waiting_in c old.context ≡ true → old.kept ≡ None → OnlyForgets old result new
 
-  -- the call goes on with the turn that is suspended, by a step of its context; another question is one fewer to come
-  pub record ResumeCall (old : ClientView C) (reply : Reply) (result : Result Progress Error) (new : ClientView C) : Type 0 where
-    pub turn : (start : ClientView C) (d : TsRequest) → IsUnderway c start d old → ClientGoes c start d result new
-    pub steps : (start : ClientView C) (d : TsRequest) (tries : ℕ) (log : List Asked) (q : NetworkRequest) →
-        Awaits start d tries log q old → ClientSteps start d tries (record { question = q; reply = reply } ∷ log) result new
+  -- the call goes on with the turn that is suspended, by a step of its context; another question is
+  -- one fewer to come
+  pub record ResumeCall (old : ClientView C) (reply : Reply) (result : Result Progress Error)
+      (new : ClientView C) : Type 0 where
+    pub turn : (start : ClientView C) (d : TsRequest) → IsUnderway c start d old →
+        ClientGoes c start d result new
+    pub steps : (start : ClientView C) (d : TsRequest) (tries : ℕ) (log : List Asked)
+        (q : NetworkRequest) →
+        Awaits start d tries log q old →
+        ClientSteps start d tries (record { question = q; reply = reply } ∷ log) result new
     pub stepped : is_waiting_in c old.context ≡ true → IsSome old.kept → new.acts.negotiated ≡ true
     pub falls : OnSuspended result (left_in c new.context < left_in c old.context)
     pub cause : ResumeIsRefused old result new

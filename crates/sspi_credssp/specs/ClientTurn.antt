@@ -1,5 +1,6 @@
 -- A client's turn (MS-CSSP 3.1.5.1), with the step of its context.
-use Rattle.std.specs.Prelude.{◌≡◌, ℕ, ◌+◌, List, [], ◌∷◌, Option, None, Some, Result, Ok, Err, Bool, true, false, ◌-◌, ◌||◌, is_some}
+use Rattle.std.specs.Prelude.{◌≡◌, ℕ, ◌+◌, List, [], ◌∷◌, Option, None, Some, Result, Ok, Err, Bool}
+use Rattle.std.specs.Prelude.{true, false, ◌-◌, ◌||◌, is_some}
 use Rattle.std.specs.Prelude.{IsSome, if◌then◌else◌}
 use Rattle.sspi_types.specs.declared.client_request_flags.ClientRequestFlags.{ClientRequestFlags}
 use Rattle.sspi_types.specs.declared.credential_use.CredentialUse.TheVariants.{Outbound}
@@ -15,7 +16,8 @@ use Rattle.sspi_mech.specs.declared.step.Reply.{Reply}
 use Rattle.sspi_mech.specs.Calls.{StepArgs, Counts}
 use Rattle.sspi_mech.specs.Meaning.{Meaning}
 use Rattle.sspi_credssp.specs.declared.client_state.ClientState.{ClientState}
-use Rattle.sspi_credssp.specs.declared.client_state.ClientState.TheVariants.{ReplyNeeded, FinalMessage}
+use Rattle.sspi_credssp.specs.declared.client_state.ClientState.TheVariants.{ReplyNeeded}
+use Rattle.sspi_credssp.specs.declared.client_state.ClientState.TheVariants.{FinalMessage}
 use Rattle.sspi_credssp.specs.declared.client_state.Progress.{Progress}
 use Rattle.sspi_credssp.specs.declared.client_state.Progress.TheVariants.{Suspended, Completed}
 use Rattle.sspi_credssp.specs.declared.public_key.EndpointType.TheVariants.{Client}
@@ -25,12 +27,14 @@ use Rattle.sspi_credssp.specs.declared.turn.End.TheVariants.{Client}
 use Rattle.sspi_credssp.specs.declared.turn.Outcome.{Outcome}
 use Rattle.sspi_credssp.specs.declared.turn.Outcome.TheVariants as outcome
 use Rattle.sspi_credssp.specs.declared.turn.Turn.{Turn}
-use Rattle.sspi_credssp.specs.Acts.{silent, no_acts, sealings_in, unsealings_in, CountsEachAct, SameBut, is_waiting_in}
+use Rattle.sspi_credssp.specs.Acts.{silent, no_acts, sealings_in, unsealings_in, CountsEachAct}
+use Rattle.sspi_credssp.specs.Acts.{SameBut, is_waiting_in}
 use Rattle.sspi_credssp.specs.Context.{Begun, IfContext, ContextSetting, ForClient}
 use Rattle.sspi_credssp.specs.Ends.{ClientView}
 use Rattle.sspi_credssp.specs.Noted.{is_altered_in, is_old_in, noted_in}
 use Rattle.sspi_credssp.specs.Requests.{token_of, is_code}
-use Rattle.sspi_credssp.specs.Turn.{HoldsClient, client_shown, ShowsClient, UnlessRefused, IfRefused, FitsNoted, ClientFrame, OnceNegotiated}
+use Rattle.sspi_credssp.specs.Turn.{HoldsClient, client_shown, ShowsClient, UnlessRefused}
+use Rattle.sspi_credssp.specs.Turn.{IfRefused, FitsNoted, ClientFrame, OnceNegotiated}
 use Rattle.sspi_credssp.specs.Turn.{IsUnspent}
 
 -- ---- The step of its context in a client's turn, from the context before the turn to the one that it leaves.
@@ -65,41 +69,59 @@ refused_answer None output error = Refused error
 refused_answer (Some status) output error = Done (record { status = status; output = output })
 
 module _ {C : Type 0} (c : Meaning ContextSetting C) where
-  -- A step of the turn that began at `start`: how many refused resumes were tried again, the questions that it asked, the
-  -- newest first, how far it came, and the context then. Nothing else moves the context but sealing and opening.
-  pub data Walked (start : ClientView C) (handle : Option CredentialsBuffers) (token : Option (List ℕ)) :
+  -- A step of the turn that began at `start`: how many refused resumes were tried again, the
+  -- questions that it asked, the newest first, how far it came, and the context then. Nothing else
+  -- moves the context but sealing and opening.
+  pub data Walked (start : ClientView C) (handle : Option CredentialsBuffers)
+      (token : Option (List ℕ)) :
       ℕ → List Asked → Answer → C → Type 0 where
     stepped : (m0 m : C) (answer : Answer) →
-        Begun c start.context start.handle (ForClient start.settings.mode) Outbound (Some start.settings.credentials) handle m0 →
-        c.steps m0 (client_args handle start.settings.target token) answer m → Walked start handle token 0 [] answer m
-    resumed : (m m2 : C) (tries : ℕ) (log : List Asked) (q : NetworkRequest) (reply : Reply) (answer : Answer) →
+        Begun c start.context start.handle (ForClient start.settings.mode) Outbound
+        (Some start.settings.credentials) handle m0 →
+        c.steps m0 (client_args handle start.settings.target token) answer m →
+        Walked start handle token 0 [] answer m
+    resumed : (m m2 : C) (tries : ℕ) (log : List Asked) (q : NetworkRequest) (reply : Reply)
+        (answer : Answer) →
         Walked start handle token tries log (Ask q) m → c.resumes m reply answer m2 →
         Walked start handle token tries (record { question = q; reply = reply } ∷ log) answer m2
     -- a refused resume that still waits
-    still_asked : (m m2 : C) (tries : ℕ) (log : List Asked) (q : NetworkRequest) (reply : Reply) (error : Error) →
-        Walked start handle token tries log (Ask q) m → c.resumes m reply (Refused error) m2 → c.waits m2 ≡ true →
-        Walked start handle token (tries + 1) (record { question = q; reply = reply } ∷ log) (Ask q) m2
-    recounted : (m m2 : C) (n : Counts) (tries : ℕ) (log : List Asked) (answer : Answer) → Walked start handle token tries log answer m →
-        m2 ≡ c.counted m n → silent n ≡ silent (c.counts m) → Walked start handle token tries log answer m2
+    still_asked : (m m2 : C) (tries : ℕ) (log : List Asked) (q : NetworkRequest) (reply : Reply)
+        (error : Error) →
+        Walked start handle token tries log (Ask q) m → c.resumes m reply (Refused error) m2 →
+        c.waits m2 ≡ true →
+        Walked start handle token (tries + 1) (record { question = q; reply = reply } ∷ log) (Ask q)
+        m2
+    recounted : (m m2 : C) (n : Counts) (tries : ℕ) (log : List Asked) (answer : Answer) →
+        Walked start handle token tries log answer m →
+        m2 ≡ c.counted m n → silent n ≡ silent (c.counts m) →
+        Walked start handle token tries log answer m2
 
   abbrev pub StepsTo : ClientView C → TsRequest → ℕ → List Asked → Answer → ClientView C → Type 0
-  StepsTo start d tries log answer now = IfContext now.context (Walked start now.handle d.nego_tokens tries log answer)
+  StepsTo start d tries log answer now = IfContext now.context
+      (Walked start now.handle d.nego_tokens tries log answer)
 
-  abbrev pub DoneStep : Option SecurityStatus → ClientView C → TsRequest → ℕ → List Asked → ClientView C → Type 0
+  abbrev pub DoneStep : Option SecurityStatus → ClientView C → TsRequest → ℕ → List Asked →
+      ClientView C → Type 0
   DoneStep None start d tries log now = Unit {0}
-  DoneStep (Some status) start d tries log now = StepsTo start d tries log (Done (record { status = status; output = now.output })) now
+  DoneStep (Some status) start d tries log now =
+      StepsTo start d tries log (Done (record { status = status; output = now.output })) now
 
   abbrev pub OnStep : Bool → Type 0 → Type 0
   OnStep true P = P
   OnStep false P = Unit {0}
 
-  -- The status and the output are the step's own answer, also where the turn was then refused; a refused step was refused
-  -- with this very error; and a turn is suspended exactly where the step asked, with its question.
-  abbrev pub HasStepped : ClientView C → TsRequest → ℕ → List Asked → Result Progress Error → ClientView C → Type 0
-  HasStepped start d tries log (Ok (Completed state)) now = DoneStep now.acts.status start d tries log now
-  HasStepped start d tries log (Ok (Suspended question)) now = StepsTo start d tries log (Ask question) now
+  -- The status and the output are the step's own answer, also where the turn was then refused; a
+  -- refused step was refused with this very error; and a turn is suspended exactly where the step
+  -- asked, with its question.
+  abbrev pub HasStepped : ClientView C → TsRequest → ℕ → List Asked → Result Progress Error →
+      ClientView C → Type 0
+  HasStepped start d tries log (Ok (Completed state)) now =
+      DoneStep now.acts.status start d tries log now
+  HasStepped start d tries log (Ok (Suspended question)) now =
+      StepsTo start d tries log (Ask question) now
   HasStepped start d tries log (Err error) now =
-      OnStep now.acts.negotiated (StepsTo start d tries log (refused_answer now.acts.status now.output error) now)
+      OnStep now.acts.negotiated (StepsTo start d tries log
+      (refused_answer now.acts.status now.output error) now)
 
 -- ---- the turn
 
@@ -115,7 +137,8 @@ module _ {C : Type 0} (c : Meaning ContextSetting C) where
     pub shown : ShowsClient (client_shown f) t
     pub held : HoldsClient c f t
 
-  -- the frame of one call: a turn seals at most one text and opens at most one blob, each the last of the context
+  -- the frame of one call: a turn seals at most one text and opens at most one blob, each the last
+  -- of the context
   abbrev pub client_frame : ClientView C → ClientView C → ClientFrame C
   client_frame old new = record {
     settings = new.settings;
@@ -128,7 +151,13 @@ module _ {C : Type 0} (c : Meaning ContextSetting C) where
   }
 
   abbrev pub client_turn : TsRequest → Outcome → ClientView C → Turn
-  client_turn d out new = record { end = Client; delivered = d; acts = new.acts; output = new.output; outcome = out }
+  client_turn d out new = record {
+    end = Client;
+    delivered = d;
+    acts = new.acts;
+    output = new.output;
+    outcome = out;
+  }
 
   -- a context and the credentials that it acquired are kept
   abbrev pub KeepsHandle : ClientView C → ClientView C → Type 0
@@ -138,12 +167,15 @@ module _ {C : Type 0} (c : Meaning ContextSetting C) where
   abbrev pub noted_next : ClientView C → TsRequest → Option ℕ
   noted_next old d = noted_in old.context old.settings.least old.noted d.version
 
-  -- the version that is pinned after a call: a call that is refused before it looks at the version pins none
+  -- the version that is pinned after a call: a call that is refused before it looks at the version
+  -- pins none
   abbrev pub noted_after : ClientView C → TsRequest → Option ℕ
-  noted_after old d = if is_waiting_in c old.context || is_code d.error_code then old.noted else noted_next old d
+  noted_after old d = if is_waiting_in c old.context || is_code d.error_code then old.noted
+      else noted_next old d
 
   -- how far a turn moves the client
-  pub record ClientMoves (old : ClientView C) (d : TsRequest) (out : Outcome) (new : ClientView C) : Type 0 where
+  pub record ClientMoves (old : ClientView C) (d : TsRequest) (out : Outcome)
+      (new : ClientView C) : Type 0 where
     pub same : new.settings ≡ old.settings
     pub handle : KeepsHandle old new
     pub state : new.state ≡ state_after old.state out new.acts.proved
@@ -155,17 +187,20 @@ module _ {C : Type 0} (c : Meaning ContextSetting C) where
     pub counts : CountsEachAct c old.state old.context new.acts new.context
     -- no step of the context follows its first message
     pub bare : OnceNegotiated old.state (SameBut c old.context new.context)
-    -- a call that took no step only has the context count, and one whose step gave no answer has no token
+    -- a call that took no step only has the context count, and one whose step gave no answer has no
+    -- token
     pub unstepped : new.acts.negotiated ≡ false → SameBut c old.context new.context
     pub unanswered : new.acts.status ≡ None → new.output ≡ []
     -- once its proof or its credentials are sealed a call is not refused
     pub ended : IfRefused out ((new.acts.sealed ≡ false) × (new.acts.proved ≡ false))
 
-  pub record ClientTurn (old : ClientView C) (d : TsRequest) (out : Outcome) (new : ClientView C) : Type 0 where
+  pub record ClientTurn (old : ClientView C) (d : TsRequest) (out : Outcome)
+      (new : ClientView C) : Type 0 where
     pub turn : IsClientTurn (client_frame old new) (client_turn d out new)
     pub moves : ClientMoves old d out new
 
-  -- A turn on d that began at `start` has come past the version check. What follows speaks of the context as it is now.
+  -- A turn on d that began at `start` has come past the version check. What follows speaks of the
+  -- context as it is now.
   pub record IsReady (start : ClientView C) (d : TsRequest) (now : ClientView C) : Type 0 where
     pub idle : is_waiting_in c start.context ≡ false
     pub code : is_code d.error_code ≡ false

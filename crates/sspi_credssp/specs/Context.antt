@@ -1,4 +1,5 @@
--- What a security context means: what the selected mechanism or the negotiation means; and how the context of a turn begins.
+-- What a security context means: what the selected mechanism or the negotiation means; and how the
+-- context of a turn begins.
 use Rattle.std.specs.Prelude.{ℕ, ◌⊎◌, List, filter, take, Option, ◌≡◌, ◌≢◌, None, Some, Err}
 use mathlib.Core.Logic.{inl, inr}
 use Rattle.sspi_types.specs.declared.credential_use.CredentialUse.{CredentialUse}
@@ -25,8 +26,8 @@ use Rattle.sspi_credssp.specs.declared.mode.ServerMode.{ServerMode}
 use Rattle.sspi_credssp.specs.declared.mode.ServerMode.TheVariants as server
 use Rattle.sspi_credssp.specs.Peers.{PeersSetting, OfClient, OfServer, knowing}
 
--- What a context is made of: the mode of the end that it is made for, and on a server the entries of its proxy, where it tells
--- them.
+-- What a context is made of: the mode of the end that it is made for, and on a server the entries
+-- of its proxy, where it tells them.
 pub data ContextSetting : Type 0 where
   ForClient : ClientMode → ContextSetting
   ForServer : ServerMode → Option (List Identity) → ContextSetting
@@ -38,21 +39,26 @@ made_of (ForClient (client.Negotiate config)) = inr (OfClient config)
 made_of (ForServer (server.Ntlm config) told) = inl (inl (OfNtlm config))
 made_of (ForServer (server.Negotiate config) told) = inr (OfServer config told)
 
-abbrev pub as_sum : {N K : Type 0} → SspiContext N K → (N ⊎ K) ⊎ Negotiation (NegotiatedProtocol N K)
+abbrev pub as_sum : {N K : Type 0} → SspiContext N K → (N ⊎ K) ⊎
+    Negotiation (NegotiatedProtocol N K)
 as_sum (hands.Negotiate m) = inr m
 as_sum (hands.Ntlm m) = inl (inl m)
 as_sum (hands.Kerberos m) = inl (inr m)
 
-abbrev pub of_sum : {N K : Type 0} → (N ⊎ K) ⊎ Negotiation (NegotiatedProtocol N K) → SspiContext N K
+abbrev pub of_sum : {N K : Type 0} → (N ⊎ K) ⊎ Negotiation (NegotiatedProtocol N K) →
+    SspiContext N K
 of_sum (inl (inl m)) = hands.Ntlm m
 of_sum (inl (inr m)) = hands.Kerberos m
 of_sum (inr m) = hands.Negotiate m
 
--- NTLM is handed the identities with a password, Kerberos the first identity, and a negotiation all. `requests` is how often
--- an NTLM asks a KDC at most, which a negotiation may take in the place of a Kerberos.
-abbrev pub either : {N K : Type 0} → ℕ → Meaning Setting N → Meaning Setting K → Meaning ContextSetting (SspiContext N K)
+-- NTLM is handed the identities with a password, Kerberos the first identity, and a negotiation
+-- all. `requests` is how often an NTLM asks a KDC at most, which a negotiation may take in the
+-- place of a Kerberos.
+abbrev pub either : {N K : Type 0} → ℕ → Meaning Setting N → Meaning Setting K →
+    Meaning ContextSetting (SspiContext N K)
 either requests n k = seen made_of as_sum of_sum
-    (sum (sum (taking (filter has_password) n) (taking (take 1) k)) (knowing (negotiate requests n k)))
+    (sum (sum (taking (filter has_password) n) (taking (take 1) k))
+    (knowing (negotiate requests n k)))
 
 -- ---- How the context of a turn begins: it is the one that the end has, or a new one that has acquired credentials.
 
@@ -74,21 +80,27 @@ MadeOr None None Cause Later = Cause
 
 module _ {S C : Type 0} (c : Meaning S C) where
   -- from the context and the acquired credentials that the end had; else from what they are made of
-  pub data Begun (context : Option C) (had : Option CredentialsBuffers) (setting : S) (purpose : CredentialUse) (asked : Option Credentials)
+  pub data Begun (context : Option C) (had : Option CredentialsBuffers) (setting : S)
+      (purpose : CredentialUse) (asked : Option Credentials)
       (handle : Option CredentialsBuffers) (m : C) : Type 0 where
     goes_on : context ≡ Some m → handle ≡ had → Begun context had setting purpose asked handle m
     is_new : (m0 : C) → context ≡ None → c.made setting m0 → c.acquires m0 purpose asked handle m →
         Begun context had setting purpose asked handle m
 
   -- why there is no new context
-  pub data BeginCause (setting : S) (purpose : CredentialUse) (asked : Option Credentials) (kind : ErrorKind) : Type 0 where
+  pub data BeginCause (setting : S) (purpose : CredentialUse) (asked : Option Credentials)
+      (kind : ErrorKind) : Type 0 where
     unmade : c.unmade setting kind → BeginCause setting purpose asked kind
-    unacquired : (m : C) → c.made setting m → c.refuses m (ToAcquire purpose asked) kind → BeginCause setting purpose asked kind
+    unacquired : (m : C) → c.made setting m → c.refuses m (ToAcquire purpose asked) kind →
+        BeginCause setting purpose asked kind
 
 -- a context that refuses nothing with this kind
 pub record NeverRefuses {S C : Type 0} (c : Meaning S C) (kind : ErrorKind) : Type 0 where
   pub makes : (s : S) → c.unmade s kind → ⊥
   pub calls : (m : C) (call : Call) → c.refuses m call kind → ⊥
-  pub steps : (m m2 : C) (a : StepArgs) (error : Error) → c.steps m a (Refused error) m2 → error.error_type ≢ kind
-  pub resumes : (m m2 : C) (reply : Reply) (error : Error) → c.resumes m reply (Refused error) m2 → error.error_type ≢ kind
-  pub accepts : (m m2 : C) (a : AcceptArgs) (error : Error) → c.accepts m a (Err error) m2 → error.error_type ≢ kind
+  pub steps : (m m2 : C) (a : StepArgs) (error : Error) → c.steps m a (Refused error) m2 →
+      error.error_type ≢ kind
+  pub resumes : (m m2 : C) (reply : Reply) (error : Error) → c.resumes m reply (Refused error) m2 →
+      error.error_type ≢ kind
+  pub accepts : (m m2 : C) (a : AcceptArgs) (error : Error) → c.accepts m a (Err error) m2 →
+      error.error_type ≢ kind

@@ -8,12 +8,14 @@ use Rattle.sspi_credssp.specs.declared.acts.Acts.{Acts}
 use Rattle.sspi_credssp.specs.declared.mode.ClientMode.{ClientMode}
 use Rattle.sspi_credssp.specs.declared.mode.ServerMode.{ServerMode}
 use Rattle.sspi_credssp.specs.declared.state.CredSspState.{CredSspState}
-use Rattle.sspi_credssp.specs.declared.state.CredSspState.TheVariants.{NegoToken, PubKeyInfo, AuthInfo, Final}
+use Rattle.sspi_credssp.specs.declared.state.CredSspState.TheVariants.{NegoToken, PubKeyInfo}
+use Rattle.sspi_credssp.specs.declared.state.CredSspState.TheVariants.{AuthInfo, Final}
 use Rattle.sspi_credssp.specs.Acts.{no_acts}
 
 -- ---- the client
 
--- the least version of a peer that an end takes unless it is told another: below it the proof of the key is no hash of it
+-- the least version of a peer that an end takes unless it is told another: below it the proof of
+-- the key is no hash of it
 abbrev pub default_least : ℕ
 default_least = 5
 
@@ -31,7 +33,8 @@ pub record ClientSettings : Type 0 where
   pub nonce : List ℕ
 
 -- of a new client, which takes no server that is older than the default
-abbrev pub new_client : List ℕ → Credentials → CredSspMode → ℕ → ClientMode → List ℕ → List ℕ → ClientSettings
+abbrev pub new_client : List ℕ → Credentials → CredSspMode → ℕ → ClientMode → List ℕ → List ℕ →
+    ClientSettings
 new_client public_key credentials delegation version mode target nonce = record {
   public_key = public_key;
   credentials = credentials;
@@ -58,14 +61,16 @@ pub record ClientView (C : Type 0) : Type 0 where
   pub kept : Option TsRequest
 
 -- without a context nothing has happened; past the authentication the server's version is pinned
-abbrev pub IsOrderlyClient : {C : Type 0} → Option C → Option CredentialsBuffers → Option ℕ → CredSspState → Type 0
+abbrev pub IsOrderlyClient : {C : Type 0} → Option C → Option CredentialsBuffers → Option ℕ →
+    CredSspState → Type 0
 IsOrderlyClient None handle noted state = (handle ≡ None) × (noted ≡ None) × (state ≡ NegoToken)
 IsOrderlyClient (Some m) handle noted NegoToken = Unit {0}
 IsOrderlyClient (Some m) handle noted PubKeyInfo = ⊥
 IsOrderlyClient (Some m) handle noted AuthInfo = IsSome noted
 IsOrderlyClient (Some m) handle noted Final = IsSome noted
 
-pub record IsClientState {C : Type 0} (context : Option C) (handle : Option CredentialsBuffers) (noted : Option ℕ) (state : CredSspState)
+pub record IsClientState {C : Type 0} (context : Option C) (handle : Option CredentialsBuffers)
+    (noted : Option ℕ) (state : CredSspState)
     (nonce : List ℕ) : Type 0 where
   pub orderly : IsOrderlyClient context handle noted state
   pub nonce_length : length nonce ≡ 32
@@ -92,7 +97,12 @@ pub record ServerSettings : Type 0 where
 
 -- of a new server, which takes no client that is older than the default
 abbrev pub new_server : List ℕ → ℕ → ServerMode → ServerSettings
-new_server public_key version mode = record { public_key = public_key; version = version; least = default_least; mode = mode }
+new_server public_key version mode = record {
+  public_key = public_key;
+  version = version;
+  least = default_least;
+  mode = mode;
+}
 
 -- P is its proxy, where it looks its peers up
 pub record ServerView (C P : Type 0) : Type 0 where
@@ -109,7 +119,8 @@ pub record ServerView (C P : Type 0) : Type 0 where
   pub output : List ℕ
 
 -- without a context nothing has happened
-abbrev pub IsOrderlyServer : {C : Type 0} → Option C → Option CredentialsBuffers → Option ℕ → CredSspState → Type 0
+abbrev pub IsOrderlyServer : {C : Type 0} → Option C → Option CredentialsBuffers → Option ℕ →
+    CredSspState → Type 0
 IsOrderlyServer None handle noted state = (handle ≡ None) × (noted ≡ None) × (state ≡ NegoToken)
 IsOrderlyServer (Some m) handle noted state = Unit {0}
 

@@ -1,6 +1,8 @@
--- What the ends seal for each other: the proofs that bind the delegation to the TLS channel, over the server's public key
--- (MS-CSSP 3.1.5, pubKeyAuth), and the credentials; and what comes of opening them.
-use Rattle.std.specs.Prelude.{ℕ, zero, suc, ◌+◌, ◌-◌, ◌*◌, ◌/◌, ◌%◌, ◌^◌, List, [], ◌∷◌, ◌++◌, length, codes, nat_lt, if◌then◌else◌, Option}
+-- What the ends seal for each other: the proofs that bind the delegation to the TLS channel, over
+-- the server's public key (MS-CSSP 3.1.5, pubKeyAuth), and the credentials; and what comes of
+-- opening them.
+use Rattle.std.specs.Prelude.{ℕ, zero, suc, ◌+◌, ◌-◌, ◌*◌, ◌/◌, ◌%◌, ◌^◌, List, [], ◌∷◌, ◌++◌}
+use Rattle.std.specs.Prelude.{length, codes, nat_lt, if◌then◌else◌, Option}
 use Rattle.std.specs.Prelude.{None, Some, Result, Ok, Err, ◌≢◌, ◌≡◌, Bool, true, false}
 use Rattle.sha2.specs.Sha256.{sha256}
 use Rattle.sspi_types.specs.declared.error.Error.{Error}
@@ -29,7 +31,8 @@ abbrev pub little_endian : List ℕ → ℕ
 little_endian [] = 0
 little_endian (b ∷ bs) = b + 256 * little_endian bs
 
--- the bytes, as many as the first number says, that encode the second number modulo 256 to the first
+-- the bytes, as many as the first number says, that encode the second number modulo 256 to the
+-- first
 abbrev pub bytes_of : ℕ → ℕ → List ℕ
 bytes_of zero number = []
 bytes_of (suc n) number = (number % 256) ∷ bytes_of n (number / 256)
@@ -47,7 +50,8 @@ abbrev pub magic : EndpointType → List ℕ
 magic Client = codes "CredSSP Client-To-Server Binding Hash" ++ 0 ∷ []
 magic Server = codes "CredSSP Server-To-Client Binding Hash" ++ 0 ∷ []
 
--- what an end sends of the key below version 5: the client the key itself, the server the next number
+-- what an end sends of the key below version 5: the client the key itself, the server the next
+-- number
 abbrev pub echo : EndpointType → List ℕ → List ℕ
 echo Client key = key
 echo Server key = incremented key
@@ -59,7 +63,8 @@ prescribed end version nonce key =
 
 -- ---- the credentials
 
--- the identity that comes of a delegation: one without texts, where the client keeps its credentials
+-- the identity that comes of a delegation: one without texts, where the client keeps its
+-- credentials
 abbrev pub no_identity : AuthIdentity
 no_identity = record { username = down_level [] []; password = record { value = [] } }
 
@@ -100,25 +105,33 @@ BlobStops (Some blob) kind Later = StopsIf (nat_lt (length blob) 16) InvalidToke
 module _ {S C : Type 0} (c : Meaning S C) where
   -- the last blob that the context opened holds this identity
   pub data OpensIdentity (m : C) (blob : List ℕ) (identity : AuthIdentity) : Type 0 where
-    opens_identity : (text : List ℕ) → c.opens m ((c.counts m).unsealings - 1) blob text → delegated_identity text ≡ Ok identity →
+    opens_identity : (text : List ℕ) → c.opens m ((c.counts m).unsealings - 1) blob text →
+        delegated_identity text ≡ Ok identity →
         OpensIdentity m blob identity
 
   -- the last blob that the context opened holds another text than the proof
   pub data OpensOther (m : C) (blob proof : List ℕ) : Type 0 where
-    opens_other : (text : List ℕ) → c.opens m ((c.counts m).unsealings - 1) blob text → text ≢ proof → OpensOther m blob proof
+    opens_other : (text : List ℕ) → c.opens m ((c.counts m).unsealings - 1) blob text →
+        text ≢ proof → OpensOther m blob proof
 
-  -- the peer's blob opened to another text than its proof; or to the proof, and what the end then owes is not sealed
-  pub data CheckedCause (m : C) (blob proof : List ℕ) (Unsealed : Type 0) (kind : ErrorKind) : Type 0 where
-    altered : OpensOther m blob proof → kind ≡ MessageAltered → CheckedCause m blob proof Unsealed kind
-    unsealed : c.opens m ((c.counts m).unsealings - 1) blob proof → Unsealed → CheckedCause m blob proof Unsealed kind
+  -- the peer's blob opened to another text than its proof; or to the proof, and what the end then
+  -- owes is not sealed
+  pub data CheckedCause (m : C) (blob proof : List ℕ) (Unsealed : Type 0) (kind : ErrorKind) : Type
+      0 where
+    altered : OpensOther m blob proof → kind ≡ MessageAltered →
+        CheckedCause m blob proof Unsealed kind
+    unsealed : c.opens m ((c.counts m).unsealings - 1) blob proof → Unsealed →
+        CheckedCause m blob proof Unsealed kind
 
   -- a blob that opened to another text than the proof is altered, whatever memory there is
   pub data OtherIsAltered (m : C) (blob proof : List ℕ) (kind : ErrorKind) : Type 0 where
-    other_is_altered : (OpensOther m blob proof → kind ≡ MessageAltered) → OtherIsAltered m blob proof kind
+    other_is_altered : (OpensOther m blob proof → kind ≡ MessageAltered) →
+        OtherIsAltered m blob proof kind
 
   -- a blob that the context does not open is out of memory only where the context would open it
   abbrev pub AlteredExactly : Bool → C → List ℕ → List ℕ → ErrorKind → Type 0
-  AlteredExactly false m blob proof kind = IsRefusedAs (c.permits m (ToUnseal blob)) (c.refuses m (ToUnseal blob)) kind
+  AlteredExactly false m blob proof kind = IsRefusedAs (c.permits m (ToUnseal blob))
+      (c.refuses m (ToUnseal blob)) kind
   AlteredExactly true m blob proof kind = OtherIsAltered m blob proof kind
 
   -- why an exchange of proofs was refused, by whether the blob was opened

@@ -1,10 +1,14 @@
--- The version that an end notes of its peer: the first that it looks at, unless that is too old. Both ends look at a version
--- in the same way. A client looks at that of each request but its first, which it makes itself; a server once it has a context.
-use Rattle.std.specs.Prelude.{◌≡◌, ◌≢◌, Bool, true, false, ℕ, ◌==◌, Option, None, Some, not, nat_lt, if◌then◌else◌, [], Result}
+-- The version that an end notes of its peer: the first that it looks at, unless that is too old.
+-- Both ends look at a version in the same way. A client looks at that of each request but its
+-- first, which it makes itself; a server once it has a context.
+use Rattle.std.specs.Prelude.{◌≡◌, ◌≢◌, Bool, true, false, ℕ, ◌==◌, Option, None, Some, not, nat_lt}
+use Rattle.std.specs.Prelude.{if◌then◌else◌, [], Result}
 use Rattle.std.specs.Prelude.{IsErrAnd, IsSome}
 use Rattle.sspi_types.specs.declared.error.Error.{Error}
 use Rattle.sspi_types.specs.declared.error_kind.ErrorKind.{ErrorKind}
-use Rattle.sspi_types.specs.declared.error_kind.ErrorKind.TheVariants.{DowngradeDetected, InsufficientMemory, MessageAltered}
+use Rattle.sspi_types.specs.declared.error_kind.ErrorKind.TheVariants.{DowngradeDetected}
+use Rattle.sspi_types.specs.declared.error_kind.ErrorKind.TheVariants.{InsufficientMemory}
+use Rattle.sspi_types.specs.declared.error_kind.ErrorKind.TheVariants.{MessageAltered}
 use Rattle.sspi_tsreq.specs.declared.request.TsRequest.{TsRequest}
 use Rattle.sspi_mech.specs.Meaning.{Meaning}
 use Rattle.sspi_credssp.specs.declared.client_state.Progress.{Progress}
@@ -42,7 +46,8 @@ noted_with least (Some noted) version = Some noted
 -- where a look at a version stops, or that it goes on
 abbrev pub VersionStops : ℕ → Option ℕ → ℕ → ErrorKind → Type 0 → Type 0
 VersionStops least noted version kind Later =
-    StopsIf (is_old least noted version) DowngradeDetected kind (StopsIf (differs noted version) MessageAltered kind Later)
+    StopsIf (is_old least noted version) DowngradeDetected kind
+    (StopsIf (differs noted version) MessageAltered kind Later)
 
 -- the same of an end that looks at a version only where it has a context
 abbrev pub is_old_in : {C : Type 0} → Option C → ℕ → Option ℕ → ℕ → Bool
@@ -72,22 +77,35 @@ module _ {C : Type 0} (c : Meaning ContextSetting C) where
     pub old : is_old_in client.context client.settings.least client.noted d.version ≡ true
 
   -- exactly there it refuses with that kind, and then only forgets its last call
-  pub record ClientHeeds (client : ClientView C) (d : TsRequest) (result : Result Progress Error) (new : ClientView C) : Type 0 where
+  pub record ClientHeeds (client : ClientView C) (d : TsRequest) (result : Result Progress Error)
+      (new : ClientView C) : Type 0 where
     pub refuses : ClientMeetsOld client d →
-        IsErrAnd result (λ error. error.error_type ≡ DowngradeDetected) × (new ≡ record client { acts = no_acts; output = [] })
-    pub only : NeverRefuses c DowngradeDetected → IsErrAnd result (λ error. error.error_type ≡ DowngradeDetected) → ClientMeetsOld client d
+        IsErrAnd result (λ error. error.error_type ≡ DowngradeDetected) ×
+        (new ≡ record client { acts = no_acts; output = [] })
+    pub only : NeverRefuses c DowngradeDetected →
+        IsErrAnd result (λ error. error.error_type ≡ DowngradeDetected) → ClientMeetsOld client d
 
   module _ {P : Type 0} where
-    -- the server has a context, or has made one, has pinned no version, and would note one below its least
-    pub record ServerMeetsOld (server : ServerView C P) (d : TsRequest) (new : ServerView C P) : Type 0 where
+    -- the server has a context, or has made one, has pinned no version, and would note one below
+    -- its least
+    pub record ServerMeetsOld (server : ServerView C P) (d : TsRequest)
+        (new : ServerView C P) : Type 0 where
       pub begun : IsSome new.context
       pub old : is_old server.settings.least server.noted d.version ≡ true
 
     -- exactly there it refuses with that kind, and then has at most a new context
-    pub record ServerHeeds (server : ServerView C P) (d : TsRequest) (result : Result ServerState ServerError)
+    pub record ServerHeeds (server : ServerView C P) (d : TsRequest)
+        (result : Result ServerState ServerError)
         (new : ServerView C P) : Type 0 where
       pub refuses : ServerMeetsOld server d new →
           IsErrAnd result (λ refusal. refusal.error.error_type ≡ DowngradeDetected)
-          × (new ≡ record server { proxy = new.proxy; context = new.context; handle = new.handle; acts = no_acts; output = [] })
+          × (new ≡ record server {
+            proxy = new.proxy;
+            context = new.context;
+            handle = new.handle;
+            acts = no_acts;
+            output = [];
+          })
       pub only : NeverRefuses c DowngradeDetected →
-          IsErrAnd result (λ refusal. refusal.error.error_type ≡ DowngradeDetected) → ServerMeetsOld server d new
+          IsErrAnd result (λ refusal. refusal.error.error_type ≡ DowngradeDetected) →
+          ServerMeetsOld server d new

@@ -1,5 +1,6 @@
 -- What a blob opened to, beside the proof that was due.
-use Rattle.std.specs.Prelude.{◌≡◌, ℕ, ◌-◌, ◌+◌, ◌≤◌, List, length, Bool, true, false, Option, None, Some, Result, OnOk, nat_lt}
+use Rattle.std.specs.Prelude.{◌≡◌, ℕ, ◌-◌, ◌+◌, ◌≤◌, List, length, Bool, true, false, Option, None}
+use Rattle.std.specs.Prelude.{Some, Result, OnOk, nat_lt}
 use Rattle.sspi_mech.specs.Calls.{one_unsealing}
 use Rattle.sspi_mech.specs.Meaning.{Meaning}
 use Rattle.sspi_credssp.specs.declared.acts.Acts.{Acts}
@@ -21,18 +22,23 @@ abbrev pub OpensAs : {S C : Type 0} → Meaning S C → C → List ℕ → List 
 OpensAs c m blob proof true = c.opens m ((c.counts m).unsealings - 1) blob proof
 OpensAs c m blob proof false = OpensOther c m blob proof
 
--- an end opened a blob, which its context counts and its acts note: whether it holds just this proof
-pub record HasOpened {S C : Type 0} (c : Meaning S C) (m m2 : C) (acts acts2 : Acts) (blob proof : List ℕ) (same : Bool) : Type 0 where
+-- an end opened a blob, which its context counts and its acts note: whether it holds just this
+-- proof
+pub record HasOpened {S C : Type 0} (c : Meaning S C) (m m2 : C) (acts acts2 : Acts)
+    (blob proof : List ℕ) (same : Bool) : Type 0 where
   pub noted : acts2 ≡ record acts { checked = true }
   pub counted : m2 ≡ c.counted m (one_unsealing (c.counts m))
   pub count : c.counts m2 ≡ one_unsealing (c.counts m)
   pub holds : OpensAs c m2 blob proof same
 
 module _ {S C : Type 0} (c : Meaning S C) where
-  -- an end opened the peer's proof, and perhaps sealed what it then owes: what that did to the context
-  pub record Exchanges {T E : Type 0} (m : C) (blob proof : List ℕ) (m2 : C) (checked sealed : Bool) (result : Result T E) : Type 0 where
+  -- an end opened the peer's proof, and perhaps sealed what it then owes: what that did to the
+  -- context
+  pub record Exchanges {T E : Type 0} (m : C) (blob proof : List ℕ) (m2 : C) (checked sealed : Bool)
+      (result : Result T E) : Type 0 where
     pub answered : OnOk result ((checked ≡ true) × (sealed ≡ true))
-    pub after_proof : sealed ≡ true → (checked ≡ true) × c.opens m2 ((c.counts m2).unsealings - 1) blob proof
+    pub after_proof : sealed ≡ true → (checked ≡ true) ×
+        c.opens m2 ((c.counts m2).unsealings - 1) blob proof
     pub sealings : (c.counts m2).sealings ≡ (c.counts m).sealings + count_of sealed
     pub unsealings : (c.counts m2).unsealings ≡ (c.counts m).unsealings + count_of checked
     pub bare : cleared c m2 ≡ cleared c m

@@ -1,4 +1,5 @@
--- The peers that a server knows when its context is made: what a negotiation is made with lists them by the proxy.
+-- The peers that a server knows when its context is made: what a negotiation is made with lists
+-- them by the proxy.
 use Rattle.std.specs.Prelude.{List, [], Option}
 use Rattle.sspi_names.specs.declared.identity.AuthIdentity.{AuthIdentity}
 use Rattle.sspi_mech.specs.Meaning.{Meaning}
@@ -22,8 +23,10 @@ abbrev pub AreListed : PeersSetting → List AuthIdentity → Type 0
 AreListed (OfClient config) known = Unit {0}
 AreListed (OfServer config told) known = IsTold told known
 
--- The same negotiation, whose server was made with all that its proxy lists. Whether it can be made does not depend on that.
-abbrev pub knowing : {M : Type 0} → Meaning NegotiateSetting (Negotiation M) → Meaning PeersSetting (Negotiation M)
+-- The same negotiation, whose server was made with all that its proxy lists. Whether it can be made
+-- does not depend on that.
+abbrev pub knowing : {M : Type 0} → Meaning NegotiateSetting (Negotiation M) →
+    Meaning PeersSetting (Negotiation M)
 knowing c = record {
   made = λ s m. AreListed s m.known × c.made (listed_setting s m.known) m;
   unmade = λ s kind. c.unmade (listed_setting s []) kind;

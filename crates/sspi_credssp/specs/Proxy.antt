@@ -1,5 +1,6 @@
 -- What a proxy tells of itself, what a call of it does, and how often a server asks it.
-use Rattle.std.specs.Prelude.{◌≡◌, ℕ, zero, suc, ◌+◌, ◌<◌, ◌≤◌, ◌==◌, ◌⊎◌, List, find, filter, Option, None, Some, IsSome, Result, Ok}
+use Rattle.std.specs.Prelude.{◌≡◌, ℕ, zero, suc, ◌+◌, ◌<◌, ◌≤◌, ◌==◌, ◌⊎◌, List, find, filter}
+use Rattle.std.specs.Prelude.{Option, None, Some, IsSome, Result, Ok}
 use Rattle.std.specs.Prelude.{Err, Bool, true, false, OnOk}
 use Rattle.std.specs.List.{list_any}
 use Rattle.sspi_types.specs.declared.security_status.SecurityStatus.{SecurityStatus}
@@ -10,7 +11,8 @@ use Rattle.sspi_names.specs.Name.{Name, equals_ignoring_case}
 use Rattle.sspi_credssp.specs.declared.mode.ServerMode.{ServerMode}
 use Rattle.sspi_credssp.specs.declared.mode.ServerMode.TheVariants as modes
 use Rattle.sspi_credssp.specs.declared.proxy.ProxyError.{ProxyError}
-use Rattle.sspi_credssp.specs.declared.proxy.ProxyError.TheVariants.{NotFound, Failed, InsufficientMemory}
+use Rattle.sspi_credssp.specs.declared.proxy.ProxyError.TheVariants.{NotFound, Failed}
+use Rattle.sspi_credssp.specs.declared.proxy.ProxyError.TheVariants.{InsufficientMemory}
 use Rattle.sspi_credssp.specs.Ends.{ServerView}
 
 -- what a proxy tells of itself; no call changes that
@@ -46,7 +48,8 @@ candidates_of entries name = filter (is_named name) entries
 unfoldable pub entry_of : List AuthIdentity → Name → Option AuthIdentity
 entry_of entries name = find (is_named name) entries
 
--- where the entries are told: exactly the first of that name, and `NotFound` exactly where there is none
+-- where the entries are told: exactly the first of that name, and `NotFound` exactly where there is
+-- none
 abbrev pub IsEntry : Option (List AuthIdentity) → Name → Result AuthIdentity ProxyError → Type 0
 IsEntry None name answer = Unit {0}
 IsEntry (Some entries) name (Ok identity) = entry_of entries name ≡ Some identity
@@ -65,9 +68,10 @@ AreCandidates None name identities = Unit {0}
 AreCandidates (Some entries) name identities = identities ≡ candidates_of entries name
 
 -- a look-up of this name found these
-pub record AreFound (tells : ProxyTells) (name : Name) (identities : List AuthIdentity) : Type 0 where
-  pub answered : IsTold (tells.answers name) identities
-  pub candidates : AreCandidates tells.entries name identities
+pub record AreFound (tells : ProxyTells) (name : Name) (identities : List AuthIdentity) : Type 0
+  where
+    pub answered : IsTold (tells.answers name) identities
+    pub candidates : AreCandidates tells.entries name identities
 
 -- a look-up of a list finds a list, which may be empty
 abbrev pub IsList : {X : Type 0} → Result X ProxyError → Type 0
@@ -87,12 +91,13 @@ LookUpCause before now (Err InsufficientMemory) = before ≤ now
 abbrev pub fails_at : List ℕ → ℕ → Bool
 fails_at numbers call = list_any (λ n. n == call) numbers
 
--- where the failing calls are told: a call fails only where they say so and answers nowhere there; the count of faults rises nowhere
--- else
+-- where the failing calls are told: a call fails only where they say so and answers nowhere there;
+-- the count of faults rises nowhere else
 abbrev pub FailsAsTold : {X : Type 0} → Option (List ℕ) → ℕ → ℕ → ℕ → Result X ProxyError → Type 0
 FailsAsTold None call before now answer = Unit {0}
 FailsAsTold (Some numbers) call before now (Ok x) = (fails_at numbers call ≡ false) × (now ≡ before)
-FailsAsTold (Some numbers) call before now (Err NotFound) = (fails_at numbers call ≡ false) × (now ≡ before)
+FailsAsTold (Some numbers) call before now (Err NotFound) = (fails_at numbers call ≡ false) ×
+    (now ≡ before)
 FailsAsTold (Some numbers) call before now (Err Failed) = fails_at numbers call ≡ true
 FailsAsTold (Some numbers) call before now (Err InsufficientMemory) = now ≡ before
 
@@ -103,11 +108,13 @@ TellsFailure (Some numbers) call = fails_at numbers call ≡ true
 
 module _ {P : Type 0} (p : ProxyMeaning P) where
   -- one call, and its answer
-  pub record HasAnswered {X : Type 0} (before : P) (answer : Result X ProxyError) (now : P) : Type 0 where
-    pub told_same : p.told now ≡ p.told before
-    pub counted : p.calls now ≡ counted_on (p.calls before)
-    pub cause : LookUpCause (p.faults before) (p.faults now) answer
-    pub fails : FailsAsTold (p.told before).failing (p.calls before) (p.faults before) (p.faults now) answer
+  pub record HasAnswered {X : Type 0} (before : P) (answer : Result X ProxyError) (now : P) : Type 0
+    where
+      pub told_same : p.told now ≡ p.told before
+      pub counted : p.calls now ≡ counted_on (p.calls before)
+      pub cause : LookUpCause (p.faults before) (p.faults now) answer
+      pub fails : FailsAsTold (p.told before).failing (p.calls before) (p.faults before)
+          (p.faults now) answer
 
   -- the call so many calls later is told to fail
   abbrev pub FailsAfter : ℕ → P → Type 0
@@ -122,7 +129,8 @@ module _ {P : Type 0} (p : ProxyMeaning P) where
     pub unasked : limit ≡ 0 → now ≡ before
     pub faults_stay : p.faults before ≤ p.faults now
     -- where it tells which calls fail, a fault was counted only if one of these calls is told to
-    pub failed : IsSome (p.told before).failing → (p.faults now ≡ p.faults before) ⊎ ((i : ℕ) × (i < asked) × FailsAfter i before)
+    pub failed : IsSome (p.told before).failing → (p.faults now ≡ p.faults before) ⊎
+        ((i : ℕ) × (i < asked) × FailsAfter i before)
 
   -- exactly so many calls later, none of which was told to fail
   pub record HasAsked (n : ℕ) (before now : P) : Type 0 where
@@ -131,8 +139,8 @@ module _ {P : Type 0} (p : ProxyMeaning P) where
 
 -- ---- How often a server's turn asks its proxy.
 
--- how often making a server's context asks the proxy for its list, and how often a turn does, which makes the context only
--- where there is none
+-- how often making a server's context asks the proxy for its list, and how often a turn does, which
+-- makes the context only where there is none
 abbrev pub list_calls : ServerMode → ℕ
 list_calls (modes.Negotiate config) = 1
 list_calls (modes.Ntlm config) = 0
@@ -152,6 +160,7 @@ abbrev pub calls_in : {C P : Type 0} → ServerView C P → Option SecurityStatu
 calls_in old status = lists_in old.context old.settings.mode + look_ups_at status
 
 -- a call asks at most so often, and exactly so often where it is not refused
-pub record Asks {P : Type 0} (p : ProxyMeaning P) {T E : Type 0} (n : ℕ) (result : Result T E) (before now : P) : Type 0 where
+pub record Asks {P : Type 0} (p : ProxyMeaning P) {T E : Type 0} (n : ℕ) (result : Result T E)
+    (before now : P) : Type 0 where
   pub at_most : IsAsked p n before now
   pub exactly : OnOk result (HasAsked p n before now)

@@ -6,4 +6,5 @@ use Rattle.sspi_credssp.specs.Noted.{OrMemory}
 
 -- of a call whose refusal has no code by its type
 abbrev pub IsRefusedFor : {T : Type 0} → Result T Refusal → (ErrorKind → Type 0) → Type 0
-IsRefusedFor result causes = IfErr result (λ refusal. OrMemory refusal.error_type (causes refusal.error_type))
+IsRefusedFor result causes = IfErr result
+    (λ refusal. OrMemory refusal.error_type (causes refusal.error_type))

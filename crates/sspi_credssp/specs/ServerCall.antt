@@ -14,17 +14,25 @@ use Rattle.sspi_credssp.specs.ServerCause.{ServerCause, ServerExact}
 use Rattle.sspi_credssp.specs.ServerTurn.{HasAcceptedTurn, MakesAlone, ServerGoes}
 
 module _ {C P : Type 0} (c : Meaning ContextSetting C) (p : ProxyMeaning P) where
-  -- what a call leaves alone: a client that changes its version moves nothing, a call that takes no step makes a context at
-  -- most, and one that makes none only asks the proxy
-  pub record ServerKeeps (old : ServerView C P) (d : TsRequest) (result : Result ServerState ServerError) (new : ServerView C P) :
+  -- what a call leaves alone: a client that changes its version moves nothing, a call that takes no
+  -- step makes a context at most, and one that makes none only asks the proxy
+  pub record ServerKeeps (old : ServerView C P) (d : TsRequest)
+      (result : Result ServerState ServerError) (new : ServerView C P) :
       Type 0 where
-    pub altered : differs old.noted d.version ≡ true → IsErr result × (new ≡ record old { acts = no_acts; output = [] })
+    pub altered : differs old.noted d.version ≡ true → IsErr result ×
+        (new ≡ record old { acts = no_acts; output = [] })
     pub made : MakesAlone c p old new
-    pub unmade : new.context ≡ None → new ≡ record old { proxy = new.proxy; acts = no_acts; output = [] }
+    pub unmade : new.context ≡ None → new ≡ record old {
+      proxy = new.proxy;
+      acts = no_acts;
+      output = [];
+    }
 
-  -- The call is one turn, with one step of the context where it authenticates. A refusal has its cause, and one for the age
-  -- of the client's version comes exactly there. The proxy is asked as often as the step's status wants it.
-  pub record ServerCall (old : ServerView C P) (d : TsRequest) (result : Result ServerState ServerError) (new : ServerView C P) :
+  -- The call is one turn, with one step of the context where it authenticates. A refusal has its
+  -- cause, and one for the age of the client's version comes exactly there. The proxy is asked as
+  -- often as the step's status wants it.
+  pub record ServerCall (old : ServerView C P) (d : TsRequest)
+      (result : Result ServerState ServerError) (new : ServerView C P) :
       Type 0 where
     pub turn : ServerGoes c old d result new
     pub step : HasAcceptedTurn c p old d result new

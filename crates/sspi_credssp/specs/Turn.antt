@@ -1,6 +1,8 @@
--- One turn of an end: the message that it has for the peer, and what the end is at it; what recorded bytes can show of it; and what
--- it must be by the context, the key and the nonce behind it (MS-CSSP 3.1.5).
-use Rattle.std.specs.Prelude.{◌≡◌, ℕ, Option, None, Some, Bool, true, false, ◌≢◌, ◌⊎◌, List, [], length, IsSome, nat_lt}
+-- One turn of an end: the message that it has for the peer, and what the end is at it; what
+-- recorded bytes can show of it; and what it must be by the context, the key and the nonce behind
+-- it (MS-CSSP 3.1.5).
+use Rattle.std.specs.Prelude.{◌≡◌, ℕ, Option, None, Some, Bool, true, false, ◌≢◌, ◌⊎◌, List, []}
+use Rattle.std.specs.Prelude.{length, IsSome, nat_lt}
 use Rattle.sspi_types.specs.declared.error_kind.ErrorKind.{ErrorKind}
 use Rattle.sspi_types.specs.declared.security_status.SecurityStatus.{SecurityStatus}
 use Rattle.sspi_types.specs.declared.security_status.SecurityStatus.TheVariants as statuses
@@ -8,7 +10,8 @@ use Rattle.sspi_tsreq.specs.declared.request.TsRequest.{TsRequest}
 use Rattle.sspi_mech.specs.Meaning.{Meaning}
 use Rattle.sspi_credssp.specs.declared.public_key.EndpointType.TheVariants.{Client, Server}
 use Rattle.sspi_credssp.specs.declared.state.CredSspState.{CredSspState}
-use Rattle.sspi_credssp.specs.declared.state.CredSspState.TheVariants.{NegoToken, PubKeyInfo, AuthInfo, Final}
+use Rattle.sspi_credssp.specs.declared.state.CredSspState.TheVariants.{NegoToken, PubKeyInfo}
+use Rattle.sspi_credssp.specs.declared.state.CredSspState.TheVariants.{AuthInfo, Final}
 use Rattle.sspi_credssp.specs.declared.turn.Outcome.{Outcome}
 use Rattle.sspi_credssp.specs.declared.turn.Outcome.TheVariants as outcome
 use Rattle.sspi_credssp.specs.declared.turn.Turn.{Turn}
@@ -16,7 +19,8 @@ use Rattle.sspi_credssp.specs.Acts.{no_acts, CountsEachAct, SameBut, SealsIn, Op
 use Rattle.sspi_credssp.specs.Context.{ContextSetting}
 use Rattle.sspi_credssp.specs.Ends.{ClientSettings, ServerSettings}
 use Rattle.sspi_credssp.specs.Exchange.{delegated_text, IfText, prescribed}
-use Rattle.sspi_credssp.specs.Requests.{error_request, unless_empty, is_code, IsLong, version_back, nonce_of}
+use Rattle.sspi_credssp.specs.Requests.{error_request, unless_empty, is_code, IsLong, version_back}
+use Rattle.sspi_credssp.specs.Requests.{nonce_of}
 
 -- the message that a turn has for the peer
 abbrev pub message_of : Outcome → Option TsRequest
@@ -49,9 +53,10 @@ abbrev pub FitsNoted : Bool → Option ℕ → ℕ → Type 0
 FitsNoted false noted version = Unit {0}
 FitsNoted true noted version = AtNoted noted (λ n. version ≡ n)
 
--- What an end is at a turn: its settings; its state before the turn; the numbers that the messages of this turn have among
--- those that its context sealed and opened; whether it looks at the delivered version, as in each turn but a client's first;
--- the version that is pinned once the turn is over; and its context.
+-- What an end is at a turn: its settings; its state before the turn; the numbers that the messages
+-- of this turn have among those that its context sealed and opened; whether it looks at the
+-- delivered version, as in each turn but a client's first; the version that is pinned once the turn
+-- is over; and its context.
 pub record Frame (S C : Type 0) : Type 0 where
   pub settings : S
   pub state : CredSspState
@@ -67,17 +72,19 @@ ClientFrame C = Frame ClientSettings C
 abbrev pub ServerFrame : Type 0 → Type 0
 ServerFrame C = Frame ServerSettings C
 
--- What the context of an end keeps until a turn uses it: nothing was sealed or opened yet, and past the authentication it
--- differs in its counts alone.
-pub record IsUnspent {S C : Type 0} (c : Meaning S C) (start : CredSspState) (before context : Option C) : Type 0 where
+-- What the context of an end keeps until a turn uses it: nothing was sealed or opened yet, and past
+-- the authentication it differs in its counts alone.
+pub record IsUnspent {S C : Type 0} (c : Meaning S C) (start : CredSspState)
+    (before context : Option C) : Type 0 where
   pub counts : CountsEachAct c start before no_acts context
   pub bare : OnceNegotiated start (SameBut c before context)
 
 -- ---- What recorded bytes can show of a turn, whatever context, key and nonce stand behind it: which acts it may have done, and
 -- the message that it owes (MS-CSSP 3.1.5).
 
--- What is known of an end at a turn: its state before the turn; whether it looks at the delivered version; the version that is
--- pinned once the turn is over; and its own version, where that is known.
+-- What is known of an end at a turn: its state before the turn; whether it looks at the delivered
+-- version; the version that is pinned once the turn is over; and its own version, where that is
+-- known.
 pub record ShownFrame : Type 0 where
   pub state : CredSspState
   pub looks : Bool
@@ -85,10 +92,20 @@ pub record ShownFrame : Type 0 where
   pub version : Option ℕ
 
 abbrev pub client_shown : {C : Type 0} → ClientFrame C → ShownFrame
-client_shown f = record { state = f.state; looks = f.looks; noted = f.noted; version = Some f.settings.version }
+client_shown f = record {
+  state = f.state;
+  looks = f.looks;
+  noted = f.noted;
+  version = Some f.settings.version;
+}
 
 abbrev pub server_shown : {C : Type 0} → ServerFrame C → ShownFrame
-server_shown f = record { state = f.state; looks = true; noted = f.noted; version = Some f.settings.version }
+server_shown f = record {
+  state = f.state;
+  looks = true;
+  noted = f.noted;
+  version = Some f.settings.version;
+}
 
 -- a message has its end's own version, where that is known
 abbrev pub IsOwn : Option ℕ → ℕ → Type 0
@@ -184,7 +201,8 @@ HasNonce false (Some sent_nonce) = length sent_nonce ≡ 32
 pub record ShowsServerActs (f : ShownFrame) (t : Turn) : Type 0 where
   pub negotiated : t.acts.negotiated ≡ true → f.state ≡ NegoToken
   pub answered : IsSome t.acts.status → t.acts.negotiated ≡ true
-  pub checked : t.acts.checked ≡ true → MayCheck f.state t.acts.status × IsLong t.delivered.pub_key_auth
+  pub checked : t.acts.checked ≡ true → MayCheck f.state t.acts.status ×
+      IsLong t.delivered.pub_key_auth
   pub proved : t.acts.proved ≡ true → (t.acts.checked ≡ true) ×
       AtNoted f.noted (λ noted. HasNonce (nat_lt noted 5) t.delivered.client_nonce)
   pub opened : t.acts.opened ≡ true → (f.state ≡ AuthInfo) × IsLong t.delivered.auth_info
@@ -201,9 +219,14 @@ pub record ShowsProofBack (f : ShownFrame) (t : Turn) (r : TsRequest) : Type 0 w
   pub checked : t.acts.checked ≡ true
   pub proved : t.acts.proved ≡ true
   pub version : IsOwn f.version r.version
-  pub reply : r ≡ record t.delivered { version = r.version; nego_tokens = None; pub_key_auth = r.pub_key_auth }
+  pub reply : r ≡ record t.delivered {
+    version = r.version;
+    nego_tokens = None;
+    pub_key_auth = r.pub_key_auth;
+  }
 
--- the authentication has ended: where the client's proof came already it is answered, else it is asked for by a token
+-- the authentication has ended: where the client's proof came already it is answered, else it is
+-- asked for by a token
 abbrev pub ShowsOver : ShownFrame → Turn → Option (List ℕ) → TsRequest → Type 0
 ShowsOver f t None r = ShowsTokenBack f t r × (t.output ≢ [])
 ShowsOver f t (Some blob) r = ShowsProofBack f t r
@@ -219,7 +242,8 @@ ShowsStateBack f t NegoToken r = ShowsNegoBack f t t.acts.status r
 ShowsStateBack f t PubKeyInfo r = ShowsProofBack f t r
 ShowsStateBack f t other r = ⊥
 
--- which version an error request has: the one that was delivered, or that of the server; any where the latter is not known
+-- which version an error request has: the one that was delivered, or that of the server; any where
+-- the latter is not known
 abbrev pub IsVersionBack : Option ℕ → ℕ → ℕ → Type 0
 IsVersionBack None delivered version = Unit {0}
 IsVersionBack (Some own) delivered version = (version ≡ delivered) ⊎ (version ≡ own)
@@ -258,12 +282,14 @@ module _ {C : Type 0} (c : Meaning ContextSetting C) where
   -- the credentials are those of the client
   abbrev pub HoldsReply : ClientFrame C → Option SecurityStatus → Outcome → Type 0
   HoldsReply f status (outcome.Reply r) = HoldsNego f status r
-  HoldsReply f status (outcome.Final r) = IfText (delegated_text f.settings.credentials f.settings.delegation)
+  HoldsReply f status (outcome.Final r) =
+      IfText (delegated_text f.settings.credentials f.settings.delegation)
       (λ text. SealsIn c f.context f.made text r.auth_info)
   HoldsReply f status outcome.Finished = Unit {0}
   HoldsReply f status (outcome.Refused kind reply) = Unit {0}
 
-  -- the credentials are sealed only once the delivered pubKeyAuth opened to the proof that the server owes
+  -- the credentials are sealed only once the delivered pubKeyAuth opened to the proof that the
+  -- server owes
   pub record HoldsClient (f : ClientFrame C) (t : Turn) : Type 0 where
     pub sealed : t.acts.sealed ≡ true →
         AtNoted f.noted (λ noted. OpensIn c f.context f.opened t.delivered.pub_key_auth
@@ -273,8 +299,10 @@ module _ {C : Type 0} (c : Meaning ContextSetting C) where
   -- ---- behind a turn of a server
 
   -- the client's proof was the right one, and from version 5 on it was made with a nonce
-  pub record Proven (context : Option C) (opened : ℕ) (public_key : List ℕ) (d : TsRequest) (noted : ℕ) : Type 0 where
-    pub opens : OpensIn c context opened d.pub_key_auth (prescribed Client noted (nonce_of d.client_nonce) public_key)
+  pub record Proven (context : Option C) (opened : ℕ) (public_key : List ℕ) (d : TsRequest)
+      (noted : ℕ) : Type 0 where
+    pub opens : OpensIn c context opened d.pub_key_auth
+        (prescribed Client noted (nonce_of d.client_nonce) public_key)
     pub nonce : HasNonce (nat_lt noted 5) d.client_nonce
 
   -- the server's proof is made over the delivered nonce and its own key
@@ -287,10 +315,13 @@ module _ {C : Type 0} (c : Meaning ContextSetting C) where
   HoldsAnswer f t (outcome.Final r) = Unit {0}
   HoldsAnswer f t outcome.Finished = Unit {0}
   HoldsAnswer f t (outcome.Refused kind None) = Unit {0}
-  HoldsAnswer f t (outcome.Refused kind (Some r)) = r.version ≡ version_back f.context f.noted t.delivered.version f.settings.version
+  HoldsAnswer f t (outcome.Refused kind (Some r)) =
+      r.version ≡ version_back f.context f.noted t.delivered.version f.settings.version
 
   -- the server proves nothing before the client's proof was the right one
   pub record HoldsServer (f : ServerFrame C) (t : Turn) : Type 0 where
-    pub checked : t.acts.checked ≡ true → AtNoted f.noted (λ noted. HasNonce (nat_lt noted 5) t.delivered.client_nonce)
-    pub proved : t.acts.proved ≡ true → AtNoted f.noted (Proven f.context f.opened f.settings.public_key t.delivered)
+    pub checked : t.acts.checked ≡ true →
+        AtNoted f.noted (λ noted. HasNonce (nat_lt noted 5) t.delivered.client_nonce)
+    pub proved : t.acts.proved ≡ true →
+        AtNoted f.noted (Proven f.context f.opened f.settings.public_key t.delivered)
     pub reply : HoldsAnswer f t t.outcome

@@ -8,7 +8,8 @@ use sspi_types::SecurityStatus;
 /// What the last call of an end did on its security context, also where the call was refused.
 #[derive(Clone, Copy, Debug, PartialEq, Eq)]
 pub struct Acts {
-    /// The status that the context's step answered, resumes included; `None` where no step answered.
+    /// The status that the context's step answered, resumes included; `None` where no step
+    /// answered.
     pub status: Option<SecurityStatus>,
     /// The context took a step.
     pub negotiated: bool,

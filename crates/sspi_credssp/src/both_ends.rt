@@ -24,14 +24,16 @@ pub fn adopt<N: Mechanism, K: Mechanism>(
     handle: &mut Option<CredentialsBuffers>,
 ) -> Result<(), Refusal>
     // What `Ok` holds, and that nothing was used.
-    ensures acquired { let c = either N.REQUESTS N.meaning K.meaning in OnOk result (IfContext place.new
+    ensures acquired { let c = either N.REQUESTS N.meaning K.meaning in OnOk result
+        (IfContext place.new
         (c.acquires context purpose (option_copied credentials.entry) handle.new)) }
     ensures unused { let c = either N.REQUESTS N.meaning K.meaning in IsUnused (c.counts context) →
         OnOk result (IsUnusedIn c place.new) }
     // What a refusal says, and what it leaves.
     ensures err { OnErr result ((place.new ≡ place.old) × (handle.new ≡ handle.old)) }
     ensures cause { IfErr result (λ error. error.error_type ≢ ErrorKind.InsufficientMemory →
-        (either N.REQUESTS N.meaning K.meaning).refuses context (ToAcquire purpose (option_copied credentials.entry)) error.error_type) }
+        (either N.REQUESTS N.meaning K.meaning).refuses context
+        (ToAcquire purpose (option_copied credentials.entry)) error.error_type) }
 {
     let mut context = context;
     let acquired = context.acquire_credentials_handle(purpose, credentials)?;

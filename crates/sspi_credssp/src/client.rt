@@ -7,7 +7,8 @@ ghost use Rattle.sspi_credssp.specs.Unused.{IsUnusedIn};
 ghost use Rattle.sspi_credssp.specs.Acts.{no_acts, is_waiting_in, left_in};
 ghost use Rattle.sspi_credssp.specs.Ends.{ClientView};
 ghost use Rattle.sspi_credssp.specs.Context.{either, ForClient};
-ghost use Rattle.sspi_credssp.specs.Noted.{is_altered_in, is_old_in, noted_in, VersionStopsIn, OrMemory};
+ghost use Rattle.sspi_credssp.specs.Noted.{is_altered_in, is_old_in, noted_in, VersionStopsIn};
+ghost use Rattle.sspi_credssp.specs.Noted.{OrMemory};
 ghost use Rattle.sspi_credssp.specs.Refused.{IsRefusedFor};
 ghost use Rattle.sspi_credssp.specs.Requests.{is_code};
 ghost use Rattle.sspi_mech.specs.Answered.{answered};
@@ -29,8 +30,9 @@ use sspi_types::{Bytes, CredentialUse, Error, ErrorKind, Reason, Text};
 use std::alloc::Global;
 use std::marker::Model;
 
-/// The CredSSP client (MS-CSSP 3.1.5.1): it authenticates, proves that it speaks over the channel whose public key it was
-/// given, checks that the server proves the same, and only then delegates its credentials.
+/// The CredSSP client (MS-CSSP 3.1.5.1): it authenticates, proves that it speaks over the channel
+/// whose public key it was given, checks that the server proves the same, and only then delegates
+/// its credentials.
 #[derive(Drop)]
 pub struct CredSspClient<N, K> {
     pub(crate) alloc: Global,
@@ -77,7 +79,8 @@ impl<N, K> Model for CredSspClient<N, K> {
       kept = a.suspended;
     } };
 
-    ghost invariant = { λ a. IsClientState a.context a.credentials_handle a.peer_version a.state a.client_nonce };
+    ghost invariant = { λ a. IsClientState a.context a.credentials_handle a.peer_version a.state
+        a.client_nonce };
 }
 
 impl<N, K> CredSspClient<N, K> {
@@ -94,7 +97,8 @@ impl<N, K> CredSspClient<N, K> {
         client_nonce: [u8; 32],
     ) -> CredSspClient<N, K>
         ensures fresh { IsFreshClient result }
-        ensures settings { result.settings ≡ new_client public_key.items credentials cred_ssp_mode 6 client_mode
+        ensures settings { result.settings ≡ new_client public_key.items credentials cred_ssp_mode 6
+            client_mode
             (string_bytes service_principal_name) client_nonce }
     {
         CredSspClient::new_with_version(
@@ -111,9 +115,10 @@ impl<N, K> CredSspClient<N, K> {
 
     /// A client of this version of CredSSP, to which nothing was delivered yet. Takes no memory.
     ///
-    /// `public_key` is the SubjectPublicKey of the channel's certificate, `service_principal_name` the target of the
-    /// authentication, and `client_nonce` goes into the proofs from version 5 on: take fresh random bytes for each client.
-    /// Where `cred_ssp_mode` is `CredentialLess` the client authenticates by its credentials and delegates empty ones.
+    /// `public_key` is the SubjectPublicKey of the channel's certificate, `service_principal_name`
+    /// the target of the authentication, and `client_nonce` goes into the proofs from version 5 on:
+    /// take fresh random bytes for each client. Where `cred_ssp_mode` is `CredentialLess` the
+    /// client authenticates by its credentials and delegates empty ones.
     pub fn new_with_version(
         alloc: Global,
         public_key: Vec<u8>,
@@ -125,7 +130,8 @@ impl<N, K> CredSspClient<N, K> {
         client_nonce: [u8; 32],
     ) -> CredSspClient<N, K>
         ensures fresh { IsFreshClient result }
-        ensures settings { result.settings ≡ new_client public_key.items credentials cred_ssp_mode ts_request_version client_mode
+        ensures settings { result.settings ≡ new_client public_key.items credentials cred_ssp_mode
+            ts_request_version client_mode
             (string_bytes service_principal_name) client_nonce }
     {
         CredSspClient {
@@ -148,9 +154,9 @@ impl<N, K> CredSspClient<N, K> {
         }
     }
 
-    /// The same client, which refuses a server whose first version is below this; 0 takes every version. Without this call
-    /// the least is 5: below it the proofs are the key itself and one more than it (MS-CSSP 3.1.5), which whoever relays the
-    /// exchange can choose. Takes no memory.
+    /// The same client, which refuses a server whose first version is below this; 0 takes every
+    /// version. Without this call the least is 5: below it the proofs are the key itself and one
+    /// more than it (MS-CSSP 3.1.5), which whoever relays the exchange can choose. Takes no memory.
     pub fn with_least_version(self, least: u32) -> CredSspClient<N, K>
         ensures { result ≡ record self { settings = record self.settings { least = least } } }
     {
@@ -173,7 +179,8 @@ impl<N, K> CredSspClient<N, K> {
         self.state
     }
 
-    /// The nonce that goes into the proofs from version 5 on: the 32 bytes that the client was made with.
+    /// The nonce that goes into the proofs from version 5 on: the 32 bytes that the client was made
+    /// with.
     pub fn client_nonce(&self) -> &[u8; 32]
         ensures nonce { result.now ≡ self.now.settings.nonce }
         ensures size { length self.now.settings.nonce ≡ 32 }
@@ -181,8 +188,8 @@ impl<N, K> CredSspClient<N, K> {
         &self.client_nonce
     }
 
-    /// Takes the token that the context's step gave in the last call, resumes included; empty where no step answered, and
-    /// once it was taken.
+    /// Takes the token that the context's step gave in the last call, resumes included; empty where
+    /// no step answered, and once it was taken.
     pub fn take_output(&mut self) -> Bytes
         ensures output { result ≡ self.old.output }
         ensures rest { self.new ≡ record self.old { output = [] } }
@@ -217,24 +224,29 @@ impl<N: Mechanism, K: Mechanism> CredSspClient<N, K> {
         }
     }
 
-    /// Takes the server's message and makes the client's next one; the first call takes a default request.
+    /// Takes the server's message and makes the client's next one; the first call takes a default
+    /// request.
     ///
-    /// Refused, in this order: `OutOfSequence` while a turn is suspended; `InvalidToken`, with the code as its status, where
-    /// the server reports an error; in any call but the one that makes the context, which looks at no version,
-    /// `DowngradeDetected` where no version of the server is pinned yet and this one is below the least, which then is not
-    /// pinned, and `MessageAltered` where the server changes its version; with the kinds of a new context; then by the state.
-    /// In the authentication with the kinds of the context's step, `InternalError` where it ends before a version was pinned,
-    /// and the kinds of sealing the proof. Where the server's proof is due, `InvalidToken` where it is absent or has under 16
-    /// bytes, the kinds of opening it, `MessageAltered` where it is not the right one, and the kinds of the credentials' text
-    /// and of sealing it. `OutOfSequence` once the last message was made. Out of memory may come in place of what stands
-    /// behind the version, but for the absent or short proof, the one that the context does not open, the one that is not the
-    /// right one, and that last one.
+    /// Refused, in this order: `OutOfSequence` while a turn is suspended; `InvalidToken`, with the
+    /// code as its status, where the server reports an error; in any call but the one that makes
+    /// the context, which looks at no version, `DowngradeDetected` where no version of the server
+    /// is pinned yet and this one is below the least, which then is not pinned, and
+    /// `MessageAltered` where the server changes its version; with the kinds of a new context; then
+    /// by the state. In the authentication with the kinds of the context's step, `InternalError`
+    /// where it ends before a version was pinned, and the kinds of sealing the proof. Where the
+    /// server's proof is due, `InvalidToken` where it is absent or has under 16 bytes, the kinds of
+    /// opening it, `MessageAltered` where it is not the right one, and the kinds of the
+    /// credentials' text and of sealing it. `OutOfSequence` once the last message was made. Out of
+    /// memory may come in place of what stands behind the version, but for the absent or short
+    /// proof, the one that the context does not open, the one that is not the right one, and that
+    /// last one.
     ///
-    /// A call that is refused while a turn is suspended, for the code or for the version only forgets what the last call did.
-    /// Any other leaves the state, the mode and what was acquired before, and a context that it made stays. The request is
-    /// dropped.
+    /// A call that is refused while a turn is suspended, for the code or for the version only
+    /// forgets what the last call did. Any other leaves the state, the mode and what was acquired
+    /// before, and a context that it made stays. The request is dropped.
     pub fn process(&mut self, ts_request: TsRequest) -> Result<Progress, Error>
-        ensures { ClientCall (either N.REQUESTS N.meaning K.meaning) self.old ts_request result self.new }
+        ensures { ClientCall (either N.REQUESTS N.meaning K.meaning) self.old ts_request result
+            self.new }
     {
         self.forget_last_call();
         if self.waiting() {
@@ -247,12 +259,15 @@ impl<N: Mechanism, K: Mechanism> CredSspClient<N, K> {
 
     /// Goes on with the suspended turn, once it is known what came of its request.
     ///
-    /// Where no turn is suspended that is `OutOfSequence`, and the client only forgets what its last call did (`last_acts`,
-    /// `take_output`). Else it is refused with the kinds of the context's step; with `InternalError` where the authentication
-    /// ends before a version was pinned; with the kinds of sealing the proof; and when out of memory. A refused client is
-    /// suspended still where its context is, and nowhere else: the request stays in it, and a later call goes on from there.
+    /// Where no turn is suspended that is `OutOfSequence`, and the client only forgets what its
+    /// last call did (`last_acts`, `take_output`). Else it is refused with the kinds of the
+    /// context's step; with `InternalError` where the authentication ends before a version was
+    /// pinned; with the kinds of sealing the proof; and when out of memory. A refused client is
+    /// suspended still where its context is, and nowhere else: the request stays in it, and a later
+    /// call goes on from there.
     pub fn resume(&mut self, reply: &Reply) -> Result<Progress, Error>
-        ensures { ResumeCall (either N.REQUESTS N.meaning K.meaning) self.old reply.now result self.new }
+        ensures { ResumeCall (either N.REQUESTS N.meaning K.meaning) self.old reply.now result
+            self.new }
     {
         self.forget_last_call();
         if !self.waiting() {
@@ -276,18 +291,24 @@ impl<N: Mechanism, K: Mechanism> CredSspClient<N, K> {
         requires acts { self.old.acts ≡ no_acts }
         requires begun { IsSome self.old.context }
         // The turn, and the step in it.
-        ensures turn { let c = either N.REQUESTS N.meaning K.meaning in (start : ClientView (SspiContext N K)) (d : TsRequest) →
-            request ≡ record d { version = self.old.settings.version } → IsReady c start d self.old → self.old.output ≡ [] →
+        ensures turn { let c = either N.REQUESTS N.meaning K.meaning
+            in (start : ClientView (SspiContext N K)) (d : TsRequest) →
+            request ≡ record d { version = self.old.settings.version } →
+            IsReady c start d self.old → self.old.output ≡ [] →
             ClientGoes c start d (answered result) self.new }
-        ensures step { let c = either N.REQUESTS N.meaning K.meaning in (start : ClientView (SspiContext N K)) (d : TsRequest) →
+        ensures step { let c = either N.REQUESTS N.meaning K.meaning
+            in (start : ClientView (SspiContext N K)) (d : TsRequest) →
             d.nego_tokens ≡ request.nego_tokens → start.settings.target ≡ self.old.settings.target →
-            IfContext self.old.context (Begun c start.context start.handle (ForClient start.settings.mode) purposes.Outbound
+            IfContext self.old.context (Begun c start.context start.handle
+            (ForClient start.settings.mode) purposes.Outbound
             (Some start.settings.credentials) self.old.handle) →
             HasStepped c start d 0 [] (answered result) self.new }
         // What a refusal says.
-        ensures cause { IsRefusedFor result (StateCause (either N.REQUESTS N.meaning K.meaning) self.old.state request self.new) }
+        ensures cause { IsRefusedFor result
+            (StateCause (either N.REQUESTS N.meaning K.meaning) self.old.state request self.new) }
         ensures exact { IfErr result (λ error.
-            StateExact (either N.REQUESTS N.meaning K.meaning) self.old.state request self.new error.error_type) }
+            StateExact (either N.REQUESTS N.meaning K.meaning) self.old.state request self.new
+            error.error_type) }
         // What is so afterwards.
         ensures begun { IsSome self.new.context }
     {
@@ -300,24 +321,35 @@ impl<N: Mechanism, K: Mechanism> CredSspClient<N, K> {
 
     fn begin(&mut self, version: u32) -> Result<(), Refusal>
         // What `Ok` holds, and what alone may change.
-        ensures frame { self.new ≡ record self.old { context = self.new.context; handle = self.new.handle; noted = self.new.noted } }
+        ensures frame { self.new ≡ record self.old {
+          context = self.new.context;
+          handle = self.new.handle;
+          noted = self.new.noted;
+        } }
         ensures ready { let c = either N.REQUESTS N.meaning K.meaning in
             OnOk result ((start : ClientView (SspiContext N K)) (d : TsRequest) →
             d.version ≡ version → self.old ≡ record start { acts = no_acts; output = [] } →
-            is_waiting_in c start.context ≡ false → is_code d.error_code ≡ false → IsReady c start d self.new) }
-        ensures begun { let c = either N.REQUESTS N.meaning K.meaning in OnOk result (IfContext self.new.context
-            (Begun c self.old.context self.old.handle (ForClient self.old.settings.mode) purposes.Outbound
+            is_waiting_in c start.context ≡ false → is_code d.error_code ≡ false →
+            IsReady c start d self.new) }
+        ensures begun { let c = either N.REQUESTS N.meaning K.meaning in OnOk result
+            (IfContext self.new.context
+            (Begun c self.old.context self.old.handle (ForClient self.old.settings.mode)
+            purposes.Outbound
             (Some self.old.settings.credentials) self.new.handle)) }
         // What a refusal leaves.
         ensures err { OnErr result (self.new ≡ self.old) }
-        ensures noted { OnErr result (self.new.noted ≡ noted_in self.old.context self.old.settings.least self.old.noted version) }
+        ensures noted { OnErr result (self.new.noted ≡ noted_in self.old.context
+            self.old.settings.least self.old.noted version) }
         // How the version was looked at, and what a refusal says.
-        ensures passed { OnOk result (IsSome self.new.context × (is_altered_in self.old.context self.old.noted version ≡ false)
+        ensures passed { OnOk result (IsSome self.new.context ×
+            (is_altered_in self.old.context self.old.noted version ≡ false)
             × (is_old_in self.old.context self.old.settings.least self.old.noted version ≡ false)) }
         ensures cause { let c = either N.REQUESTS N.meaning K.meaning in
-            IfErr result (λ error. VersionStopsIn self.old.context self.old.settings.least self.old.noted version error.error_type
+            IfErr result (λ error. VersionStopsIn self.old.context self.old.settings.least
+            self.old.noted version error.error_type
             (MadeOr self.old.context self.new.context (OrMemory error.error_type
-            (BeginCause c (ForClient self.old.settings.mode) purposes.Outbound (Some self.old.settings.credentials) error.error_type))
+            (BeginCause c (ForClient self.old.settings.mode) purposes.Outbound
+            (Some self.old.settings.credentials) error.error_type))
             ⊥)) }
     {
         match &self.context {
@@ -334,17 +366,24 @@ impl<N: Mechanism, K: Mechanism> CredSspClient<N, K> {
         // What must hold before.
         requires { self.old.context ≡ None }
         // What `Ok` holds, and what alone may change.
-        ensures frame { self.new ≡ record self.old { context = self.new.context; handle = self.new.handle } }
-        ensures begun { let c = either N.REQUESTS N.meaning K.meaning in OnOk result (IfContext self.new.context
-            (Begun c self.old.context self.old.handle (ForClient self.old.settings.mode) purposes.Outbound
+        ensures frame { self.new ≡ record self.old {
+          context = self.new.context;
+          handle = self.new.handle;
+        } }
+        ensures begun { let c = either N.REQUESTS N.meaning K.meaning in OnOk result
+            (IfContext self.new.context
+            (Begun c self.old.context self.old.handle (ForClient self.old.settings.mode)
+            purposes.Outbound
             (Some self.old.settings.credentials) self.new.handle)) }
         ensures made { OnOk result (IsSome self.new.context) }
-        ensures unused { OnOk result (IsUnusedIn (either N.REQUESTS N.meaning K.meaning) self.new.context) }
+        ensures unused { OnOk result (IsUnusedIn (either N.REQUESTS N.meaning K.meaning)
+            self.new.context) }
         // What a refusal says, and what it leaves.
         ensures err { OnErr result (self.new ≡ self.old) }
         ensures fresh { (self.old.noted ≡ None) × (self.old.state ≡ CredSspState.NegoToken) }
         ensures cause { let c = either N.REQUESTS N.meaning K.meaning in
-            IsRefusedFor result (BeginCause c (ForClient self.old.settings.mode) purposes.Outbound (Some self.old.settings.credentials)) }
+            IsRefusedFor result (BeginCause c (ForClient self.old.settings.mode) purposes.Outbound
+            (Some self.old.settings.credentials)) }
     {
         let context = SspiContext::new_client(self.alloc, &self.client_mode)?;
         adopt(

@@ -30,16 +30,20 @@ impl<N: Mechanism, K: Mechanism> CredSspClient<N, K> {
         requires done { HasDone no_acts self.old }
         requires noted { IsSome self.old.noted }
         // The turn.
-        ensures turn { let c = either N.REQUESTS N.meaning K.meaning in (start : ClientView (SspiContext N K)) (d : TsRequest) →
-            request ≡ record d { version = self.old.settings.version } → IsReady c start d self.old →
+        ensures turn { let c = either N.REQUESTS N.meaning K.meaning
+            in (start : ClientView (SspiContext N K)) (d : TsRequest) →
+            request ≡ record d { version = self.old.settings.version } →
+            IsReady c start d self.old →
             self.old.state ≡ CredSspState.AuthInfo →
             self.old.output ≡ [] → ClientAnswers c start d (answered result) self.new }
         ensures begun { IsSome self.new.context }
         // What a refusal says.
         ensures cause { IfErr result (λ error. error.error_type ≢ ErrorKind.InsufficientMemory →
-            DeliverCause (either N.REQUESTS N.meaning K.meaning) request.pub_key_auth self.new error.error_type) }
+            DeliverCause (either N.REQUESTS N.meaning K.meaning) request.pub_key_auth self.new
+            error.error_type) }
         ensures exact { IfErr result (λ error.
-            DeliverExact (either N.REQUESTS N.meaning K.meaning) request.pub_key_auth self.new error.error_type) }
+            DeliverExact (either N.REQUESTS N.meaning K.meaning) request.pub_key_auth self.new
+            error.error_type) }
         // What is so afterwards.
         ensures acts { (self.new.acts.status ≡ None) × (self.new.acts.negotiated ≡ false) }
     {
@@ -51,7 +55,8 @@ impl<N: Mechanism, K: Mechanism> CredSspClient<N, K> {
     // The proof that the client owes, by the key of the channel and its nonce.
     pub(crate) fn own_proof(&self, version: u32) -> Result<Bytes, AllocError>
         ensures { IfOk result (λ proof.
-            proof ≡ prescribed EndpointType.Client version self.now.settings.nonce self.now.settings.public_key) }
+            proof ≡ prescribed EndpointType.Client version self.now.settings.nonce
+            self.now.settings.public_key) }
     {
         prescribed_proof(
             self.alloc,
@@ -69,13 +74,16 @@ impl<N: Mechanism, K: Mechanism> CredSspClient<N, K> {
         requires begun { IsSome self.old.context }
         requires noted { IsSome self.old.noted }
         // What holds of every answer.
-        ensures delivers { ClientDelivers (either N.REQUESTS N.meaning K.meaning) self.old pub_key_auth.now (answered result) self.new }
+        ensures delivers { ClientDelivers (either N.REQUESTS N.meaning K.meaning) self.old
+            pub_key_auth.now (answered result) self.new }
         ensures begun { IsSome self.new.context }
         // What a refusal says.
         ensures cause { IfErr result (λ error. error.error_type ≢ ErrorKind.InsufficientMemory →
-            DeliverCause (either N.REQUESTS N.meaning K.meaning) pub_key_auth.now self.new error.error_type) }
+            DeliverCause (either N.REQUESTS N.meaning K.meaning) pub_key_auth.now self.new
+            error.error_type) }
         ensures exact { IfErr result (λ error.
-            DeliverExact (either N.REQUESTS N.meaning K.meaning) pub_key_auth.now self.new error.error_type) }
+            DeliverExact (either N.REQUESTS N.meaning K.meaning) pub_key_auth.now self.new
+            error.error_type) }
         ensures ended { OnErr result (self.new.acts.sealed ≡ false) }
     {
         let blob = sealed_blob(pub_key_auth, Reason::NoPubKey)?;

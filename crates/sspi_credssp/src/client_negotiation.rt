@@ -1,13 +1,15 @@
 //! The client's authentication: the steps of its context, and the proof of the key at their end.
 
-ghost use Rattle.std.specs.Prelude.{◌≡◌, ◌≢◌, ◌<◌, ◌+◌, ℕ, List, [], ◌∷◌, None, Some, true, false, IsSome, OnErr, IfErr};
+ghost use Rattle.std.specs.Prelude.{◌≡◌, ◌≢◌, ◌<◌, ◌+◌, ℕ, List, [], ◌∷◌, None, Some, true, false};
+ghost use Rattle.std.specs.Prelude.{IsSome, OnErr, IfErr};
 ghost use Rattle.sspi_names.specs.declared.network.NetworkRequest.{NetworkRequest};
 ghost use Rattle.sspi_mech.specs.Answers.{answer_of, OnAsk};
 ghost use Rattle.sspi_mech.specs.declared.step.Answer.TheVariants as answers;
 ghost use Rattle.sspi_credssp.specs.Acts.{no_acts, SameBut, is_waiting_in, left_in};
 ghost use Rattle.sspi_credssp.specs.Context.{Begun, IfContext, either, ForClient};
 ghost use Rattle.sspi_credssp.specs.ClientCause.{NegoCause, ProveCause};
-ghost use Rattle.sspi_credssp.specs.ClientTurn.{Asked, StepsTo, HasStepped, OnSuspended, client_requirements, client_args};
+ghost use Rattle.sspi_credssp.specs.ClientTurn.{Asked, StepsTo, HasStepped, OnSuspended};
+ghost use Rattle.sspi_credssp.specs.ClientTurn.{client_requirements, client_args};
 ghost use Rattle.sspi_credssp.specs.Refused.{IsRefusedFor};
 ghost use Rattle.sspi_mech.specs.Answered.{answered};
 ghost use Rattle.sspi_types.specs.declared.credential_use.CredentialUse.TheVariants as purposes;
@@ -43,7 +45,8 @@ fn initialize<N: Mechanism, K: Mechanism>(
     token: &Option<Bytes>,
 ) -> Result<Progressing, Refusal>
     ensures step { (either N.REQUESTS N.meaning K.meaning).steps context.old
-        (client_args credentials_handle.now service_principal_name.now token.now) (answer_of (answered result)) context.new }
+        (client_args credentials_handle.now service_principal_name.now token.now)
+        (answer_of (answered result)) context.new }
 {
     Ok(context.initialize_security_context(&InitializeSecurityContext {
         credentials_handle: credentials_handle.as_ref(),
@@ -58,7 +61,8 @@ fn resume<N: Mechanism, K: Mechanism>(
     context: &mut SspiContext<N, K>,
     reply: &Reply,
 ) -> Result<Progressing, Refusal>
-    ensures { (either N.REQUESTS N.meaning K.meaning).resumes context.old reply.now (answer_of (answered result)) context.new }
+    ensures { (either N.REQUESTS N.meaning K.meaning).resumes context.old reply.now
+        (answer_of (answered result)) context.new }
 {
     Ok(context.resume(reply)?)
 }
@@ -66,7 +70,8 @@ fn resume<N: Mechanism, K: Mechanism>(
 impl<N: Mechanism, K: Mechanism> CredSspClient<N, K> {
     ghost use Rattle.sspi_credssp.specs.Ends.{ClientView};
     ghost use Rattle.sspi_credssp.specs.ClientCall.{Awaits};
-    ghost use Rattle.sspi_credssp.specs.ClientStage.{HasDone, HasGoneOn, KeepsStep, KeepsRequest, ClientAnswers, ClientProves};
+    ghost use Rattle.sspi_credssp.specs.ClientStage.{HasDone, HasGoneOn, KeepsStep, KeepsRequest};
+    ghost use Rattle.sspi_credssp.specs.ClientStage.{ClientAnswers, ClientProves};
     ghost use Rattle.sspi_credssp.specs.ClientTurn.{ClientGoes, IsReady};
 
     pub(crate) fn negotiate(&mut self, request: TsRequest) -> Result<Progress, Refusal>
@@ -74,18 +79,23 @@ impl<N: Mechanism, K: Mechanism> CredSspClient<N, K> {
         requires acts { self.old.acts ≡ no_acts }
         requires begun { IsSome self.old.context }
         // The turn, and the step in it.
-        ensures turn { let c = either N.REQUESTS N.meaning K.meaning in (start : ClientView (SspiContext N K)) (d : TsRequest) →
-            request ≡ record d { version = self.old.settings.version } → IsReady c start d self.old →
+        ensures turn { let c = either N.REQUESTS N.meaning K.meaning
+            in (start : ClientView (SspiContext N K)) (d : TsRequest) →
+            request ≡ record d { version = self.old.settings.version } →
+            IsReady c start d self.old →
             self.old.state ≡ CredSspState.NegoToken →
             self.old.output ≡ [] → ClientGoes c start d (answered result) self.new }
-        ensures step { let c = either N.REQUESTS N.meaning K.meaning in (start : ClientView (SspiContext N K)) (d : TsRequest) →
+        ensures step { let c = either N.REQUESTS N.meaning K.meaning
+            in (start : ClientView (SspiContext N K)) (d : TsRequest) →
             d.nego_tokens ≡ request.nego_tokens → start.settings.target ≡ self.old.settings.target →
-            IfContext self.old.context (Begun c start.context start.handle (ForClient start.settings.mode) purposes.Outbound
+            IfContext self.old.context (Begun c start.context start.handle
+            (ForClient start.settings.mode) purposes.Outbound
             (Some start.settings.credentials) self.old.handle) →
             HasStepped c start d 0 [] (answered result) self.new }
         // What a refusal says.
         ensures cause { IfErr result (λ error. error.error_type ≢ ErrorKind.InsufficientMemory →
-            NegoCause (either N.REQUESTS N.meaning K.meaning) self.new.acts.status self.new error.error_type) }
+            NegoCause (either N.REQUESTS N.meaning K.meaning) self.new.acts.status self.new
+            error.error_type) }
         // What is so afterwards.
         ensures begun { IsSome self.new.context }
     {
@@ -111,28 +121,38 @@ impl<N: Mechanism, K: Mechanism> CredSspClient<N, K> {
         requires done { HasDone no_acts self.old }
         // The turn, and the step in it.
         ensures on { HasGoneOn (either N.REQUESTS N.meaning K.meaning) self.old self.new }
-        ensures turn { let c = either N.REQUESTS N.meaning K.meaning in (start : ClientView (SspiContext N K)) (d : TsRequest) →
-            request ≡ record d { version = self.old.settings.version } → IsReady c start d self.old →
+        ensures turn { let c = either N.REQUESTS N.meaning K.meaning
+            in (start : ClientView (SspiContext N K)) (d : TsRequest) →
+            request ≡ record d { version = self.old.settings.version } →
+            IsReady c start d self.old →
             self.old.state ≡ CredSspState.NegoToken →
             self.old.output ≡ [] → ClientGoes c start d (answered result) self.new }
-        ensures step { let c = either N.REQUESTS N.meaning K.meaning in (start : ClientView (SspiContext N K)) (d : TsRequest)
+        ensures step { let c = either N.REQUESTS N.meaning K.meaning
+            in (start : ClientView (SspiContext N K)) (d : TsRequest)
             (tries : ℕ) (log : List Asked) (q : NetworkRequest) →
             StepsTo c start d tries log (answers.Ask q) self.old →
-            HasStepped c start d tries (record { question = q; reply = reply.now } ∷ log) (answered result) self.new }
+            HasStepped c start d tries (record { question = q; reply = reply.now } ∷ log)
+            (answered result) self.new }
         // What a step that did not end leaves.
-        ensures still { let c = either N.REQUESTS N.meaning K.meaning in (start : ClientView (SspiContext N K)) (d : TsRequest)
+        ensures still { let c = either N.REQUESTS N.meaning K.meaning
+            in (start : ClientView (SspiContext N K)) (d : TsRequest)
             (tries : ℕ) (log : List Asked) (q : NetworkRequest) →
-            request ≡ record d { version = self.old.settings.version } → IsReady c start d self.old →
+            request ≡ record d { version = self.old.settings.version } →
+            IsReady c start d self.old →
             self.old.state ≡ CredSspState.NegoToken →
             self.old.output ≡ [] → StepsTo c start d tries log (answers.Ask q) self.old →
             OnErr result (self.new.acts.status ≡ None → is_waiting_in c self.new.context ≡ true →
-            Awaits c start d (tries + 1) (record { question = q; reply = reply.now } ∷ log) q self.new) }
-        ensures dropped { OnErr result (is_waiting_in (either N.REQUESTS N.meaning K.meaning) self.new.context ≡ false →
+            Awaits c start d (tries + 1) (record { question = q; reply = reply.now } ∷ log) q
+            self.new) }
+        ensures dropped { OnErr result (is_waiting_in (either N.REQUESTS N.meaning K.meaning)
+            self.new.context ≡ false →
             self.new.kept ≡ self.old.kept) }
         ensures falls { let c = either N.REQUESTS N.meaning K.meaning in
-            OnSuspended (answered result) (left_in c self.new.context < left_in c self.old.context) }
+            OnSuspended (answered result)
+            (left_in c self.new.context < left_in c self.old.context) }
         // What a refusal says.
-        ensures cause { IsRefusedFor result (NegoCause (either N.REQUESTS N.meaning K.meaning) self.new.acts.status self.new) }
+        ensures cause { IsRefusedFor result
+            (NegoCause (either N.REQUESTS N.meaning K.meaning) self.new.acts.status self.new) }
     {
         self.acts.negotiated = true;
         let Some(context) = &mut self.context else {
@@ -142,8 +162,8 @@ impl<N: Mechanism, K: Mechanism> CredSspClient<N, K> {
         self.go_on(progress, request)
     }
 
-    // What the step's answer comes to. The request is kept where the context waits, and so also where a refused resume
-    // waits again.
+    // What the step's answer comes to. The request is kept where the context waits, and so also
+    // where a refused resume waits again.
     fn go_on(
         &mut self,
         progress: Result<Progressing, Refusal>,
@@ -153,10 +173,13 @@ impl<N: Mechanism, K: Mechanism> CredSspClient<N, K> {
         requires done { HasDone (record no_acts { negotiated = true }) self.old }
         // The turn, and the step in it.
         ensures on { HasGoneOn (either N.REQUESTS N.meaning K.meaning) self.old self.new }
-        ensures turn { let c = either N.REQUESTS N.meaning K.meaning in (start : ClientView (SspiContext N K)) (d : TsRequest) →
-            request ≡ record d { version = self.old.settings.version } → IsReady c start d self.old →
+        ensures turn { let c = either N.REQUESTS N.meaning K.meaning
+            in (start : ClientView (SspiContext N K)) (d : TsRequest) →
+            request ≡ record d { version = self.old.settings.version } →
+            IsReady c start d self.old →
             self.old.state ≡ CredSspState.NegoToken →
-            self.old.output ≡ [] → OnAsk (answer_of (answered progress)) (is_waiting_in c self.old.context ≡ true) →
+            self.old.output ≡ [] → OnAsk (answer_of (answered progress))
+            (is_waiting_in c self.old.context ≡ true) →
             ClientGoes c start d (answered result) self.new }
         ensures step { let c = either N.REQUESTS N.meaning K.meaning in
             (start : ClientView (SspiContext N K)) (d : TsRequest) (tries : ℕ) (log : List Asked) →
@@ -164,14 +187,17 @@ impl<N: Mechanism, K: Mechanism> CredSspClient<N, K> {
             HasStepped c start d tries log (answered result) self.new }
         // What a step that did not end leaves.
         ensures still { OnErr result (self.new.acts.status ≡ None →
-            KeepsRequest (either N.REQUESTS N.meaning K.meaning) self.old (answered progress) request self.new) }
-        ensures dropped { OnErr result (is_waiting_in (either N.REQUESTS N.meaning K.meaning) self.new.context ≡ false →
+            KeepsRequest (either N.REQUESTS N.meaning K.meaning) self.old (answered progress)
+            request self.new) }
+        ensures dropped { OnErr result (is_waiting_in (either N.REQUESTS N.meaning K.meaning)
+            self.new.context ≡ false →
             self.new.kept ≡ self.old.kept) }
         ensures falls { let c = either N.REQUESTS N.meaning K.meaning in (n : ℕ) →
             OnAsk (answer_of (answered progress)) (left_in c self.old.context < n) →
             OnSuspended (answered result) (left_in c self.new.context < n) }
         // What a refusal says.
-        ensures cause { IsRefusedFor result (NegoCause (either N.REQUESTS N.meaning K.meaning) self.new.acts.status self.new) }
+        ensures cause { IsRefusedFor result
+            (NegoCause (either N.REQUESTS N.meaning K.meaning) self.new.acts.status self.new) }
     {
         match progress {
             Ok(Progressing::Done(step)) => {
@@ -201,13 +227,17 @@ impl<N: Mechanism, K: Mechanism> CredSspClient<N, K> {
         requires acts { self.old.acts ≡ record no_acts { negotiated = true } }
         requires begun { IsSome self.old.context }
         // The turn, and the step in it.
-        ensures turn { let c = either N.REQUESTS N.meaning K.meaning in (start : ClientView (SspiContext N K)) (d : TsRequest) →
-            request ≡ record d { version = self.old.settings.version } → IsReady c start d self.old →
+        ensures turn { let c = either N.REQUESTS N.meaning K.meaning
+            in (start : ClientView (SspiContext N K)) (d : TsRequest) →
+            request ≡ record d { version = self.old.settings.version } →
+            IsReady c start d self.old →
             self.old.state ≡ CredSspState.NegoToken →
             ClientAnswers c start d (answered result) self.new }
-        ensures step { KeepsStep (either N.REQUESTS N.meaning K.meaning) self.old status output self.new }
+        ensures step { KeepsStep (either N.REQUESTS N.meaning K.meaning) self.old status output
+            self.new }
         // What a refusal says.
-        ensures cause { IsRefusedFor result (NegoCause (either N.REQUESTS N.meaning K.meaning) self.new.acts.status self.new) }
+        ensures cause { IsRefusedFor result
+            (NegoCause (either N.REQUESTS N.meaning K.meaning) self.new.acts.status self.new) }
     {
         self.acts.status = Some(status);
         self.output = output;
@@ -221,16 +251,24 @@ impl<N: Mechanism, K: Mechanism> CredSspClient<N, K> {
     // The authentication has ended: the client's proof goes with the last token, if there is one.
     fn prove(&mut self, request: TsRequest) -> Result<ClientState, Refusal>
         // What must hold before.
-        requires acts { self.old.acts ≡ record no_acts { negotiated = true; status = Some SecurityStatus.Ok } }
+        requires acts { self.old.acts ≡ record no_acts {
+          negotiated = true;
+          status = Some SecurityStatus.Ok;
+        } }
         requires begun { IsSome self.old.context }
         // The turn, and the step in it.
-        ensures turn { let c = either N.REQUESTS N.meaning K.meaning in (start : ClientView (SspiContext N K)) (d : TsRequest) →
-            request ≡ record d { version = self.old.settings.version } → IsReady c start d self.old →
+        ensures turn { let c = either N.REQUESTS N.meaning K.meaning
+            in (start : ClientView (SspiContext N K)) (d : TsRequest) →
+            request ≡ record d { version = self.old.settings.version } →
+            IsReady c start d self.old →
             self.old.state ≡ CredSspState.NegoToken →
             ClientAnswers c start d (answered result) self.new }
-        ensures step { KeepsStep (either N.REQUESTS N.meaning K.meaning) self.old SecurityStatus.Ok self.old.output self.new }
+        ensures step { KeepsStep (either N.REQUESTS N.meaning K.meaning) self.old SecurityStatus.Ok
+            self.old.output self.new }
         // What a refusal says.
-        ensures cause { IsRefusedFor result (ProveCause (either N.REQUESTS N.meaning K.meaning) self.new.noted self.new.context self.new) }
+        ensures cause { IsRefusedFor result
+            (ProveCause (either N.REQUESTS N.meaning K.meaning) self.new.noted self.new.context
+            self.new) }
     {
         let tokens = copy_token(self.alloc, &self.output)?;
         let proof = self.seal_proof()?;
@@ -243,11 +281,14 @@ impl<N: Mechanism, K: Mechanism> CredSspClient<N, K> {
         requires proved { self.old.acts.proved ≡ false }
         requires begun { IsSome self.old.context }
         // What holds of every answer.
-        ensures proves { ClientProves (either N.REQUESTS N.meaning K.meaning) self.old (answered result) self.new }
-        ensures moved { SameBut (either N.REQUESTS N.meaning K.meaning) self.old.context self.new.context }
+        ensures proves { ClientProves (either N.REQUESTS N.meaning K.meaning) self.old
+            (answered result) self.new }
+        ensures moved { SameBut (either N.REQUESTS N.meaning K.meaning) self.old.context
+            self.new.context }
         // What a refusal says.
         ensures cause { IfErr result (λ error. error.error_type ≢ ErrorKind.InsufficientMemory →
-            ProveCause (either N.REQUESTS N.meaning K.meaning) self.new.noted self.new.context self.new error.error_type) }
+            ProveCause (either N.REQUESTS N.meaning K.meaning) self.new.noted self.new.context
+            self.new error.error_type) }
     {
         let Some(version) = self.peer_version else {
             return Err(Refusal::new(ErrorKind::InternalError, Reason::NoVersion));

@@ -1,9 +1,12 @@
 //! A security context: one of two mechanisms, or a SPNEGO negotiation of one.
 
-ghost use Rattle.std.specs.Prelude.{List, [], ◌∷◌, Option, ◌≡◌, ◌≢◌, ◌-◌, true, false, IsTrue, IsErr, IfOk, IfErr, OnOk, OnErr};
+ghost use Rattle.std.specs.Prelude.{List, [], ◌∷◌, Option, ◌≡◌, ◌≢◌, ◌-◌, true, false, IsTrue};
+ghost use Rattle.std.specs.Prelude.{IsErr, IfOk, IfErr, OnOk, OnErr};
 ghost use Rattle.std.specs.Prelude.{option_copied};
-ghost use Rattle.sspi_mech.specs.Calls.{step_args, accept_args, no_counts, one_sealing, one_unsealing};
-ghost use Rattle.sspi_mech.specs.Calls.{ToAcquire, ToName, ToIdentify, ToComplete, ToSeal, ToUnseal};
+ghost use Rattle.sspi_mech.specs.Calls.{step_args, accept_args, no_counts, one_sealing};
+ghost use Rattle.sspi_mech.specs.Calls.{one_unsealing};
+ghost use Rattle.sspi_mech.specs.Calls.{ToAcquire, ToName, ToIdentify, ToComplete, ToSeal};
+ghost use Rattle.sspi_mech.specs.Calls.{ToUnseal};
 ghost use Rattle.sspi_mech.specs.Answered.{IsRefusedAs};
 ghost use Rattle.sspi_mech.specs.Answers.{answer_of};
 ghost use Rattle.sspi_names.specs.declared.identity.AuthIdentity.{AuthIdentity};
@@ -25,12 +28,13 @@ use sspi_types::{CredentialUse, Error, ErrorKind, Reason, SecurityStatus};
 use std::alloc::Global;
 use std::slice::from_ref;
 
-/// A security context by one of two mechanisms, which need not be those that the variants are named after, or by a negotiation
-/// that agrees on one of them.
+/// A security context by one of two mechanisms, which need not be those that the variants are named
+/// after, or by a negotiation that agrees on one of them.
 ///
-/// Its calls answer what the selected mechanism answers. A refusal has no NTSTATUS code, and out of memory may come wherever a
-/// call takes memory. What a step refuses its relation says; another call refuses, where its text names no kind of its own, as
-/// the mechanism's `refuses` says. The kinds that are told of the plain mechanisms are theirs alone.
+/// Its calls answer what the selected mechanism answers. A refusal has no NTSTATUS code, and out of
+/// memory may come wherever a call takes memory. What a step refuses its relation says; another
+/// call refuses, where its text names no kind of its own, as the mechanism's `refuses` says. The
+/// kinds that are told of the plain mechanisms are theirs alone.
 #[derive(Drop)]
 pub enum SspiContext<N, K> {
     /// The negotiation of a mechanism (SPNEGO).
@@ -44,9 +48,12 @@ pub enum SspiContext<N, K> {
 impl<N: Mechanism, K: Mechanism> SspiContext<N, K> {
     /// The context of a client in this mode.
     pub(crate) fn new_client(alloc: Global, mode: &ClientMode) -> Result<Self, Error>
-        ensures made { IfOk result (λ context. (either N.REQUESTS N.meaning K.meaning).made (ForClient mode.now) context) }
-        ensures fresh { IfOk result (λ context. (either N.REQUESTS N.meaning K.meaning).counts context ≡ no_counts) }
-        ensures cause { IsRefusedBy result ((either N.REQUESTS N.meaning K.meaning).unmade (ForClient mode.now)) }
+        ensures made { IfOk result (λ context. (either N.REQUESTS N.meaning K.meaning).made
+            (ForClient mode.now) context) }
+        ensures fresh { IfOk result (λ context. (either N.REQUESTS N.meaning K.meaning).counts
+            context ≡ no_counts) }
+        ensures cause { IsRefusedBy result
+            ((either N.REQUESTS N.meaning K.meaning).unmade (ForClient mode.now)) }
     {
         match mode {
             ClientMode::Negotiate(config) => {
@@ -66,12 +73,16 @@ impl<N: Mechanism, K: Mechanism> SspiContext<N, K> {
         mode: &ServerMode,
         known: Vec<AuthIdentity>,
     ) -> Result<Self, Error>
-        ensures made { IfOk result (λ context. (told : Option (List AuthIdentity)) → IsListed mode.now told known.items →
+        ensures made { IfOk result (λ context. (told : Option (List AuthIdentity)) →
+            IsListed mode.now told known.items →
             (either N.REQUESTS N.meaning K.meaning).made (ForServer mode.now told) context) }
-        ensures fresh { IfOk result (λ context. (either N.REQUESTS N.meaning K.meaning).counts context ≡ no_counts) }
+        ensures fresh { IfOk result (λ context. (either N.REQUESTS N.meaning K.meaning).counts
+            context ≡ no_counts) }
         ensures codeless { IfErr result (λ error. error.nstatus ≡ None) }
-        ensures cause { IfErr result (λ error. error.error_type ≢ ErrorKind.InsufficientMemory → (told : Option (List AuthIdentity)) →
-            (either N.REQUESTS N.meaning K.meaning).unmade (ForServer mode.now told) error.error_type) }
+        ensures cause { IfErr result (λ error. error.error_type ≢ ErrorKind.InsufficientMemory →
+            (told : Option (List AuthIdentity)) →
+            (either N.REQUESTS N.meaning K.meaning).unmade (ForServer mode.now told)
+            error.error_type) }
     {
         match mode {
             ServerMode::Negotiate(config) => {
@@ -85,7 +96,8 @@ impl<N: Mechanism, K: Mechanism> SspiContext<N, K> {
         }
     }
 
-    /// The name of the context's package: of a negotiation `Negotiate`, whatever mechanism it has selected.
+    /// The name of the context's package: of a negotiation `Negotiate`, whatever mechanism it has
+    /// selected.
     pub fn package_name(&self) -> &'static str
         ensures { result.now ≡ package_name_of self.now }
     {
@@ -96,19 +108,22 @@ impl<N: Mechanism, K: Mechanism> SspiContext<N, K> {
         }
     }
 
-    /// The buffers for the handle of these credentials, or none without credentials (AcquireCredentialsHandle).
+    /// The buffers for the handle of these credentials, or none without credentials
+    /// (AcquireCredentialsHandle).
     ///
-    /// With the plain mechanisms, negotiated or not, `NoCredentials` for an outbound use without credentials. NTLM refuses a
-    /// keytab as `UnknownCredentials`, and where it was negotiated, for an outbound use as `NoCredentials`. Refused, the context
-    /// is as it was.
+    /// With the plain mechanisms, negotiated or not, `NoCredentials` for an outbound use without
+    /// credentials. NTLM refuses a keytab as `UnknownCredentials`, and where it was negotiated, for
+    /// an outbound use as `NoCredentials`. Refused, the context is as it was.
     pub fn acquire_credentials_handle(
         &mut self,
         credential_use: CredentialUse,
         auth_data: Option<&Credentials>,
     ) -> Result<Option<CredentialsBuffers>, Error>
         ensures acquired { IfOk result (λ buffers.
-            (either N.REQUESTS N.meaning K.meaning).acquires self.old credential_use (option_copied auth_data.entry) buffers self.new) }
-        ensures silent { let c = either N.REQUESTS N.meaning K.meaning in NeitherSealsNorOpens (c.counts self.old) (c.counts self.new) }
+            (either N.REQUESTS N.meaning K.meaning).acquires self.old credential_use
+            (option_copied auth_data.entry) buffers self.new) }
+        ensures silent { let c = either N.REQUESTS N.meaning K.meaning in NeitherSealsNorOpens
+            (c.counts self.old) (c.counts self.new) }
         ensures err { OnErr result (self.new ≡ self.old) }
         ensures cause { IsRefusedBy result ((either N.REQUESTS N.meaning K.meaning).refuses self.old
             (ToAcquire credential_use (option_copied auth_data.entry))) }
@@ -122,13 +137,14 @@ impl<N: Mechanism, K: Mechanism> SspiContext<N, K> {
         }
     }
 
-    /// A client's step (InitializeSecurityContext). Suspended, it goes on by `resume`. Refused as the mechanism or the
-    /// negotiation refuses.
+    /// A client's step (InitializeSecurityContext). Suspended, it goes on by `resume`. Refused as
+    /// the mechanism or the negotiation refuses.
     pub fn initialize_security_context(
         &mut self,
         args: &InitializeSecurityContext<'_>,
     ) -> Result<Progressing, Error>
-        ensures step { (either N.REQUESTS N.meaning K.meaning).steps self.old (step_args args.now) (answer_of result) self.new }
+        ensures step { (either N.REQUESTS N.meaning K.meaning).steps self.old (step_args args.now)
+            (answer_of result) self.new }
         ensures codeless { IfErr result (λ error. error.nstatus ≡ None) }
     {
         match self {
@@ -138,10 +154,11 @@ impl<N: Mechanism, K: Mechanism> SspiContext<N, K> {
         }
     }
 
-    /// Goes on with the step that was suspended, once it is known what came of its request. Refused as the mechanism or the
-    /// negotiation refuses.
+    /// Goes on with the step that was suspended, once it is known what came of its request. Refused
+    /// as the mechanism or the negotiation refuses.
     pub fn resume(&mut self, reply: &Reply) -> Result<Progressing, Error>
-        ensures step { (either N.REQUESTS N.meaning K.meaning).resumes self.old reply.now (answer_of result) self.new }
+        ensures step { (either N.REQUESTS N.meaning K.meaning).resumes self.old reply.now
+            (answer_of result) self.new }
         ensures codeless { IfErr result (λ error. error.nstatus ≡ None) }
     {
         match self {
@@ -151,12 +168,14 @@ impl<N: Mechanism, K: Mechanism> SspiContext<N, K> {
         }
     }
 
-    /// A server's step (AcceptSecurityContext). Refused as the mechanism or the negotiation refuses.
+    /// A server's step (AcceptSecurityContext). Refused as the mechanism or the negotiation
+    /// refuses.
     pub fn accept_security_context(
         &mut self,
         args: &AcceptSecurityContext<'_>,
     ) -> Result<Step, Error>
-        ensures step { (either N.REQUESTS N.meaning K.meaning).accepts self.old (accept_args args.now) result self.new }
+        ensures step { (either N.REQUESTS N.meaning K.meaning).accepts self.old
+            (accept_args args.now) result self.new }
         ensures codeless { IfErr result (λ error. error.nstatus ≡ None) }
     {
         match self {
@@ -188,11 +207,13 @@ impl<N: Mechanism, K: Mechanism> SspiContext<N, K> {
         }
     }
 
-    /// The name that was authenticated: on a server the peer's, on a client its own. With the plain mechanisms `OutOfSequence`
-    /// before it is known.
+    /// The name that was authenticated: on a server the peer's, on a client its own. With the plain
+    /// mechanisms `OutOfSequence` before it is known.
     pub fn query_context_names(&self) -> Result<ContextNames, Error>
-        ensures named { IfOk result (λ names. (either N.REQUESTS N.meaning K.meaning).names self.now ≡ Some names.username) }
-        ensures cause { IsRefusedBy result ((either N.REQUESTS N.meaning K.meaning).refuses self.now ToName) }
+        ensures named { IfOk result (λ names. (either N.REQUESTS N.meaning K.meaning).names
+            self.now ≡ Some names.username) }
+        ensures cause { IsRefusedBy result ((either N.REQUESTS N.meaning K.meaning).refuses self.now
+            ToName) }
     {
         let username = match self {
             SspiContext::Negotiate(negotiation) => return negotiation.query_context_names(),
@@ -204,18 +225,23 @@ impl<N: Mechanism, K: Mechanism> SspiContext<N, K> {
         })
     }
 
-    /// Tells a server which identity its peer may have. `IncompleteCredentials` for a keytab with NTLM selected, also
-    /// where it was negotiated; else as `custom_set_auth_identities` of this one. Refused, the context is as it was.
+    /// Tells a server which identity its peer may have. `IncompleteCredentials` for a keytab with
+    /// NTLM selected, also where it was negotiated; else as `custom_set_auth_identities` of this
+    /// one. Refused, the context is as it was.
     pub fn custom_set_auth_identity(&mut self, identity: Credentials) -> Result<(), Error>
         // What `Ok` holds, and that the counts stay.
-        ensures identified { OnOk result ((either N.REQUESTS N.meaning K.meaning).identifies self.old (identity ∷ []) self.new) }
-        ensures count { (either N.REQUESTS N.meaning K.meaning).counts self.new ≡ (either N.REQUESTS N.meaning K.meaning).counts self.old }
+        ensures identified { OnOk result ((either N.REQUESTS N.meaning K.meaning).identifies
+            self.old (identity ∷ []) self.new) }
+        ensures count { (either N.REQUESTS N.meaning K.meaning).counts
+            self.new ≡ (either N.REQUESTS N.meaning K.meaning).counts self.old }
         // What a refusal says, and what it leaves.
         ensures err { OnErr result (self.new ≡ self.old) }
         ensures codeless { IfErr result (λ error. error.nstatus ≡ None) }
         ensures keytab { is_refused_identity (protocol_of self.old) identity ≡ true →
-            IfErr result (λ error. error.error_type ≡ ErrorKind.IncompleteCredentials) × IsErr result }
-        ensures cause { let c = either N.REQUESTS N.meaning K.meaning in is_refused_identity (protocol_of self.old) identity ≡ false →
+            IfErr result (λ error. error.error_type ≡ ErrorKind.IncompleteCredentials) ×
+            IsErr result }
+        ensures cause { let c = either N.REQUESTS N.meaning K.meaning in is_refused_identity
+            (protocol_of self.old) identity ≡ false →
             IfErr result (λ error. IsRefusedAs (c.permits self.old (ToIdentify (identity ∷ [])))
             (c.refuses self.old (ToIdentify (identity ∷ []))) error.error_type) }
     {
@@ -232,20 +258,25 @@ impl<N: Mechanism, K: Mechanism> SspiContext<N, K> {
         }
     }
 
-    /// Tells a server which identities its peer may have. NTLM takes those with a password, Kerberos the first, also where
-    /// it was negotiated.
+    /// Tells a server which identities its peer may have. NTLM takes those with a password,
+    /// Kerberos the first, also where it was negotiated.
     ///
-    /// Plain NTLM answers `OutOfSequence` on a client and before its peer has proved a password, `NoCredentials` where no
-    /// identity has a password, and `LogonDenied` where none has the one that was proved. Plain Kerberos answers
-    /// `OutOfSequence` but on a server that has its session key, and `NoCredentials` for an empty list. Out of memory never
-    /// stands for any of these. Refused, the context is as it was.
+    /// Plain NTLM answers `OutOfSequence` on a client and before its peer has proved a password,
+    /// `NoCredentials` where no identity has a password, and `LogonDenied` where none has the one
+    /// that was proved. Plain Kerberos answers `OutOfSequence` but on a server that has its session
+    /// key, and `NoCredentials` for an empty list. Out of memory never stands for any of these.
+    /// Refused, the context is as it was.
     pub fn custom_set_auth_identities(&mut self, identities: Vec<Credentials>) -> Result<(), Error>
-        ensures identified { OnOk result ((either N.REQUESTS N.meaning K.meaning).identifies self.old identities.items self.new) }
-        ensures count { (either N.REQUESTS N.meaning K.meaning).counts self.new ≡ (either N.REQUESTS N.meaning K.meaning).counts self.old }
+        ensures identified { OnOk result ((either N.REQUESTS N.meaning K.meaning).identifies
+            self.old identities.items self.new) }
+        ensures count { (either N.REQUESTS N.meaning K.meaning).counts
+            self.new ≡ (either N.REQUESTS N.meaning K.meaning).counts self.old }
         ensures err { OnErr result (self.new ≡ self.old) }
-        ensures cause { IsRefusedBy result ((either N.REQUESTS N.meaning K.meaning).refuses self.old (ToIdentify identities.items)) }
+        ensures cause { IsRefusedBy result ((either N.REQUESTS N.meaning K.meaning).refuses self.old
+            (ToIdentify identities.items)) }
         ensures memory { IfErr result (λ error. error.error_type ≡ ErrorKind.InsufficientMemory →
-            (either N.REQUESTS N.meaning K.meaning).permits self.old (ToIdentify identities.items)) }
+            (either N.REQUESTS N.meaning K.meaning).permits self.old
+            (ToIdentify identities.items)) }
     {
         match self {
             SspiContext::Negotiate(negotiation) => negotiation.custom_set_auth_identities(
@@ -256,12 +287,16 @@ impl<N: Mechanism, K: Mechanism> SspiContext<N, K> {
         }
     }
 
-    /// Completes the authentication (CompleteAuthToken). With the plain mechanisms `OutOfSequence` before there is a key.
+    /// Completes the authentication (CompleteAuthToken). With the plain mechanisms `OutOfSequence`
+    /// before there is a key.
     pub fn complete_auth_token(&mut self) -> Result<SecurityStatus, Error>
         ensures same { self.new ≡ self.old }
-        ensures keyed { IsTrue ((either N.REQUESTS N.meaning K.meaning).keyed self.old) → result ≡ Ok SecurityStatus.Ok }
-        ensures permitted { OnOk result ((either N.REQUESTS N.meaning K.meaning).permits self.old ToComplete) }
-        ensures cause { IsRefusedBy result ((either N.REQUESTS N.meaning K.meaning).refuses self.old ToComplete) }
+        ensures keyed { IsTrue ((either N.REQUESTS N.meaning K.meaning).keyed self.old) →
+            result ≡ Ok SecurityStatus.Ok }
+        ensures permitted { OnOk result ((either N.REQUESTS N.meaning K.meaning).permits self.old
+            ToComplete) }
+        ensures cause { IsRefusedBy result ((either N.REQUESTS N.meaning K.meaning).refuses self.old
+            ToComplete) }
     {
         match self {
             SspiContext::Negotiate(negotiation) => negotiation.complete_auth_token(),
@@ -272,20 +307,26 @@ impl<N: Mechanism, K: Mechanism> SspiContext<N, K> {
 
     /// Seals a text for the peer, as the next of its messages: a blob of at least 16 bytes.
     ///
-    /// With the plain mechanisms `OutOfSequence` before there is a key, `ContextExpired` once all numbers of messages are used.
+    /// With the plain mechanisms `OutOfSequence` before there is a key, `ContextExpired` once all
+    /// numbers of messages are used.
     pub fn seal(&mut self, text: &[u8]) -> Result<Vec<u8>, Error>
         // What `Ok` holds.
         ensures blob { let c = either N.REQUESTS N.meaning K.meaning in
-            IfOk result (λ blob. c.seals self.new (c.counts self.old).sealings text.now blob.items) }
+            IfOk result (λ blob. c.seals self.new (c.counts self.old).sealings text.now
+            blob.items) }
         ensures last { let c = either N.REQUESTS N.meaning K.meaning in
-            IfOk result (λ blob. c.seals self.new ((c.counts self.new).sealings - 1) text.now blob.items) }
+            IfOk result (λ blob. c.seals self.new ((c.counts self.new).sealings - 1) text.now
+            blob.items) }
         ensures ok { let c = either N.REQUESTS N.meaning K.meaning in
             OnOk result (self.new ≡ c.counted self.old (one_sealing (c.counts self.old))) }
-        ensures count { let c = either N.REQUESTS N.meaning K.meaning in OnOk result (c.counts self.new ≡ one_sealing (c.counts self.old)) }
-        ensures permitted { OnOk result ((either N.REQUESTS N.meaning K.meaning).permits self.old (ToSeal text.now)) }
+        ensures count { let c = either N.REQUESTS N.meaning K.meaning in OnOk result
+            (c.counts self.new ≡ one_sealing (c.counts self.old)) }
+        ensures permitted { OnOk result ((either N.REQUESTS N.meaning K.meaning).permits self.old
+            (ToSeal text.now)) }
         // What a refusal says, and what it leaves.
         ensures err { OnErr result (self.new ≡ self.old) }
-        ensures cause { IsRefusedBy result ((either N.REQUESTS N.meaning K.meaning).refuses self.new (ToSeal text.now)) }
+        ensures cause { IsRefusedBy result ((either N.REQUESTS N.meaning K.meaning).refuses self.new
+            (ToSeal text.now)) }
     {
         match self {
             SspiContext::Negotiate(negotiation) => negotiation.seal(text),
@@ -296,23 +337,28 @@ impl<N: Mechanism, K: Mechanism> SspiContext<N, K> {
 
     /// Opens what the peer sealed, as the next of its messages.
     ///
-    /// With the plain mechanisms `OutOfSequence` before there is a key, `ContextExpired` once all numbers of messages are used,
-    /// `InvalidToken` for a blob of under 16 bytes, and `MessageAltered` for one that the peer did not seal as this message.
-    /// Out of memory never stands for any of these.
+    /// With the plain mechanisms `OutOfSequence` before there is a key, `ContextExpired` once all
+    /// numbers of messages are used, `InvalidToken` for a blob of under 16 bytes, and
+    /// `MessageAltered` for one that the peer did not seal as this message. Out of memory never
+    /// stands for any of these.
     pub fn unseal(&mut self, blob: &[u8]) -> Result<Vec<u8>, Error>
         // What `Ok` holds.
         ensures text { let c = either N.REQUESTS N.meaning K.meaning in
-            IfOk result (λ text. c.opens self.new (c.counts self.old).unsealings blob.now text.items) }
+            IfOk result (λ text. c.opens self.new (c.counts self.old).unsealings blob.now
+            text.items) }
         ensures last { let c = either N.REQUESTS N.meaning K.meaning in
-            IfOk result (λ text. c.opens self.new ((c.counts self.new).unsealings - 1) blob.now text.items) }
+            IfOk result (λ text. c.opens self.new ((c.counts self.new).unsealings - 1) blob.now
+            text.items) }
         ensures ok { let c = either N.REQUESTS N.meaning K.meaning in
             OnOk result (self.new ≡ c.counted self.old (one_unsealing (c.counts self.old))) }
         ensures count { let c = either N.REQUESTS N.meaning K.meaning in
             OnOk result (c.counts self.new ≡ one_unsealing (c.counts self.old)) }
-        ensures permitted { OnOk result ((either N.REQUESTS N.meaning K.meaning).permits self.old (ToUnseal blob.now)) }
+        ensures permitted { OnOk result ((either N.REQUESTS N.meaning K.meaning).permits self.old
+            (ToUnseal blob.now)) }
         // What a refusal says, and what it leaves.
         ensures err { OnErr result (self.new ≡ self.old) }
-        ensures cause { IsRefusedBy result ((either N.REQUESTS N.meaning K.meaning).refuses self.new (ToUnseal blob.now)) }
+        ensures cause { IsRefusedBy result ((either N.REQUESTS N.meaning K.meaning).refuses self.new
+            (ToUnseal blob.now)) }
         ensures memory { IfErr result (λ error. error.error_type ≡ ErrorKind.InsufficientMemory →
             (either N.REQUESTS N.meaning K.meaning).permits self.new (ToUnseal blob.now)) }
     {

@@ -1,4 +1,5 @@
-//! What follows where a blob opens to one text. Each law is the contract of a call that does nothing.
+//! What follows where a blob opens to one text. Each law is the contract of a call that does
+//! nothing.
 
 ghost use Rattle.std.specs.Prelude.{ℕ, List, Option, Some, Result, ◌≡◌, ◌-◌};
 ghost use Rattle.sspi_names.specs.declared.identity.AuthIdentity.{AuthIdentity};
@@ -15,19 +16,26 @@ use sspi_mech::Mechanism;
 
 /// What a context opened last holds one identity at most.
 pub fn one_identity_is_held<N: Mechanism, K: Mechanism>()
-    ensures { (context : Option (SspiContext N K)) (field : Option (List ℕ)) (identity other : AuthIdentity) →
+    ensures { (context : Option (SspiContext N K)) (field : Option (List ℕ))
+        (identity other : AuthIdentity) →
         HoldsIdentity (either N.REQUESTS N.meaning K.meaning) context field identity →
-        HoldsIdentity (either N.REQUESTS N.meaning K.meaning) context field other → identity ≡ other }
+        HoldsIdentity (either N.REQUESTS N.meaning K.meaning) context field other →
+        identity ≡ other }
 {}
 
-/// A blob that an end refused as altered did not open to the proof, also where the context has sealed since. So an end that refuses
-/// a blob which opened to the proof refuses it because what it then owes has no text, or is not sealed.
+/// A blob that an end refused as altered did not open to the proof, also where the context has
+/// sealed since. So an end that refuses a blob which opened to the proof refuses it because what it
+/// then owes has no text, or is not sealed.
 pub fn an_altered_blob_is_not_the_proof<N: Mechanism, K: Mechanism>()
     ensures altered { let c = either N.REQUESTS N.meaning K.meaning in
-        (m : SspiContext N K) (context : Option (SspiContext N K)) (blob proof : List ℕ) → SameBut c (Some m) context →
-        OpensOther c m blob proof → OpensIn c context ((c.counts m).unsealings - 1) (Some blob) proof → ⊥ }
+        (m : SspiContext N K) (context : Option (SspiContext N K)) (blob proof : List ℕ) →
+        SameBut c (Some m) context →
+        OpensOther c m blob proof → OpensIn c context ((c.counts m).unsealings - 1) (Some blob)
+        proof → ⊥ }
     ensures unsealed { let c = either N.REQUESTS N.meaning K.meaning in
-        (m : SspiContext N K) (context : Option (SspiContext N K)) (blob proof : List ℕ) → SameBut c (Some m) context →
-        OpensIn c context ((c.counts m).unsealings - 1) (Some blob) proof → (owed : Result (List ℕ) Error) (kind : ErrorKind) →
+        (m : SspiContext N K) (context : Option (SspiContext N K)) (blob proof : List ℕ) →
+        SameBut c (Some m) context →
+        OpensIn c context ((c.counts m).unsealings - 1) (Some blob) proof →
+        (owed : Result (List ℕ) Error) (kind : ErrorKind) →
         CheckedCause c m blob proof (SealsCause c m owed kind) kind → SealsCause c m owed kind }
 {}

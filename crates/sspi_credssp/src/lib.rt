@@ -1,18 +1,22 @@
 //! CredSSP (MS-CSSP): the client and the server that delegate credentials inside a TLS channel.
 //!
-//! Both ends authenticate by a security context over any two mechanisms, prove to each other that they speak over the channel
-//! of the same public key, and only then the client seals its credentials. Each call makes one turn of one delivered request.
+//! Both ends authenticate by a security context over any two mechanisms, prove to each other that
+//! they speak over the channel of the same public key, and only then the client seals its
+//! credentials. Each call makes one turn of one delivered request.
 //!
-//! - `CredSspClient` and `CredSspServer`: one `process` a message, and the client's `resume` once a KDC has replied. What a
-//!   call promises is one record, in `specs/ClientCall.antt` and `specs/ServerCall.antt`. What a turn may do and what it replies
-//!   is in `Turn.antt`, how it moves its end, with the step of the context, in `ClientTurn.antt` and `ServerTurn.antt`; the order
-//!   and the causes of the refusals are in `ClientCause.antt` and `ServerCause.antt`; when a version is pinned, or refused for its
-//!   age, in `Noted.antt`.
-//! - `SspiContext`: the security context that both drive, a mechanism or a negotiation over both; `specs/Context.antt` has what
-//!   it means.
-//! - `CredentialsProxy`: where a server looks its peers up; `TableProxy` has a list, and `FailingProxy` always fails.
+//! - `CredSspClient` and `CredSspServer`: one `process` a message, and the client's `resume` once a
+//!   KDC has replied. What a call promises is one record, in `specs/ClientCall.antt` and
+//!   `specs/ServerCall.antt`. What a turn may do and what it replies is in `Turn.antt`, how it
+//!   moves its end, with the step of the context, in `ClientTurn.antt` and `ServerTurn.antt`; the
+//!   order and the causes of the refusals are in `ClientCause.antt` and `ServerCause.antt`; when a
+//!   version is pinned, or refused for its age, in `Noted.antt`.
+//! - `SspiContext`: the security context that both drive, a mechanism or a negotiation over both;
+//!   `specs/Context.antt` has what it means.
+//! - `CredentialsProxy`: where a server looks its peers up; `TableProxy` has a list, and
+//!   `FailingProxy` always fails.
 //! - `laws`: what follows where a blob opens to one text.
-//! - `integer_increment_le` and `construct_error`: the proof below version 5, and the code that a refusal is told by.
+//! - `integer_increment_le` and `construct_error`: the proof below version 5, and the code that a
+//!   refusal is told by.
 #![tactic(auto)]
 
 pub mod acts;

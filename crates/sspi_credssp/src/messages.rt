@@ -2,7 +2,8 @@
 
 ghost use Rattle.std.specs.Prelude.{◌≡◌, IfOk, IfErr, OnErr, IsSome};
 ghost use Rattle.sspi_messages.specs.Messages.{to_encrypt, to_decrypt, to_sign, to_verify};
-ghost use Rattle.sspi_messages.specs.Messages.{Encrypts, Decrypts, Signs, Verifies, Refuses, IsRefusal, IsJudged};
+ghost use Rattle.sspi_messages.specs.Messages.{Encrypts, Decrypts, Signs, Verifies, Refuses};
+ghost use Rattle.sspi_messages.specs.Messages.{IsRefusal, IsJudged};
 ghost use Rattle.sspi_messages.specs.Buffers.{bytes_in};
 ghost use Rattle.sspi_types.specs.declared.buffer_type.BufferType.TheVariants.{Stream};
 ghost use Rattle.sspi_messages.specs.Protecting.{protecting};
@@ -45,12 +46,13 @@ impl<N: Mechanism, K: Mechanism> Protects for SspiContext<N, K> {
 }
 
 impl<N: Mechanism, K: Mechanism> SspiContext<N, K> {
-    /// Seals the text in Data as the next message (EncryptMessage): the first 16 bytes of the blob go to Token, the rest stays
-    /// in Data. The flags are not read.
+    /// Seals the text in Data as the next message (EncryptMessage): the first 16 bytes of the blob
+    /// go to Token, the rest stays in Data. The flags are not read.
     ///
-    /// Of each type the first buffer without flags is taken; `InvalidToken` where Data or Token is missing, before the
-    /// selected mechanism is asked. With the plain mechanisms `OutOfSequence` before there is a key, `ContextExpired` once all
-    /// numbers of messages are used. Refused, the context and all buffers are as they were.
+    /// Of each type the first buffer without flags is taken; `InvalidToken` where Data or Token is
+    /// missing, before the selected mechanism is asked. With the plain mechanisms `OutOfSequence`
+    /// before there is a key, `ContextExpired` once all numbers of messages are used. Refused, the
+    /// context and all buffers are as they were.
     pub fn encrypt_message(
         &mut self,
         _flags: EncryptionFlags,
@@ -58,44 +60,52 @@ impl<N: Mechanism, K: Mechanism> SspiContext<N, K> {
     ) -> Result<SecurityStatus, Error>
         ensures status { IfOk result (λ status. status ≡ SecurityStatus.Ok) }
         ensures sealed { IfOk result (λ status.
-            Encrypts (protecting (either N.REQUESTS N.meaning K.meaning)) self.old message.old self.new message.new) }
+            Encrypts (protecting (either N.REQUESTS N.meaning K.meaning)) self.old message.old
+            self.new message.new) }
         ensures refused { IfErr result (λ error.
-            Refuses (protecting (either N.REQUESTS N.meaning K.meaning)) (to_encrypt message.old) self.old error self.new) }
+            Refuses (protecting (either N.REQUESTS N.meaning K.meaning)) (to_encrypt message.old)
+            self.old error self.new) }
         ensures buffers { OnErr result (message.new ≡ message.old) }
     {
         encrypt_message(self, message)
     }
 
-    /// Opens the peer's next message (DecryptMessage) and leaves its text in Data. The blob is the bytes of Stream, or without
-    /// one those of Token followed by those of Data. Answers no flags.
+    /// Opens the peer's next message (DecryptMessage) and leaves its text in Data. The blob is the
+    /// bytes of Stream, or without one those of Token followed by those of Data. Answers no flags.
     ///
-    /// Of each type the first buffer without flags is taken; `InvalidToken` where Data is missing, where there is neither
-    /// Stream nor Token, and for a blob of under 16 bytes, before the selected mechanism is asked. With the plain mechanisms
-    /// `OutOfSequence` before there is a key, `ContextExpired` once all numbers of messages are used, `MessageAltered` for what
-    /// the peer did not seal as this message. Out of memory never stands for the refusal of a blob in Stream; Token and Data
-    /// are joined first, which takes memory. Refused, the context and all buffers are as they were.
+    /// Of each type the first buffer without flags is taken; `InvalidToken` where Data is missing,
+    /// where there is neither Stream nor Token, and for a blob of under 16 bytes, before the
+    /// selected mechanism is asked. With the plain mechanisms `OutOfSequence` before there is a
+    /// key, `ContextExpired` once all numbers of messages are used, `MessageAltered` for what the
+    /// peer did not seal as this message. Out of memory never stands for the refusal of a blob in
+    /// Stream; Token and Data are joined first, which takes memory. Refused, the context and all
+    /// buffers are as they were.
     pub fn decrypt_message(
         &mut self,
         message: &mut [SecurityBuffer],
     ) -> Result<DecryptionFlags, Error>
         ensures flags { IfOk result (λ flags. flags.0 ≡ 0) }
         ensures opened { IfOk result (λ flags.
-            Decrypts (protecting (either N.REQUESTS N.meaning K.meaning)) self.old message.old self.new message.new) }
+            Decrypts (protecting (either N.REQUESTS N.meaning K.meaning)) self.old message.old
+            self.new message.new) }
         ensures refused { IfErr result (λ error.
-            Refuses (protecting (either N.REQUESTS N.meaning K.meaning)) (to_decrypt message.old) self.old error self.new) }
+            Refuses (protecting (either N.REQUESTS N.meaning K.meaning)) (to_decrypt message.old)
+            self.old error self.new) }
         ensures judged { IfErr result (λ error. IsSome (bytes_in Stream message.old) →
-            IsJudged (protecting (either N.REQUESTS N.meaning K.meaning)) self.old (to_decrypt message.old) error.error_type) }
+            IsJudged (protecting (either N.REQUESTS N.meaning K.meaning)) self.old
+            (to_decrypt message.old) error.error_type) }
         ensures buffers { OnErr result (message.new ≡ message.old) }
     {
         decrypt_message(self, message)
     }
 
-    /// Leaves the MIC of the text in Data (MakeSignature), as the next of the own MICs, in Token. Flags and sequence number are
-    /// not read.
+    /// Leaves the MIC of the text in Data (MakeSignature), as the next of the own MICs, in Token.
+    /// Flags and sequence number are not read.
     ///
-    /// Of each type the first buffer without flags is taken; `InvalidToken` where Data or Token is missing, before the
-    /// selected mechanism is asked. With the plain mechanisms `OutOfSequence` before there is a key, `ContextExpired` once all
-    /// numbers of MICs are used. Refused, the context and all buffers are as they were.
+    /// Of each type the first buffer without flags is taken; `InvalidToken` where Data or Token is
+    /// missing, before the selected mechanism is asked. With the plain mechanisms `OutOfSequence`
+    /// before there is a key, `ContextExpired` once all numbers of MICs are used. Refused, the
+    /// context and all buffers are as they were.
     pub fn make_signature(
         &mut self,
         _flags: u32,
@@ -103,20 +113,24 @@ impl<N: Mechanism, K: Mechanism> SspiContext<N, K> {
         _sequence_number: u32,
     ) -> Result<(), Error>
         ensures signed { IfOk result (λ _.
-            Signs (protecting (either N.REQUESTS N.meaning K.meaning)) self.old message.old self.new message.new) }
+            Signs (protecting (either N.REQUESTS N.meaning K.meaning)) self.old message.old self.new
+            message.new) }
         ensures refused { IfErr result (λ error.
-            Refuses (protecting (either N.REQUESTS N.meaning K.meaning)) (to_sign message.old) self.old error self.new) }
+            Refuses (protecting (either N.REQUESTS N.meaning K.meaning)) (to_sign message.old)
+            self.old error self.new) }
         ensures buffers { OnErr result (message.new ≡ message.old) }
     {
         make_signature(self, message)
     }
 
-    /// Checks that Token is the MIC that the peer made of the text in Data (VerifySignature), as the next of its MICs, and
-    /// answers 0. Changes no buffer and takes no memory. The sequence number is not read.
+    /// Checks that Token is the MIC that the peer made of the text in Data (VerifySignature), as
+    /// the next of its MICs, and answers 0. Changes no buffer and takes no memory. The sequence
+    /// number is not read.
     ///
-    /// Of each type the first buffer without flags is taken; `InvalidToken` where Data or Token is missing, before the
-    /// selected mechanism is asked. With the plain mechanisms `OutOfSequence` before there is a key, `ContextExpired` once all
-    /// numbers of MICs are used, `MessageAltered` for another MIC. Refused, the context is as it was.
+    /// Of each type the first buffer without flags is taken; `InvalidToken` where Data or Token is
+    /// missing, before the selected mechanism is asked. With the plain mechanisms `OutOfSequence`
+    /// before there is a key, `ContextExpired` once all numbers of MICs are used, `MessageAltered`
+    /// for another MIC. Refused, the context is as it was.
     pub fn verify_signature(
         &mut self,
         message: &mut [SecurityBuffer],
@@ -125,11 +139,14 @@ impl<N: Mechanism, K: Mechanism> SspiContext<N, K> {
         // What `Ok` holds.
         ensures zero { IfOk result (λ answer. answer ≡ 0) }
         ensures verified { IfOk result (λ answer.
-            Verifies (protecting (either N.REQUESTS N.meaning K.meaning)) self.old message.old self.new) }
+            Verifies (protecting (either N.REQUESTS N.meaning K.meaning)) self.old message.old
+            self.new) }
         // What a refusal says, and what it leaves.
         ensures refused { IfErr result (λ error.
-            Refuses (protecting (either N.REQUESTS N.meaning K.meaning)) (to_verify message.old) self.old error self.new) }
-        ensures exact { IfErr result (λ error. IsRefusal (protecting (either N.REQUESTS N.meaning K.meaning)) self.old
+            Refuses (protecting (either N.REQUESTS N.meaning K.meaning)) (to_verify message.old)
+            self.old error self.new) }
+        ensures exact { IfErr result (λ error. IsRefusal
+            (protecting (either N.REQUESTS N.meaning K.meaning)) self.old
             (to_verify message.old) error.error_type) }
         ensures buffers { message.new ≡ message.old }
     {

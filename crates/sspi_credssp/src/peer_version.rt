@@ -20,7 +20,8 @@ pub fn note_version(peer_version: &mut Option<u32>, least: u32, version: u32) ->
     ensures young { OnOk result (is_old least peer_version.old version ≡ false) }
     ensures passed { OnOk result (differs peer_version.old version ≡ false) }
     // What a refusal says.
-    ensures cause { IfErr result (λ error. VersionStops least peer_version.old version error.error_type ⊥) }
+    ensures cause { IfErr result (λ error. VersionStops least peer_version.old version
+        error.error_type ⊥) }
 {
     match *peer_version {
         None if version < least => Err(Refusal::new(ErrorKind::DowngradeDetected, Reason::OldPeer)),

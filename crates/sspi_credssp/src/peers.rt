@@ -13,19 +13,22 @@ use sspi_names::AuthIdentity;
 use sspi_types::{ErrorKind, Reason};
 use std::alloc::Global;
 
-/// All identities of the proxy where a negotiation is made with them, and none elsewhere, where it is not asked.
+/// All identities of the proxy where a negotiation is made with them, and none elsewhere, where it
+/// is not asked.
 pub(crate) fn list_peers<C: CredentialsProxy>(
     alloc: Global,
     mode: &ServerMode,
     proxy: &mut C,
 ) -> Result<Vec<AuthIdentity>, Refusal>
     // What `Ok` holds, and what the proxy was asked.
-    ensures listed { IfOk result (λ known. IsListed mode.now (C.meaning.told proxy.old).entries known.items) }
+    ensures listed { IfOk result (λ known. IsListed mode.now (C.meaning.told proxy.old).entries
+        known.items) }
     ensures proxy { IsAsked C.meaning (list_calls mode.now) proxy.old proxy.new }
     ensures asked { OnOk result (HasAsked C.meaning (list_calls mode.now) proxy.old proxy.new) }
     // What a refusal says.
     ensures cause { IfErr result (λ error. error.error_type ≢ ErrorKind.InsufficientMemory →
-        ListRefused mode.now (C.meaning.faults proxy.old) (C.meaning.faults proxy.new) error.error_type) }
+        ListRefused mode.now (C.meaning.faults proxy.old) (C.meaning.faults proxy.new)
+        error.error_type) }
 {
     match mode {
         ServerMode::Negotiate(_) => list_all(proxy),
@@ -41,7 +44,8 @@ fn list_all<C: CredentialsProxy>(proxy: &mut C) -> Result<Vec<AuthIdentity>, Ref
     // What a refusal says.
     ensures risen { IfErr result (λ error. error.error_type ≢ ErrorKind.InsufficientMemory →
         counted_on (C.meaning.faults proxy.old) ≤ C.meaning.faults proxy.new) }
-    ensures kind { IfErr result (λ error. error.error_type ≢ ErrorKind.InsufficientMemory → error.error_type ≡ ErrorKind.InternalError) }
+    ensures kind { IfErr result (λ error. error.error_type ≢ ErrorKind.InsufficientMemory →
+        error.error_type ≡ ErrorKind.InternalError) }
 {
     match proxy.auth_data() {
         Ok(known) => Ok(known),

@@ -1,6 +1,7 @@
 //! Sealing, opening and comparing proofs of the public key (pubKeyAuth, MS-CSSP 3.1.5).
 
-ghost use Rattle.std.specs.Prelude.{◌≡◌, ◌≢◌, ◌-◌, None, Some, true, length, nat_lt, IfOk, IfErr, OnErr, OnOk};
+ghost use Rattle.std.specs.Prelude.{◌≡◌, ◌≢◌, ◌-◌, None, Some, true, length, nat_lt, IfOk, IfErr};
+ghost use Rattle.std.specs.Prelude.{OnErr, OnOk};
 ghost use Rattle.sspi_mech.specs.Answered.{IsRefusedAs};
 ghost use Rattle.sspi_mech.specs.Calls.{one_sealing, ToSeal, ToUnseal};
 ghost use Rattle.sspi_credssp.specs.Context.{either};
@@ -61,14 +62,17 @@ pub fn opens_to<N: Mechanism, K: Mechanism>(
 ) -> Result<bool, Refusal>
     // What `Ok` holds.
     ensures opened { IfOk result (HasOpened (either N.REQUESTS N.meaning K.meaning)
-        context.old context.new acts.old acts.new blob.now (prescribed end version nonce.now public_key.now)) }
+        context.old context.new acts.old acts.new blob.now
+        (prescribed end version nonce.now public_key.now)) }
     // What a refusal says, and what it leaves.
     ensures err { OnErr result (context.new ≡ context.old) }
     ensures err_acts { OnErr result (acts.new ≡ acts.old) }
     ensures cause { IfErr result (λ error. error.error_type ≢ ErrorKind.InsufficientMemory →
-        (either N.REQUESTS N.meaning K.meaning).refuses context.new (ToUnseal blob.now) error.error_type) }
+        (either N.REQUESTS N.meaning K.meaning).refuses context.new (ToUnseal blob.now)
+        error.error_type) }
     ensures exact { let c = either N.REQUESTS N.meaning K.meaning in IfErr result (λ error.
-        IsRefusedAs (c.permits context.new (ToUnseal blob.now)) (c.refuses context.new (ToUnseal blob.now)) error.error_type) }
+        IsRefusedAs (c.permits context.new (ToUnseal blob.now))
+        (c.refuses context.new (ToUnseal blob.now)) error.error_type) }
 {
     let mut text = context.unseal(blob)?;
     acts.checked = true;
@@ -93,7 +97,8 @@ pub fn seal_text<N: Mechanism, K: Mechanism>(
     ensures err { OnErr result (context.new ≡ context.old) }
     ensures err_noted { OnErr result (noted.new ≡ noted.old) }
     ensures cause { IfErr result (λ error. error.error_type ≢ ErrorKind.InsufficientMemory →
-        (either N.REQUESTS N.meaning K.meaning).refuses context.new (ToSeal text.now) error.error_type) }
+        (either N.REQUESTS N.meaning K.meaning).refuses context.new (ToSeal text.now)
+        error.error_type) }
 {
     let blob = context.seal(text)?;
     *noted = true;

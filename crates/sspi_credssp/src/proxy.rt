@@ -1,7 +1,8 @@
 //! The trait by which a server looks up its users.
 
 ghost use Rattle.std.specs.Prelude.{IfOk};
-ghost use Rattle.sspi_credssp.specs.Proxy.{ProxyMeaning, IsEntry, IsTold, AreFound, IsList, HasAnswered};
+ghost use Rattle.sspi_credssp.specs.Proxy.{ProxyMeaning, IsEntry, IsTold, AreFound, IsList};
+ghost use Rattle.sspi_credssp.specs.Proxy.{HasAnswered};
 
 use sspi_names::{AuthIdentity, Username};
 use std::alloc::AllocError;
@@ -43,8 +44,9 @@ impl From<AllocError> for ProxyError {
 
 /// Where a server looks up the identities of its peers.
 ///
-/// Names are compared by form, account and domain, without the case of ASCII letters. A call that answers `Failed` has raised
-/// the count of faults, but for one that found it as high as it goes. Each count stays at `u64::MAX` once it is there.
+/// Names are compared by form, account and domain, without the case of ASCII letters. A call that
+/// answers `Failed` has raised the count of faults, but for one that found it as high as it goes.
+/// Each count stays at `u64::MAX` once it is there.
 pub trait CredentialsProxy: Drop {
     // What the object tells of itself, and how many calls were made and failed.
     ghost meaning: { ProxyMeaning Self };
@@ -54,19 +56,21 @@ pub trait CredentialsProxy: Drop {
         ensures call { HasAnswered meaning self.old result self.new }
         ensures entry { IsEntry (meaning.told self.old).entries username.now result };
 
-    /// All identities of this name, in their order: none where there is none. A user may have several, such as one with the
-    /// current password and one with the previous one.
+    /// All identities of this name, in their order: none where there is none. A user may have
+    /// several, such as one with the current password and one with the previous one.
     fn auth_data_candidates_by_user(
         &mut self,
         username: &Username,
     ) -> Result<Vec<AuthIdentity>, ProxyError>
         ensures call { HasAnswered meaning self.old result self.new }
-        ensures found { IfOk result (λ identities. AreFound (meaning.told self.old) username.now identities.items) }
+        ensures found { IfOk result (λ identities. AreFound (meaning.told self.old) username.now
+            identities.items) }
         ensures list { IsList result };
 
     /// All identities.
     fn auth_data(&mut self) -> Result<Vec<AuthIdentity>, ProxyError>
         ensures call { HasAnswered meaning self.old result self.new }
-        ensures listed { IfOk result (λ identities. IsTold (meaning.told self.old).entries identities.items) }
+        ensures listed { IfOk result (λ identities. IsTold (meaning.told self.old).entries
+            identities.items) }
         ensures list { IsList result };
 }

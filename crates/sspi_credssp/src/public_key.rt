@@ -30,7 +30,8 @@ pub fn hash_magics_are_prescribed()
     ensures server { SERVER_CLIENT_HASH_MAGIC ≡ magic EndpointType.Server }
 {}
 
-/// Adds one to a little-endian number, modulo 256 to the count of its bytes. An empty list stays empty.
+/// Adds one to a little-endian number, modulo 256 to the count of its bytes. An empty list stays
+/// empty.
 pub fn integer_increment_le(buffer: &mut [u8])
     ensures { buffer.new ≡ incremented buffer.old }
 {
@@ -43,8 +44,8 @@ pub fn integer_increment_le(buffer: &mut [u8])
     }
 }
 
-/// Takes one from a little-endian number, modulo 256 to the count of its bytes; adding one undoes it. An empty list stays
-/// empty.
+/// Takes one from a little-endian number, modulo 256 to the count of its bytes; adding one undoes
+/// it. An empty list stays empty.
 pub fn integer_decrement_le(buffer: &mut [u8])
     ensures taken { buffer.new ≡ decremented buffer.old }
     ensures undone { incremented buffer.new ≡ buffer.old }
@@ -60,7 +61,8 @@ pub fn integer_decrement_le(buffer: &mut [u8])
 
 /// Taking one away undoes adding one, on numbers of every length.
 pub fn decrement_undoes_increment()
-    ensures { (bytes : List ℕ) → All (λ b. b < 256) bytes → decremented (incremented bytes) ≡ bytes }
+    ensures { (bytes : List ℕ) → All (λ b. b < 256) bytes →
+        decremented (incremented bytes) ≡ bytes }
 {}
 
 fn hash_magic(endpoint: EndpointType) -> [u8; 38]
@@ -72,9 +74,9 @@ fn hash_magic(endpoint: EndpointType) -> [u8; 38]
     }
 }
 
-/// The text that `endpoint` seals as its proof of the channel's key, by the version that its peer speaks
-/// (MS-CSSP 3.1.5): from version 5 on the hash of its magic, the client's nonce and the key; below 5 the
-/// key from the client, and from the server the key with one added.
+/// The text that `endpoint` seals as its proof of the channel's key, by the version that its peer
+/// speaks (MS-CSSP 3.1.5): from version 5 on the hash of its magic, the client's nonce and the key;
+/// below 5 the key from the client, and from the server the key with one added.
 #[tactic(auto, unfolding(crate::specs::Exchange::prescribed))]
 pub(crate) fn prescribed_proof(
     alloc: Global,
@@ -83,7 +85,8 @@ pub(crate) fn prescribed_proof(
     nonce: &[u8],
     public_key: &[u8],
 ) -> Result<Bytes, AllocError>
-    ensures { IfOk result (λ proof. proof ≡ prescribed endpoint peer_version nonce.now public_key.now) }
+    ensures { IfOk result (λ proof. proof ≡ prescribed endpoint peer_version nonce.now
+        public_key.now) }
 {
     if peer_version < FIRST_HASHED_VERSION {
         return echo_of(alloc, endpoint, public_key);
@@ -91,8 +94,8 @@ pub(crate) fn prescribed_proof(
     Bytes::from_slice(alloc, &hash_of(endpoint, nonce, public_key))
 }
 
-/// Whether this text is the one that `endpoint` seals as its proof. Takes no memory, so what is no proof is told whatever
-/// memory there is. The text is not kept.
+/// Whether this text is the one that `endpoint` seals as its proof. Takes no memory, so what is no
+/// proof is told whatever memory there is. The text is not kept.
 #[tactic(auto, unfolding(crate::specs::Exchange::prescribed))]
 pub(crate) fn is_prescribed(
     text: &mut [u8],
@@ -101,8 +104,10 @@ pub(crate) fn is_prescribed(
     nonce: &[u8],
     public_key: &[u8],
 ) -> bool
-    ensures same { IsTrue result → text.old ≡ prescribed endpoint peer_version nonce.now public_key.now }
-    ensures other { result ≡ false → text.old ≢ prescribed endpoint peer_version nonce.now public_key.now }
+    ensures same { IsTrue result → text.old ≡ prescribed endpoint peer_version nonce.now
+        public_key.now }
+    ensures other { result ≡ false → text.old ≢ prescribed endpoint peer_version nonce.now
+        public_key.now }
 {
     if peer_version < FIRST_HASHED_VERSION {
         return is_echo(text, endpoint, public_key);

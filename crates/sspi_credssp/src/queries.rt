@@ -26,11 +26,14 @@ impl<N: Mechanism, K: Mechanism> SspiContext<N, K> {
         }
     }
 
-    /// The session key of the selected mechanism. With the plain mechanisms `OutOfSequence` before there is one.
+    /// The session key of the selected mechanism. With the plain mechanisms `OutOfSequence` before
+    /// there is one.
     pub fn query_context_session_key(&self) -> Result<SessionKeys, Error>
         ensures key { IfOk result (λ keys.
-            (either N.REQUESTS N.meaning K.meaning).session_key self.now ≡ Some keys.session_key.value) }
-        ensures cause { IsRefusedBy result ((either N.REQUESTS N.meaning K.meaning).refuses self.now ToShowKey) }
+            (either N.REQUESTS N.meaning K.meaning).session_key self.now ≡ Some
+            keys.session_key.value) }
+        ensures cause { IsRefusedBy result ((either N.REQUESTS N.meaning K.meaning).refuses self.now
+            ToShowKey) }
     {
         match self {
             SspiContext::Negotiate(negotiation) => negotiation.query_context_session_key(),
@@ -39,10 +42,13 @@ impl<N: Mechanism, K: Mechanism> SspiContext<N, K> {
         }
     }
 
-    /// The entry of the package: of a negotiation the entry of Negotiate, else that of the mechanism.
+    /// The entry of the package: of a negotiation the entry of Negotiate, else that of the
+    /// mechanism.
     pub fn query_context_package_info(&self) -> Result<PackageInfo, Error>
-        ensures entry { IfOk result (λ info. info ≡ (either N.REQUESTS N.meaning K.meaning).entry self.now) }
-        ensures cause { IsRefusedBy result ((either N.REQUESTS N.meaning K.meaning).refuses self.now ToDescribe) }
+        ensures entry { IfOk result (λ info. info ≡ (either N.REQUESTS N.meaning K.meaning).entry
+            self.now) }
+        ensures cause { IsRefusedBy result ((either N.REQUESTS N.meaning K.meaning).refuses self.now
+            ToDescribe) }
     {
         match self {
             SspiContext::Negotiate(negotiation) => negotiation.query_context_package_info(),
@@ -51,10 +57,13 @@ impl<N: Mechanism, K: Mechanism> SspiContext<N, K> {
         }
     }
 
-    /// The entry of the mechanism that a negotiation has selected. `UnsupportedFunction` where nothing is negotiated.
+    /// The entry of the mechanism that a negotiation has selected. `UnsupportedFunction` where
+    /// nothing is negotiated.
     pub fn query_context_negotiation_package(&self) -> Result<PackageInfo, Error>
-        ensures entry { IfOk result (λ info. negotiated_entry N.meaning K.meaning self.now ≡ Some info) }
-        ensures none { negotiated_entry N.meaning K.meaning self.now ≡ None → result ≡ Err unsupported }
+        ensures entry { IfOk result (λ info. negotiated_entry N.meaning K.meaning self.now ≡ Some
+            info) }
+        ensures none { negotiated_entry N.meaning K.meaning self.now ≡ None →
+            result ≡ Err unsupported }
         ensures cause { IsRefusedBy result (RefusesNegotiated N.meaning K.meaning self.now) }
     {
         match self {

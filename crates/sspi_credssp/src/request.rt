@@ -27,7 +27,11 @@ pub fn with_proof(
     nonce: [u8; 32],
     proof: Bytes,
 ) -> TsRequest
-    ensures { result ≡ record request { nego_tokens = tokens; client_nonce = Some nonce; pub_key_auth = Some proof } }
+    ensures { result ≡ record request {
+      nego_tokens = tokens;
+      client_nonce = Some nonce;
+      pub_key_auth = Some proof;
+    } }
 {
     let mut request = request;
     request.nego_tokens = tokens;
@@ -37,7 +41,11 @@ pub fn with_proof(
 }
 
 pub fn with_credentials(request: TsRequest, credentials: Bytes) -> TsRequest
-    ensures { result ≡ record request { nego_tokens = None; pub_key_auth = None; auth_info = Some credentials } }
+    ensures { result ≡ record request {
+      nego_tokens = None;
+      pub_key_auth = None;
+      auth_info = Some credentials;
+    } }
 {
     let mut request = request;
     request.nego_tokens = None;

@@ -29,8 +29,9 @@ use sspi_types::{Bytes, CredentialUse, ErrorKind, Reason};
 use std::alloc::Global;
 use std::marker::Model;
 
-/// The CredSSP server (MS-CSSP 3.1.5.2): it authenticates its client, checks that the client speaks over the channel of its
-/// own public key, proves the same, and reads the credentials that the client then delegates.
+/// The CredSSP server (MS-CSSP 3.1.5.2): it authenticates its client, checks that the client speaks
+/// over the channel of its own public key, proves the same, and reads the credentials that the
+/// client then delegates.
 #[derive(Drop)]
 pub struct CredSspServer<N, K, C> {
     pub(crate) alloc: Global,
@@ -97,8 +98,8 @@ impl<N, K, C> CredSspServer<N, K, C> {
 
     /// A server of this version of CredSSP, to which nothing was delivered yet. Takes no memory.
     ///
-    /// `public_key` is the SubjectPublicKey of the channel's certificate, and `credentials` is where the server looks its
-    /// peers up.
+    /// `public_key` is the SubjectPublicKey of the channel's certificate, and `credentials` is
+    /// where the server looks its peers up.
     pub fn new_with_version(
         alloc: Global,
         public_key: Vec<u8>,
@@ -107,7 +108,8 @@ impl<N, K, C> CredSspServer<N, K, C> {
         server_mode: ServerMode,
     ) -> CredSspServer<N, K, C>
         ensures fresh { IsFreshServer result }
-        ensures settings { result.settings ≡ new_server public_key.items ts_request_version server_mode }
+        ensures settings { result.settings ≡ new_server public_key.items ts_request_version
+            server_mode }
         ensures proxy { result.proxy ≡ credentials }
     {
         CredSspServer {
@@ -126,9 +128,9 @@ impl<N, K, C> CredSspServer<N, K, C> {
         }
     }
 
-    /// The same server, which refuses a client whose first version is below this; 0 takes every version. Without this call
-    /// the least is 5: below it the proofs are the key itself and one more than it (MS-CSSP 3.1.5), which whoever relays the
-    /// exchange can choose. Takes no memory.
+    /// The same server, which refuses a client whose first version is below this; 0 takes every
+    /// version. Without this call the least is 5: below it the proofs are the key itself and one
+    /// more than it (MS-CSSP 3.1.5), which whoever relays the exchange can choose. Takes no memory.
     pub fn with_least_version(self, least: u32) -> CredSspServer<N, K, C>
         ensures { result ≡ record self { settings = record self.settings { least = least } } }
     {
@@ -137,7 +139,8 @@ impl<N, K, C> CredSspServer<N, K, C> {
         server
     }
 
-    /// Takes the token that the context's step gave in the last call; empty where no step answered, and once it was taken.
+    /// Takes the token that the context's step gave in the last call; empty where no step answered,
+    /// and once it was taken.
     pub fn take_output(&mut self) -> Bytes
         ensures output { result ≡ self.old.output }
         ensures rest { self.new ≡ record self.old { output = [] } }
@@ -165,32 +168,39 @@ impl<N: Mechanism, K: Mechanism, C: CredentialsProxy> CredSspServer<N, K, C> {
     ghost use Rattle.sspi_credssp.specs.Proxy.{look_ups_at};
     ghost use Rattle.sspi_credssp.specs.ServerCall.{ServerCall};
     ghost use Rattle.sspi_credssp.specs.ServerCause.{MakeCause, StateCause, StateExact};
-    ghost use Rattle.sspi_credssp.specs.ServerStage.{HasDone, IsAtStep, LooksAt, MakesContext, BeginRefused, IsReady};
+    ghost use Rattle.sspi_credssp.specs.ServerStage.{HasDone, IsAtStep, LooksAt, MakesContext};
+    ghost use Rattle.sspi_credssp.specs.ServerStage.{BeginRefused, IsReady};
     ghost use Rattle.sspi_credssp.specs.ServerTurn.{HasAcceptedTurn, server_setting, ServerGoes};
 
-    /// Takes the client's message and makes the server's next one, or reads the credentials that end the exchange.
+    /// Takes the client's message and makes the server's next one, or reads the credentials that
+    /// end the exchange.
     ///
-    /// Where there is no context yet it is made first; a negotiation is made with the list of the proxy, which is asked for it
-    /// at no other time. At the end of the authentication the proxy is asked for the peer, once.
+    /// Where there is no context yet it is made first; a negotiation is made with the list of the
+    /// proxy, which is asked for it at no other time. At the end of the authentication the proxy is
+    /// asked for the peer, once.
     ///
-    /// Refused, in this order: `InternalError` where the proxy's list failed; with the kinds of a new context;
-    /// `DowngradeDetected` where no version of the client is pinned yet and this one is below the least, which then is not
-    /// pinned; `MessageAltered` where the client changes its version; then by the state. In the authentication with the kinds of
-    /// the context's step; `InternalError` at a status that neither goes on nor ends it; with the kinds of naming its peer;
-    /// `LogonDenied` where the look-up failed, `NoCredentials` where it found nobody; with the kinds of taking the identities
-    /// that were found, as `LogonDenied` for a wrong password, and of completing; `InvalidToken` where it ended with neither a
-    /// token nor a proof. With a proof `InvalidToken` where it is absent, where from version 5 on the nonce is, or where it has
-    /// under 16 bytes; with the kinds of opening it; `MessageAltered` where it is not the right one; with the kinds of sealing
-    /// the own one. With the credentials `InvalidToken` where they are absent or have under 16 bytes, then the kinds of opening
-    /// and of reading them. `UnsupportedFunction` once they were read. Out of memory may come in place of any of these but the
-    /// two of the version, of a server that has its context, and, past the authentication, an absent or short proof, an absent
-    /// nonce, a proof that the context does not open or that is not the right one, absent, short or altered credentials, and
-    /// that last one.
+    /// Refused, in this order: `InternalError` where the proxy's list failed; with the kinds of a
+    /// new context; `DowngradeDetected` where no version of the client is pinned yet and this one
+    /// is below the least, which then is not pinned; `MessageAltered` where the client changes its
+    /// version; then by the state. In the authentication with the kinds of the context's step;
+    /// `InternalError` at a status that neither goes on nor ends it; with the kinds of naming its
+    /// peer; `LogonDenied` where the look-up failed, `NoCredentials` where it found nobody; with
+    /// the kinds of taking the identities that were found, as `LogonDenied` for a wrong password,
+    /// and of completing; `InvalidToken` where it ended with neither a token nor a proof. With a
+    /// proof `InvalidToken` where it is absent, where from version 5 on the nonce is, or where it
+    /// has under 16 bytes; with the kinds of opening it; `MessageAltered` where it is not the right
+    /// one; with the kinds of sealing the own one. With the credentials `InvalidToken` where they
+    /// are absent or have under 16 bytes, then the kinds of opening and of reading them.
+    /// `UnsupportedFunction` once they were read. Out of memory may come in place of any of these
+    /// but the two of the version, of a server that has its context, and, past the authentication,
+    /// an absent or short proof, an absent nonce, a proof that the context does not open or that is
+    /// not the right one, absent, short or altered credentials, and that last one.
     ///
-    /// A refusal hands the request back with its code. The state, the mode and what was acquired before stay, and a context
-    /// that this call made stays with its credentials.
+    /// A refusal hands the request back with its code. The state, the mode and what was acquired
+    /// before stay, and a context that this call made stays with its credentials.
     pub fn process(&mut self, ts_request: TsRequest) -> Result<ServerState, ServerError>
-        ensures { ServerCall (either N.REQUESTS N.meaning K.meaning) C.meaning self.old ts_request result self.new }
+        ensures { ServerCall (either N.REQUESTS N.meaning K.meaning) C.meaning self.old ts_request
+            result self.new }
     {
         self.forget_last_call();
         match self.begin(ts_request.version) {
@@ -215,20 +225,32 @@ impl<N: Mechanism, K: Mechanism, C: CredentialsProxy> CredSspServer<N, K, C> {
         } }
         ensures ready { let c = either N.REQUESTS N.meaning K.meaning in
             OnOk result ((start : ServerView (SspiContext N K) C) (d : TsRequest) →
-            d.version ≡ version → self.old ≡ record start { acts = no_acts; output = [] } → IsReady c start d self.new) }
-        ensures made { MakesContext (either N.REQUESTS N.meaning K.meaning) C.meaning self.old self.new }
-        ensures passed { OnOk result (IsSome self.new.context × (differs self.old.noted version ≡ false)
-            × (is_old self.old.settings.least self.old.noted version ≡ false) × IsSome self.new.noted) }
+            d.version ≡ version → self.old ≡ record start { acts = no_acts; output = [] } →
+            IsReady c start d self.new) }
+        ensures made { MakesContext (either N.REQUESTS N.meaning K.meaning) C.meaning self.old
+            self.new }
+        ensures passed { OnOk result (IsSome self.new.context ×
+            (differs self.old.noted version ≡ false)
+            × (is_old self.old.settings.least self.old.noted version ≡ false) ×
+            IsSome self.new.noted) }
         // What a refusal says, and what it leaves.
-        ensures refused { OnErr result (BeginRefused (either N.REQUESTS N.meaning K.meaning) self.old version self.new
-            × (self.new ≡ record self.old { proxy = self.new.proxy; context = self.new.context; handle = self.new.handle })) }
+        ensures refused { OnErr result (BeginRefused (either N.REQUESTS N.meaning K.meaning)
+            self.old version self.new
+            × (self.new ≡ record self.old {
+              proxy = self.new.proxy;
+              context = self.new.context;
+              handle = self.new.handle;
+            })) }
         ensures looked { LooksAt version self.old (answered result) self.new }
-        ensures cause { let c = either N.REQUESTS N.meaning K.meaning in IfErr result (λ error. let kind = error.error_type in
+        ensures cause { let c = either N.REQUESTS N.meaning K.meaning in IfErr result
+            (λ error. let kind = error.error_type in
             MadeOr self.old.context self.new.context
-            (OrMemory kind (MakeCause c C.meaning self.old.settings.mode self.old.proxy self.new.proxy kind))
+            (OrMemory kind (MakeCause c C.meaning self.old.settings.mode self.old.proxy
+            self.new.proxy kind))
             (VersionStops self.old.settings.least self.old.noted version kind ⊥)) }
         // What the proxy was asked.
-        ensures proxy { Asks C.meaning (lists_in self.old.context self.old.settings.mode) result self.old.proxy self.new.proxy }
+        ensures proxy { Asks C.meaning (lists_in self.old.context self.old.settings.mode) result
+            self.old.proxy self.new.proxy }
     {
         match &self.context {
             Some(_) => note_version(&mut self.peer_version, self.least_version, version),
@@ -239,22 +261,32 @@ impl<N: Mechanism, K: Mechanism, C: CredentialsProxy> CredSspServer<N, K, C> {
         }
     }
 
-    // The context and the credentials that it acquires are kept only together. A negotiation is made with the proxy's list.
+    // The context and the credentials that it acquires are kept only together. A negotiation is
+    // made with the proxy's list.
     fn make_context(&mut self) -> Result<(), Refusal>
         // What must hold before.
         requires { self.old.context ≡ None }
         // What `Ok` holds, and what alone may change.
-        ensures frame { self.new ≡ record self.old { proxy = self.new.proxy; context = self.new.context; handle = self.new.handle } }
-        ensures begun { let c = either N.REQUESTS N.meaning K.meaning in OnOk result (IfContext self.new.context
-            (Begun c self.old.context self.old.handle (server_setting C.meaning self.old) purposes.Inbound None self.new.handle)) }
-        ensures made { OnOk result (IsSome self.new.context × IsUnusedIn (either N.REQUESTS N.meaning K.meaning) self.new.context) }
+        ensures frame { self.new ≡ record self.old {
+          proxy = self.new.proxy;
+          context = self.new.context;
+          handle = self.new.handle;
+        } }
+        ensures begun { let c = either N.REQUESTS N.meaning K.meaning in OnOk result
+            (IfContext self.new.context
+            (Begun c self.old.context self.old.handle (server_setting C.meaning self.old)
+            purposes.Inbound None self.new.handle)) }
+        ensures made { OnOk result (IsSome self.new.context ×
+            IsUnusedIn (either N.REQUESTS N.meaning K.meaning) self.new.context) }
         // What a refusal says, and what it leaves.
         ensures err { OnErr result (self.new ≡ record self.old { proxy = self.new.proxy }) }
         ensures fresh { (self.old.noted ≡ None) × (self.old.state ≡ CredSspState.NegoToken) }
         ensures cause { let c = either N.REQUESTS N.meaning K.meaning in
-            IsRefusedFor result (MakeCause c C.meaning self.old.settings.mode self.old.proxy self.new.proxy) }
+            IsRefusedFor result (MakeCause c C.meaning self.old.settings.mode self.old.proxy
+            self.new.proxy) }
         // What the proxy was asked.
-        ensures proxy { Asks C.meaning (list_calls self.old.settings.mode) result self.old.proxy self.new.proxy }
+        ensures proxy { Asks C.meaning (list_calls self.old.settings.mode) result self.old.proxy
+            self.new.proxy }
     {
         let known = list_peers(self.alloc, &self.server_mode, &mut self.credentials)?;
         let context = SspiContext::new_server(self.alloc, &self.server_mode, known)?;
@@ -272,23 +304,31 @@ impl<N: Mechanism, K: Mechanism, C: CredentialsProxy> CredSspServer<N, K, C> {
         // What must hold before.
         requires { HasDone no_acts self.old }
         // The turn, and the step in it.
-        ensures turn { let c = either N.REQUESTS N.meaning K.meaning in (start : ServerView (SspiContext N K) C) (d : TsRequest) →
-            request ≡ record d { version = self.old.settings.version } → IsReady c start d self.old → self.old.output ≡ [] →
+        ensures turn { let c = either N.REQUESTS N.meaning K.meaning
+            in (start : ServerView (SspiContext N K) C) (d : TsRequest) →
+            request ≡ record d { version = self.old.settings.version } →
+            IsReady c start d self.old → self.old.output ≡ [] →
             ServerGoes c start d result self.new }
-        ensures step { let c = either N.REQUESTS N.meaning K.meaning in (start : ServerView (SspiContext N K) C) (d : TsRequest) →
+        ensures step { let c = either N.REQUESTS N.meaning K.meaning
+            in (start : ServerView (SspiContext N K) C) (d : TsRequest) →
             d.nego_tokens ≡ request.nego_tokens → IsAtStep c C.meaning start self.old →
             HasAcceptedTurn c C.meaning start d result self.new }
         // What a refusal says.
-        ensures cause { let c = either N.REQUESTS N.meaning K.meaning in (start : ServerView (SspiContext N K) C) (d : TsRequest) →
-            request ≡ record d { version = self.old.settings.version } → IsAtStep c C.meaning start self.old →
+        ensures cause { let c = either N.REQUESTS N.meaning K.meaning
+            in (start : ServerView (SspiContext N K) C) (d : TsRequest) →
+            request ≡ record d { version = self.old.settings.version } →
+            IsAtStep c C.meaning start self.old →
             IfErr result (λ refusal. refusal.error.error_type ≢ ErrorKind.InsufficientMemory →
             StateCause c C.meaning self.old.state start d self.new refusal.error.error_type) }
         ensures exact { IfErr result (λ refusal.
-            StateExact (either N.REQUESTS N.meaning K.meaning) self.old.state request self.new refusal.error.error_type) }
+            StateExact (either N.REQUESTS N.meaning K.meaning) self.old.state request self.new
+            refusal.error.error_type) }
         ensures codeless { IfErr result (λ refusal. refusal.error.nstatus ≡ None) }
         // What is so afterwards, and what the proxy was asked.
-        ensures begun { IsSome self.new.context × (self.old.state ≡ CredSspState.NegoToken → self.new.acts.negotiated ≡ true) }
-        ensures proxy { Asks C.meaning (look_ups_at self.new.acts.status) result self.old.proxy self.new.proxy }
+        ensures begun { IsSome self.new.context ×
+            (self.old.state ≡ CredSspState.NegoToken → self.new.acts.negotiated ≡ true) }
+        ensures proxy { Asks C.meaning (look_ups_at self.new.acts.status) result self.old.proxy
+            self.new.proxy }
     {
         match self.state {
             CredSspState::NegoToken => self.negotiate(request),

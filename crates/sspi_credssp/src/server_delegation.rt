@@ -1,10 +1,12 @@
 //! The server past its authentication: the exchange of proofs, and the credentials.
 
-ghost use Rattle.std.specs.Prelude.{◌≡◌, ◌≢◌, ◌-◌, [], None, Some, true, false, nat_lt, IsSome, OnOk, OnErr, IfOk, IfErr};
+ghost use Rattle.std.specs.Prelude.{◌≡◌, ◌≢◌, ◌-◌, [], None, Some, true, false, nat_lt, IsSome};
+ghost use Rattle.std.specs.Prelude.{OnOk, OnErr, IfOk, IfErr};
 ghost use Rattle.sspi_mech.specs.Calls.{ToSeal};
 ghost use Rattle.sspi_credssp.specs.Acts.{no_acts};
 ghost use Rattle.sspi_credssp.specs.Context.{either};
-ghost use Rattle.sspi_credssp.specs.Exchange.{AlteredExactly, BlobStops, OpensIdentity, ProofCause, prescribed};
+ghost use Rattle.sspi_credssp.specs.Exchange.{AlteredExactly, BlobStops, OpensIdentity, ProofCause};
+ghost use Rattle.sspi_credssp.specs.Exchange.{prescribed};
 ghost use Rattle.sspi_credssp.specs.Opened.{Exchanges, Opens};
 ghost use Rattle.sspi_credssp.specs.Requests.{nonce_of};
 ghost use Rattle.sspi_credssp.specs.ServerCause.{OpenedCause, OpenedExact, lacks_nonce};
@@ -61,8 +63,12 @@ fn answer_proof<N: Mechanism, K: Mechanism>(
     requires proved { acts.old.proved ≡ false }
     // What holds of every answer.
     ensures exchanges { Exchanges (either N.REQUESTS N.meaning K.meaning) context.old blob.now
-        (prescribed EndpointType.Client version nonce.now public_key.now) context.new acts.new.checked acts.new.proved result }
-    ensures acts { acts.new ≡ record acts.old { checked = acts.new.checked; proved = acts.new.proved } }
+        (prescribed EndpointType.Client version nonce.now public_key.now) context.new
+        acts.new.checked acts.new.proved result }
+    ensures acts { acts.new ≡ record acts.old {
+      checked = acts.new.checked;
+      proved = acts.new.proved;
+    } }
     // What `Ok` holds.
     ensures blob { let c = either N.REQUESTS N.meaning K.meaning in IfOk result (λ answer.
         c.seals context.new ((c.counts context.new).sealings - 1)
@@ -70,11 +76,16 @@ fn answer_proof<N: Mechanism, K: Mechanism>(
     // What a refusal says.
     ensures cause { let c = either N.REQUESTS N.meaning K.meaning in
         IfErr result (λ error. error.error_type ≢ ErrorKind.InsufficientMemory →
-        ProofCause c acts.new.checked context.new blob.now (prescribed EndpointType.Client version nonce.now public_key.now)
-        (c.refuses context.new (ToSeal (prescribed EndpointType.Server version nonce.now public_key.now)) error.error_type)
+        ProofCause c acts.new.checked context.new blob.now
+        (prescribed EndpointType.Client version nonce.now public_key.now)
+        (c.refuses context.new
+        (ToSeal (prescribed EndpointType.Server version nonce.now public_key.now))
+        error.error_type)
         error.error_type) }
-    ensures exact { IfErr result (λ error. AlteredExactly (either N.REQUESTS N.meaning K.meaning) acts.new.checked context.new
-        blob.now (prescribed EndpointType.Client version nonce.now public_key.now) error.error_type) }
+    ensures exact { IfErr result (λ error. AlteredExactly (either N.REQUESTS N.meaning K.meaning)
+        acts.new.checked context.new
+        blob.now (prescribed EndpointType.Client version nonce.now public_key.now)
+        error.error_type) }
     ensures ended { OnErr result (acts.new.proved ≡ false) }
 {
     if opens_to(
@@ -102,15 +113,19 @@ fn open_credentials<N: Mechanism, K: Mechanism>(
     // What must hold before.
     requires { acts.old.opened ≡ false }
     // What holds of every answer.
-    ensures opens { Opens (either N.REQUESTS N.meaning K.meaning) context.old context.new acts.old acts.new }
+    ensures opens { Opens (either N.REQUESTS N.meaning K.meaning) context.old context.new acts.old
+        acts.new }
     // What `Ok` holds.
     ensures ok { OnOk result (acts.new.opened ≡ true) }
-    ensures gives { IfOk result (λ identity. OpensIdentity (either N.REQUESTS N.meaning K.meaning) context.new blob.now identity) }
+    ensures gives { IfOk result (λ identity. OpensIdentity (either N.REQUESTS N.meaning K.meaning)
+        context.new blob.now identity) }
     // What a refusal says.
     ensures cause { IfErr result (λ error. error.error_type ≢ ErrorKind.InsufficientMemory →
-        OpenedCause (either N.REQUESTS N.meaning K.meaning) acts.new.opened (Some context.new) blob.now error.error_type) }
+        OpenedCause (either N.REQUESTS N.meaning K.meaning) acts.new.opened (Some context.new)
+        blob.now error.error_type) }
     ensures exact { IfErr result (λ error.
-        OpenedExact (either N.REQUESTS N.meaning K.meaning) acts.new.opened (Some context.new) blob.now error.error_type) }
+        OpenedExact (either N.REQUESTS N.meaning K.meaning) acts.new.opened (Some context.new)
+        blob.now error.error_type) }
 {
     let text = context.unseal(blob)?;
     acts.opened = true;
@@ -121,21 +136,27 @@ impl<N: Mechanism, K: Mechanism, C: CredentialsProxy> CredSspServer<N, K, C> {
     ghost use Rattle.sspi_credssp.specs.Ends.{ServerView};
     ghost use Rattle.sspi_credssp.specs.ServerCause.{ExchangeCause, ExchangeExact};
     ghost use Rattle.sspi_credssp.specs.ServerTurn.{ServerGoes};
-    ghost use Rattle.sspi_credssp.specs.ServerStage.{HasDone, ServerExchanges, ServerOpens, IsReady};
+    ghost use Rattle.sspi_credssp.specs.ServerStage.{HasDone, ServerExchanges, ServerOpens};
+    ghost use Rattle.sspi_credssp.specs.ServerStage.{IsReady};
 
     pub(crate) fn prove(&mut self, request: TsRequest) -> Result<ServerState, ServerError>
         // What must hold before.
         requires { HasDone no_acts self.old }
         // The turn.
-        ensures turn { let c = either N.REQUESTS N.meaning K.meaning in (start : ServerView (SspiContext N K) C) (d : TsRequest) →
-            request ≡ record d { version = self.old.settings.version } → IsReady c start d self.old →
+        ensures turn { let c = either N.REQUESTS N.meaning K.meaning
+            in (start : ServerView (SspiContext N K) C) (d : TsRequest) →
+            request ≡ record d { version = self.old.settings.version } →
+            IsReady c start d self.old →
             self.old.state ≡ CredSspState.PubKeyInfo →
             self.old.output ≡ [] → ServerGoes c start d result self.new }
         // What a refusal says.
-        ensures cause { IfErr result (λ refusal. refusal.error.error_type ≢ ErrorKind.InsufficientMemory →
-            ExchangeCause (either N.REQUESTS N.meaning K.meaning) request.pub_key_auth self.new.noted
+        ensures cause { IfErr result (λ refusal.
+            refusal.error.error_type ≢ ErrorKind.InsufficientMemory →
+            ExchangeCause (either N.REQUESTS N.meaning K.meaning) request.pub_key_auth
+            self.new.noted
             request.client_nonce self.new refusal.error.error_type) }
-        ensures exact { IfErr result (λ refusal. ExchangeExact (either N.REQUESTS N.meaning K.meaning) request.pub_key_auth
+        ensures exact { IfErr result (λ refusal. ExchangeExact
+            (either N.REQUESTS N.meaning K.meaning) request.pub_key_auth
             self.new.noted request.client_nonce self.new refusal.error.error_type) }
         ensures codeless { IfErr result (λ refusal. refusal.error.nstatus ≡ None) }
         // What is so afterwards.
@@ -155,18 +176,22 @@ impl<N: Mechanism, K: Mechanism, C: CredentialsProxy> CredSspServer<N, K, C> {
         // What must hold before.
         requires { HasDone no_acts self.old }
         // The turn.
-        ensures turn { let c = either N.REQUESTS N.meaning K.meaning in (start : ServerView (SspiContext N K) C) (d : TsRequest) →
-            request ≡ record d { version = self.old.settings.version } → IsReady c start d self.old →
+        ensures turn { let c = either N.REQUESTS N.meaning K.meaning
+            in (start : ServerView (SspiContext N K) C) (d : TsRequest) →
+            request ≡ record d { version = self.old.settings.version } →
+            IsReady c start d self.old →
             self.old.state ≡ CredSspState.AuthInfo →
             self.old.output ≡ [] → ServerGoes c start d result self.new }
         // What a refusal says.
         ensures cause { let c = either N.REQUESTS N.meaning K.meaning in
             IfErr result (λ refusal. refusal.error.error_type ≢ ErrorKind.InsufficientMemory →
             BlobStops request.auth_info refusal.error.error_type
-            (λ blob. OpenedCause c self.new.acts.opened self.new.context blob refusal.error.error_type)) }
+            (λ blob. OpenedCause c self.new.acts.opened self.new.context blob
+            refusal.error.error_type)) }
         ensures exact { let c = either N.REQUESTS N.meaning K.meaning in
             IfErr result (λ refusal. BlobStops request.auth_info refusal.error.error_type
-            (λ blob. OpenedExact c self.new.acts.opened self.new.context blob refusal.error.error_type)) }
+            (λ blob. OpenedExact c self.new.acts.opened self.new.context blob
+            refusal.error.error_type)) }
         ensures codeless { IfErr result (λ refusal. refusal.error.nstatus ≡ None) }
         // What is so afterwards.
         ensures acts { (self.new.acts.status ≡ None) × (self.new.acts.negotiated ≡ false) }
@@ -187,11 +212,14 @@ impl<N: Mechanism, K: Mechanism, C: CredentialsProxy> CredSspServer<N, K, C> {
         requires acts { self.old.acts ≡ no_acts }
         requires begun { IsSome self.old.context }
         // What holds of every answer.
-        ensures opens { ServerOpens (either N.REQUESTS N.meaning K.meaning) self.old auth_info.now (answered result) self.new }
+        ensures opens { ServerOpens (either N.REQUESTS N.meaning K.meaning) self.old auth_info.now
+            (answered result) self.new }
         // What a refusal says.
         ensures cause { let c = either N.REQUESTS N.meaning K.meaning in
             IfErr result (λ error. error.error_type ≢ ErrorKind.InsufficientMemory →
-            BlobStops auth_info.now error.error_type (λ blob. OpenedCause c self.new.acts.opened self.new.context blob error.error_type)) }
+            BlobStops auth_info.now error.error_type
+            (λ blob. OpenedCause c self.new.acts.opened self.new.context blob
+            error.error_type)) }
         ensures exact { let c = either N.REQUESTS N.meaning K.meaning in
             IfErr result (λ error. BlobStops auth_info.now error.error_type
             (λ blob. OpenedExact c self.new.acts.opened self.new.context blob error.error_type)) }
@@ -212,12 +240,15 @@ impl<N: Mechanism, K: Mechanism, C: CredentialsProxy> CredSspServer<N, K, C> {
         requires begun { IsSome self.old.context }
         requires noted { IsSome self.old.noted }
         // What holds of every answer.
-        ensures exchanges { ServerExchanges (either N.REQUESTS N.meaning K.meaning) self.old request.now (answered result) self.new }
+        ensures exchanges { ServerExchanges (either N.REQUESTS N.meaning K.meaning) self.old
+            request.now (answered result) self.new }
         // What a refusal says.
         ensures cause { IfErr result (λ error. error.error_type ≢ ErrorKind.InsufficientMemory →
-            ExchangeCause (either N.REQUESTS N.meaning K.meaning) request.now.pub_key_auth self.new.noted
+            ExchangeCause (either N.REQUESTS N.meaning K.meaning) request.now.pub_key_auth
+            self.new.noted
             request.now.client_nonce self.new error.error_type) }
-        ensures exact { IfErr result (λ error. ExchangeExact (either N.REQUESTS N.meaning K.meaning) request.now.pub_key_auth
+        ensures exact { IfErr result (λ error. ExchangeExact (either N.REQUESTS N.meaning K.meaning)
+            request.now.pub_key_auth
             self.new.noted request.now.client_nonce self.new error.error_type) }
         ensures ended { OnErr result (self.new.acts.proved ≡ false) }
         // What is so afterwards.

@@ -1,6 +1,7 @@
 //! The server's authentication: the steps of its context, and the look-up of its peer.
 
-ghost use Rattle.std.specs.Prelude.{ℕ, List, Option, Result, Ok, ◌≡◌, ◌≢◌, [], map, None, Some, true, false, IsTrue, OnOk};
+ghost use Rattle.std.specs.Prelude.{ℕ, List, Option, Result, Ok, ◌≡◌, ◌≢◌, [], map, None, Some};
+ghost use Rattle.std.specs.Prelude.{true, false, IsTrue, OnOk};
 ghost use Rattle.std.specs.Prelude.{OnErr, IfOk, IfErr};
 ghost use Rattle.sspi_names.specs.declared.credentials.Credentials.TheVariants as credentials;
 ghost use Rattle.sspi_credssp.specs.Acts.{no_acts, SameBut};
@@ -82,13 +83,15 @@ fn look_up<C: CredentialsProxy>(
     username: &Username,
 ) -> Result<Vec<AuthIdentity>, Refusal>
     // What `Ok` holds, and what the proxy was asked.
-    ensures found { IfOk result (λ identities. AreFound (C.meaning.told proxy.old) username.now identities.items) }
+    ensures found { IfOk result (λ identities. AreFound (C.meaning.told proxy.old) username.now
+        identities.items) }
     ensures some { IfOk result (λ identities. identities.items ≢ []) }
     ensures proxy { IsAsked C.meaning 1 proxy.old proxy.new }
     ensures asked { OnOk result (HasAsked C.meaning 1 proxy.old proxy.new) }
     // What a refusal says.
     ensures cause { IfErr result (λ error. error.error_type ≢ ErrorKind.InsufficientMemory →
-        LookUpRefused (C.meaning.told proxy.old) username.now (C.meaning.faults proxy.old) (C.meaning.faults proxy.new) error.error_type) }
+        LookUpRefused (C.meaning.told proxy.old) username.now (C.meaning.faults proxy.old)
+        (C.meaning.faults proxy.new) error.error_type) }
 {
     match proxy.auth_data_candidates_by_user(username) {
         Ok(candidates) => some_of(candidates),
@@ -134,7 +137,8 @@ fn identify<N: Mechanism, K: Mechanism, C: CredentialsProxy>(
     // What was identified, and what a refusal leaves.
     ensures identified { OnOk result (IsIdentified (either N.REQUESTS N.meaning K.meaning)
         (C.meaning.told proxy.old) context.old context.new) }
-    ensures counts { let c = either N.REQUESTS N.meaning K.meaning in c.counts context.new ≡ c.counts context.old }
+    ensures counts { let c = either N.REQUESTS N.meaning K.meaning in c.counts
+        context.new ≡ c.counts context.old }
     ensures err { OnErr result (context.new ≡ context.old) }
     // What the proxy was asked.
     ensures proxy { IsAsked C.meaning 1 proxy.old proxy.new }
@@ -142,7 +146,8 @@ fn identify<N: Mechanism, K: Mechanism, C: CredentialsProxy>(
     // What a refusal says.
     ensures cause { IfErr result (λ error. error.error_type ≢ ErrorKind.InsufficientMemory →
         IdentifyCause (either N.REQUESTS N.meaning K.meaning)
-        context.old (C.meaning.told proxy.old) (C.meaning.faults proxy.old) (C.meaning.faults proxy.new) error.error_type) }
+        context.old (C.meaning.told proxy.old) (C.meaning.faults proxy.old)
+        (C.meaning.faults proxy.new) error.error_type) }
 {
     let names = context.query_context_names()?;
     let candidates = look_up(proxy, &names.username)?;
@@ -154,29 +159,37 @@ impl<N: Mechanism, K: Mechanism, C: CredentialsProxy> CredSspServer<N, K, C> {
     ghost use Rattle.sspi_credssp.specs.Proxy.{Asks, look_ups_at};
     ghost use Rattle.sspi_credssp.specs.Ends.{ServerView};
     ghost use Rattle.sspi_credssp.specs.ServerCause.{NegoCause, OverCause, AfterCause};
-    ghost use Rattle.sspi_credssp.specs.ServerStage.{HasDone, HasReached, IsAtStep, KeepsStep, CompletedStep, Answered, IsReady};
-    ghost use Rattle.sspi_credssp.specs.ServerTurn.{Unknown, Accepted, HasCome, HasAccepted, HasAcceptedTurn, ServerGoes};
+    ghost use Rattle.sspi_credssp.specs.ServerStage.{HasDone, HasReached, IsAtStep, KeepsStep};
+    ghost use Rattle.sspi_credssp.specs.ServerStage.{CompletedStep, Answered, IsReady};
+    ghost use Rattle.sspi_credssp.specs.ServerTurn.{Unknown, Accepted, HasCome, HasAccepted};
+    ghost use Rattle.sspi_credssp.specs.ServerTurn.{HasAcceptedTurn, ServerGoes};
 
     pub(crate) fn negotiate(&mut self, request: TsRequest) -> Result<ServerState, ServerError>
         // What must hold before.
         requires { HasDone no_acts self.old }
         // The turn, and the step in it.
-        ensures turn { let c = either N.REQUESTS N.meaning K.meaning in (start : ServerView (SspiContext N K) C) (d : TsRequest) →
-            request ≡ record d { version = self.old.settings.version } → IsReady c start d self.old →
+        ensures turn { let c = either N.REQUESTS N.meaning K.meaning
+            in (start : ServerView (SspiContext N K) C) (d : TsRequest) →
+            request ≡ record d { version = self.old.settings.version } →
+            IsReady c start d self.old →
             self.old.state ≡ CredSspState.NegoToken →
             self.old.output ≡ [] → ServerGoes c start d result self.new }
-        ensures step { let c = either N.REQUESTS N.meaning K.meaning in (start : ServerView (SspiContext N K) C) (d : TsRequest) →
+        ensures step { let c = either N.REQUESTS N.meaning K.meaning
+            in (start : ServerView (SspiContext N K) C) (d : TsRequest) →
             d.nego_tokens ≡ request.nego_tokens → IsAtStep c C.meaning start self.old →
             HasAcceptedTurn c C.meaning start d result self.new }
         // What a refusal says.
-        ensures cause { let c = either N.REQUESTS N.meaning K.meaning in (start : ServerView (SspiContext N K) C) (d : TsRequest) →
-            request ≡ record d { version = self.old.settings.version } → IsAtStep c C.meaning start self.old →
+        ensures cause { let c = either N.REQUESTS N.meaning K.meaning
+            in (start : ServerView (SspiContext N K) C) (d : TsRequest) →
+            request ≡ record d { version = self.old.settings.version } →
+            IsAtStep c C.meaning start self.old →
             IfErr result (λ refusal. refusal.error.error_type ≢ ErrorKind.InsufficientMemory →
             NegoCause c C.meaning self.new.acts.status start d self.new refusal.error.error_type) }
         ensures codeless { IfErr result (λ refusal. refusal.error.nstatus ≡ None) }
         // What is so afterwards, and what the proxy was asked.
         ensures reached { HasReached self.new.acts.status self.new }
-        ensures proxy { Asks C.meaning (look_ups_at self.new.acts.status) result self.old.proxy self.new.proxy }
+        ensures proxy { Asks C.meaning (look_ups_at self.new.acts.status) result self.old.proxy
+            self.new.proxy }
     {
         match self.answer(&request) {
             Ok(answer) => Ok(ServerState::ReplyNeeded(with_answer(request, answer))),
@@ -188,22 +201,29 @@ impl<N: Mechanism, K: Mechanism, C: CredentialsProxy> CredSspServer<N, K, C> {
         // What must hold before.
         requires { HasDone no_acts self.old }
         // The turn, and the step in it.
-        ensures turn { let c = either N.REQUESTS N.meaning K.meaning in (start : ServerView (SspiContext N K) C) (d : TsRequest) →
-            request.now ≡ record d { version = self.old.settings.version } → IsReady c start d self.old →
+        ensures turn { let c = either N.REQUESTS N.meaning K.meaning
+            in (start : ServerView (SspiContext N K) C) (d : TsRequest) →
+            request.now ≡ record d { version = self.old.settings.version } →
+            IsReady c start d self.old →
             self.old.state ≡ CredSspState.NegoToken →
             self.old.output ≡ [] → Answered c start d (answered result) self.new }
-        ensures step { let c = either N.REQUESTS N.meaning K.meaning in (start : ServerView (SspiContext N K) C) (d : TsRequest) →
+        ensures step { let c = either N.REQUESTS N.meaning K.meaning
+            in (start : ServerView (SspiContext N K) C) (d : TsRequest) →
             d.nego_tokens ≡ request.now.nego_tokens → IsAtStep c C.meaning start self.old →
             HasAccepted c C.meaning start d (answered result) self.new }
-        ensures kept { (self.new.settings.version ≡ self.old.settings.version) × OnErr result (self.new.state ≡ self.old.state) }
+        ensures kept { (self.new.settings.version ≡ self.old.settings.version) ×
+            OnErr result (self.new.state ≡ self.old.state) }
         // What a refusal says.
-        ensures cause { let c = either N.REQUESTS N.meaning K.meaning in (start : ServerView (SspiContext N K) C) (d : TsRequest) →
-            request.now ≡ record d { version = self.old.settings.version } → IsAtStep c C.meaning start self.old →
+        ensures cause { let c = either N.REQUESTS N.meaning K.meaning
+            in (start : ServerView (SspiContext N K) C) (d : TsRequest) →
+            request.now ≡ record d { version = self.old.settings.version } →
+            IsAtStep c C.meaning start self.old →
             IfErr result (λ error. error.error_type ≢ ErrorKind.InsufficientMemory →
             NegoCause c C.meaning self.new.acts.status start d self.new error.error_type) }
         // What is so afterwards, and what the proxy was asked.
         ensures reached { HasReached self.new.acts.status self.new }
-        ensures proxy { Asks C.meaning (look_ups_at self.new.acts.status) result self.old.proxy self.new.proxy }
+        ensures proxy { Asks C.meaning (look_ups_at self.new.acts.status) result self.old.proxy
+            self.new.proxy }
     {
         self.acts.negotiated = true;
         let Some(context) = &mut self.context else {
@@ -223,25 +243,32 @@ impl<N: Mechanism, K: Mechanism, C: CredentialsProxy> CredSspServer<N, K, C> {
         // What must hold before.
         requires { HasDone (record no_acts { negotiated = true; status = Some status }) self.old }
         // The turn, and the step in it.
-        ensures turn { let c = either N.REQUESTS N.meaning K.meaning in (start : ServerView (SspiContext N K) C) (d : TsRequest) →
-            request.now ≡ record d { version = self.old.settings.version } → IsReady c start d self.old →
+        ensures turn { let c = either N.REQUESTS N.meaning K.meaning
+            in (start : ServerView (SspiContext N K) C) (d : TsRequest) →
+            request.now ≡ record d { version = self.old.settings.version } →
+            IsReady c start d self.old →
             self.old.state ≡ CredSspState.NegoToken →
             Answered c start d (answered result) self.new }
-        ensures step { let c = either N.REQUESTS N.meaning K.meaning in (start : ServerView (SspiContext N K) C) (d : TsRequest) →
+        ensures step { let c = either N.REQUESTS N.meaning K.meaning
+            in (start : ServerView (SspiContext N K) C) (d : TsRequest) →
             IsLater C.meaning start.proxy self.old.proxy →
-            IfContext self.old.context (Accepted c C.meaning start self.old.handle d.nego_tokens Unknown
+            IfContext self.old.context (Accepted c C.meaning start self.old.handle d.nego_tokens
+            Unknown
             (Ok (record { status = status; output = self.old.output }))) →
             HasAccepted c C.meaning start d (answered result) self.new }
         ensures kept { KeepsStep self.old result self.new }
         // What a refusal says.
-        ensures cause { let c = either N.REQUESTS N.meaning K.meaning in (start : ServerView (SspiContext N K) C) (d : TsRequest) →
-            request.now ≡ record d { version = self.old.settings.version } → IsLater C.meaning start.proxy self.old.proxy →
+        ensures cause { let c = either N.REQUESTS N.meaning K.meaning
+            in (start : ServerView (SspiContext N K) C) (d : TsRequest) →
+            request.now ≡ record d { version = self.old.settings.version } →
+            IsLater C.meaning start.proxy self.old.proxy →
             HasCome c C.meaning Unknown status start d self.old →
             IfErr result (λ error. error.error_type ≢ ErrorKind.InsufficientMemory →
             NegoCause c C.meaning (Some status) start d self.new error.error_type) }
         // What is so afterwards, and what the proxy was asked.
         ensures reached { HasReached (Some status) self.new }
-        ensures proxy { Asks C.meaning (look_ups_at self.new.acts.status) result self.old.proxy self.new.proxy }
+        ensures proxy { Asks C.meaning (look_ups_at self.new.acts.status) result self.old.proxy
+            self.new.proxy }
     {
         if status == SecurityStatus::ContinueNeeded {
             return Ok(Answer::Token(self.copy_output()?));
@@ -259,27 +286,35 @@ impl<N: Mechanism, K: Mechanism, C: CredentialsProxy> CredSspServer<N, K, C> {
         Ok(self.output.clone(self.alloc)?)
     }
 
-    // The authentication has ended: the peer is looked up and the context completed, and then the client is answered.
+    // The authentication has ended: the peer is looked up and the context completed, and then the
+    // client is answered.
     fn complete(&mut self, request: &TsRequest) -> Result<Answer, Refusal>
         // What must hold before.
-        requires { HasDone (record no_acts { negotiated = true; status = self.old.acts.status }) self.old }
+        requires { HasDone (record no_acts { negotiated = true; status = self.old.acts.status })
+            self.old }
         // The turn, and the step in it.
-        ensures turn { let c = either N.REQUESTS N.meaning K.meaning in (start : ServerView (SspiContext N K) C) (d : TsRequest) →
-            request.now ≡ record d { version = self.old.settings.version } → IsReady c start d self.old →
+        ensures turn { let c = either N.REQUESTS N.meaning K.meaning
+            in (start : ServerView (SspiContext N K) C) (d : TsRequest) →
+            request.now ≡ record d { version = self.old.settings.version } →
+            IsReady c start d self.old →
             self.old.state ≡ CredSspState.NegoToken →
             IsOver self.old.acts.status → Answered c start d (answered result) self.new }
         ensures step { let c = either N.REQUESTS N.meaning K.meaning in
-            (start : ServerView (SspiContext N K) C) (token : Option (List ℕ)) (answer : Result Step Error) →
+            (start : ServerView (SspiContext N K) C) (token : Option (List ℕ))
+            (answer : Result Step Error) →
             IsLater C.meaning start.proxy self.old.proxy →
-            IfContext self.old.context (Accepted c C.meaning start self.old.handle token Unknown answer) →
-            CompletedStep c C.meaning start self.old.handle token answer (answered result) self.new.context }
+            IfContext self.old.context (Accepted c C.meaning start self.old.handle token Unknown
+            answer) →
+            CompletedStep c C.meaning start self.old.handle token answer (answered result)
+            self.new.context }
         // What is so afterwards.
         ensures kept { KeepsStep self.old result self.new }
         ensures reached { HasReached self.old.acts.status self.new }
         // What a refusal says.
         ensures cause { let c = either N.REQUESTS N.meaning K.meaning in
             (start : ServerView (SspiContext N K) C) (d : TsRequest) (status : SecurityStatus) →
-            request.now ≡ record d { version = self.old.settings.version } → IsLater C.meaning start.proxy self.old.proxy →
+            request.now ≡ record d { version = self.old.settings.version } →
+            IsLater C.meaning start.proxy self.old.proxy →
             HasCome c C.meaning Unknown status start d self.old →
             IfErr result (λ error. error.error_type ≢ ErrorKind.InsufficientMemory →
             OverCause c C.meaning status start d self.new error.error_type) }
@@ -297,20 +332,29 @@ impl<N: Mechanism, K: Mechanism, C: CredentialsProxy> CredSspServer<N, K, C> {
     // Answers the proof that came already, or asks for it by the last token.
     fn answer_peer(&mut self, request: &TsRequest) -> Result<Answer, Refusal>
         // What must hold before.
-        requires { HasDone (record no_acts { negotiated = true; status = self.old.acts.status }) self.old }
+        requires { HasDone (record no_acts { negotiated = true; status = self.old.acts.status })
+            self.old }
         // The turn.
-        ensures turn { let c = either N.REQUESTS N.meaning K.meaning in (start : ServerView (SspiContext N K) C) (d : TsRequest) →
-            request.now ≡ record d { version = self.old.settings.version } → IsReady c start d self.old →
+        ensures turn { let c = either N.REQUESTS N.meaning K.meaning
+            in (start : ServerView (SspiContext N K) C) (d : TsRequest) →
+            request.now ≡ record d { version = self.old.settings.version } →
+            IsReady c start d self.old →
             self.old.state ≡ CredSspState.NegoToken →
             IsOver self.old.acts.status → Answered c start d (answered result) self.new }
         // What alone may change, and where the end then stands.
-        ensures frame { self.new ≡ record self.old { state = self.new.state; context = self.new.context; acts = self.new.acts } }
-        ensures moved { SameBut (either N.REQUESTS N.meaning K.meaning) self.old.context self.new.context }
+        ensures frame { self.new ≡ record self.old {
+          state = self.new.state;
+          context = self.new.context;
+          acts = self.new.acts;
+        } }
+        ensures moved { SameBut (either N.REQUESTS N.meaning K.meaning) self.old.context
+            self.new.context }
         ensures state { OnErr result (self.new.state ≡ self.old.state) }
         ensures reached { HasReached self.old.acts.status self.new }
         // What a refusal says.
         ensures cause { IfErr result (λ error. error.error_type ≢ ErrorKind.InsufficientMemory →
-            AfterCause (either N.REQUESTS N.meaning K.meaning) request.now.pub_key_auth request.now.client_nonce self.new
+            AfterCause (either N.REQUESTS N.meaning K.meaning) request.now.pub_key_auth
+            request.now.client_nonce self.new
             error.error_type) }
     {
         match &request.pub_key_auth {

@@ -24,13 +24,23 @@ impl Model for TableProxy {
 
     ghost Value = { TableView };
 
-    ghost view = { λ a. record { entries = a.entries.items; failing = a.failing.items; calls = a.calls; faults = a.faults } };
+    ghost view = { λ a. record {
+      entries = a.entries.items;
+      failing = a.failing.items;
+      calls = a.calls;
+      faults = a.faults;
+    } };
 }
 
 impl TableProxy {
     /// A proxy over these entries. The calls whose numbers, from 0, are in `failing` fail.
     pub fn new(alloc: Global, entries: Vec<AuthIdentity>, failing: Vec<u64>) -> TableProxy
-        ensures { result ≡ record { entries = entries.items; failing = failing.items; calls = 0; faults = 0 } }
+        ensures { result ≡ record {
+          entries = entries.items;
+          failing = failing.items;
+          calls = 0;
+          faults = 0;
+        } }
     {
         TableProxy {
             alloc,
@@ -45,7 +55,10 @@ impl TableProxy {
     fn count(&mut self) -> bool
         // Which call fails, and what alone may change.
         ensures fails { result ≡ fails_at self.old.failing self.old.calls }
-        ensures counted { self.new ≡ record self.old { calls = counted_on self.old.calls; faults = self.new.faults } }
+        ensures counted { self.new ≡ record self.old {
+          calls = counted_on self.old.calls;
+          faults = self.new.faults;
+        } }
         // When the count of faults rises.
         ensures rises { self.old.faults ≤ self.new.faults }
         ensures failed { IsTrue result → counted_on self.old.faults ≤ self.new.faults }

@@ -21,7 +21,8 @@ pub enum End {
 pub struct Turn {
     /// The end that made the turn.
     pub end: End,
-    /// The request as it was read from the delivery; the client's first is one that it makes itself.
+    /// The request as it was read from the delivery; the client's first is one that it makes
+    /// itself.
     pub delivered: TsRequest,
     /// What the end did on its security context, also in a turn that was refused.
     pub acts: Acts,

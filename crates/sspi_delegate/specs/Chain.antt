@@ -1,5 +1,6 @@
 -- The contexts of each end's turns as a chain, and what the client's KDC was asked in them.
-use Rattle.std.specs.Prelude.{◌≡◌, ℕ, ◌≤◌, List, [], ◌∷◌, Option, None, Some, IsSome, Result, Ok, Err, Bool, true, false}
+use Rattle.std.specs.Prelude.{◌≡◌, ℕ, ◌≤◌, List, [], ◌∷◌, Option, None, Some, IsSome, Result, Ok}
+use Rattle.std.specs.Prelude.{Err, Bool, true, false}
 use Rattle.sspi_types.specs.declared.credential_use.CredentialUse.TheVariants.{Inbound}
 use Rattle.sspi_types.specs.declared.error.Error.{Error}
 use Rattle.sspi_types.specs.declared.security_status.SecurityStatus.{SecurityStatus}
@@ -21,7 +22,8 @@ use Rattle.sspi_credssp.specs.ClientTurn.{Asked, Walked}
 use Rattle.sspi_credssp.specs.Context.{Begun, IfContext, ContextSetting}
 use Rattle.sspi_credssp.specs.Ends.{ClientView, ServerView}
 use Rattle.sspi_credssp.specs.Proxy.{ProxyMeaning}
-use Rattle.sspi_credssp.specs.ServerTurn.{Knowing, Unknown, Accepted, RefusedAt, known_at, server_setting, UnlessMade}
+use Rattle.sspi_credssp.specs.ServerTurn.{Knowing, Unknown, Accepted, RefusedAt, known_at}
+use Rattle.sspi_credssp.specs.ServerTurn.{server_setting, UnlessMade}
 use Rattle.sspi_delegate.specs.declared.answer.DelegateError.{DelegateError}
 use Rattle.sspi_delegate.specs.declared.answer.DelegateError.TheVariants as errors
 use Rattle.sspi_delegate.specs.declared.answer.Delegation.{Delegation}
@@ -29,15 +31,19 @@ use Rattle.sspi_delegate.specs.Turns.{made_in, opened_in, AllGoOn}
 
 -- ---- What a KDC was asked in an exchange, and what it replied.
 
--- how calls move a KDC: those with these questions and replies, the newest first; and one that had no memory for its reply
+-- how calls move a KDC: those with these questions and replies, the newest first; and one that had
+-- no memory for its reply
 pub record KdcCalls (D : Type 0) : Type 1 where
   pub replies : D → List Asked → D → Type 0
   pub lost : D → D → Type 0
 
--- where the replies are told, this is the one told of the question as that call, and the count of faults rises only with a failure
-abbrev pub RepliesAsTold : Option (ℕ → NetworkRequest → Reply) → ℕ → NetworkRequest → Reply → ℕ → ℕ → Type 0
+-- where the replies are told, this is the one told of the question as that call, and the count of
+-- faults rises only with a failure
+abbrev pub RepliesAsTold : Option (ℕ → NetworkRequest → Reply) → ℕ → NetworkRequest → Reply → ℕ →
+    ℕ → Type 0
 RepliesAsTold None call question reply before now = Unit {0}
-RepliesAsTold (Some told) call question (Answered bytes) before now = (told call question ≡ Answered bytes) × (now ≡ before)
+RepliesAsTold (Some told) call question (Answered bytes) before now =
+    (told call question ≡ Answered bytes) × (now ≡ before)
 RepliesAsTold (Some told) call question Failed before now = told call question ≡ Failed
 
 -- a failure is counted, or finds the count at its last value; the count never falls
@@ -52,11 +58,13 @@ IsCalmWhereTold (Some told) before now = now ≡ before
 
 module _ {D : Type 0} (told : D → Option (ℕ → NetworkRequest → Reply)) (calls faults : D → ℕ) where
   -- one call, and its reply
-  pub record HasReplied (before : D) (question : NetworkRequest) (reply : Reply) (now : D) : Type 0 where
-    pub told_same : told now ≡ told before
-    pub called : calls now ≡ counted_on (calls before)
-    pub as_told : RepliesAsTold (told before) (calls before) question reply (faults before) (faults now)
-    pub counted : CountsReply reply (faults before) (faults now)
+  pub record HasReplied (before : D) (question : NetworkRequest) (reply : Reply) (now : D) : Type 0
+    where
+      pub told_same : told now ≡ told before
+      pub called : calls now ≡ counted_on (calls before)
+      pub as_told : RepliesAsTold (told before) (calls before) question reply (faults before)
+          (faults now)
+      pub counted : CountsReply reply (faults before) (faults now)
 
   -- one call that had no memory for its reply
   pub record HasNoReply (before now : D) : Type 0 where
@@ -64,10 +72,12 @@ module _ {D : Type 0} (told : D → Option (ℕ → NetworkRequest → Reply)) (
     pub called : calls now ≡ counted_on (calls before)
     pub calm : IsCalmWhereTold (told before) (faults before) (faults now)
 
-  -- from a KDC that was `first` these calls, the newest first, lead to one that is `now`; nothing else moves it
+  -- from a KDC that was `first` these calls, the newest first, lead to one that is `now`; nothing
+  -- else moves it
   abbrev pub HasAnswered : D → List Asked → D → Type 0
   HasAnswered first [] now = now ≡ first
-  HasAnswered first (asked ∷ log) now = (before : D) × HasAnswered first log before × HasReplied before asked.question asked.reply now
+  HasAnswered first (asked ∷ log) now = (before : D) × HasAnswered first log before ×
+      HasReplied before asked.question asked.reply now
 
   abbrev pub kdc_calls : KdcCalls D
   kdc_calls = record { replies = HasAnswered; lost = HasNoReply }
@@ -76,7 +86,8 @@ module _ {D : Type 0} (told : D → Option (ℕ → NetworkRequest → Reply)) (
 -- the token that was delivered in that turn, and nothing else moves a context but sealing and opening. A chain speaks of the end as it was
 -- made, of its turns, of what its KDC replied and its proxy told, and of no state of the end in between.
 
--- what a client has between two of its turns: its context, the credentials that it acquired, and its KDC
+-- what a client has between two of its turns: its context, the credentials that it acquired, and
+-- its KDC
 pub record ClientStage (C D : Type 0) : Type 0 where
   pub context : Option C
   pub handle : Option CredentialsBuffers
@@ -98,11 +109,14 @@ module _ {C D : Type 0} (c : Meaning ContextSetting C) (k : KdcCalls D) (first :
   abbrev pub client_at : ClientStage C D → ClientView C
   client_at stage = record first { context = stage.context; handle = stage.handle }
 
-  -- One step, of the context that is there or is made first, took this token and came to this answer; the KDC replied to its questions.
-  pub record ClientStepped (stage : ClientStage C D) (token : Option (List ℕ)) (answer : Answer) (next : ClientStage C D) : Type 0 where
+  -- One step, of the context that is there or is made first, took this token and came to this
+  -- answer; the KDC replied to its questions.
+  pub record ClientStepped (stage : ClientStage C D) (token : Option (List ℕ)) (answer : Answer)
+      (next : ClientStage C D) : Type 0 where
     pub asked : List Asked
     pub replied : k.replies stage.kdc asked next.kdc
-    pub walked : IfContext next.context (Walked c (client_at stage) next.handle token 0 asked answer)
+    pub walked : IfContext next.context (Walked c (client_at stage) next.handle token 0 asked
+        answer)
 
   -- no step: the context may have sealed and opened, and no KDC was asked
   pub record ClientRested (stage next : ClientStage C D) : Type 0 where
@@ -110,8 +124,10 @@ module _ {C D : Type 0} (c : Meaning ContextSetting C) (k : KdcCalls D) (first :
     pub handle : IsSome stage.context → next.handle ≡ stage.handle
     pub unasked : k.replies stage.kdc [] next.kdc
 
-  -- A status and the turn's output are the answer of its step, also where the turn was refused after it; with none the step was refused.
-  abbrev pub ClientMovedBy : Bool → Option SecurityStatus → Outcome → Option (List ℕ) → List ℕ → ClientStage C D → ClientStage C D → Type 0
+  -- A status and the turn's output are the answer of its step, also where the turn was refused
+  -- after it; with none the step was refused.
+  abbrev pub ClientMovedBy : Bool → Option SecurityStatus → Outcome → Option (List ℕ) → List ℕ →
+      ClientStage C D → ClientStage C D → Type 0
   ClientMovedBy false status came token output stage next = ClientRested stage next
   ClientMovedBy true (Some status) came token output stage next =
       ClientStepped stage token (Done (record { status = status; output = output })) next
@@ -121,62 +137,84 @@ module _ {C D : Type 0} (c : Meaning ContextSetting C) (k : KdcCalls D) (first :
 
   -- one turn after those before it; the context has sealed and opened as often as the turns say
   pub record ClientLink (past : List Turn) (t : Turn) (stage next : ClientStage C D) : Type 0 where
-    pub moved : ClientMovedBy t.acts.negotiated t.acts.status t.outcome t.delivered.nego_tokens t.output stage next
+    pub moved : ClientMovedBy t.acts.negotiated t.acts.status t.outcome t.delivered.nego_tokens
+        t.output stage next
     pub sealings : sealings_in c next.context ≡ made_in (t ∷ past)
     pub unsealings : unsealings_in c next.context ≡ opened_in (t ∷ past)
 
-  -- the stage that these turns lead to, the newest first, from a client as it was made and a KDC that was `kdc`
+  -- the stage that these turns lead to, the newest first, from a client as it was made and a KDC
+  -- that was `kdc`
   abbrev pub ClientChain : D → List Turn → ClientStage C D → Type 0
   ClientChain kdc [] stage = stage ≡ client_stage first kdc
-  ClientChain kdc (t ∷ past) next = (stage : ClientStage C D) × ClientChain kdc past stage × ClientLink past t stage next
+  ClientChain kdc (t ∷ past) next = (stage : ClientStage C D) × ClientChain kdc past stage ×
+      ClientLink past t stage next
 
-  -- where there was no memory: the stage of all turns, or in one further turn, without a record, a step that waits for its KDC, on the
-  -- token of the request that was due
-  pub data ClientChainLeft (due : TsRequest → Type 0) (kdc : D) (turns : List Turn) (now : ClientStage C D) : Type 0 where
+  -- where there was no memory: the stage of all turns, or in one further turn, without a record, a
+  -- step that waits for its KDC, on the token of the request that was due
+  pub data ClientChainLeft (due : TsRequest → Type 0) (kdc : D) (turns : List Turn)
+      (now : ClientStage C D) : Type 0 where
     at_rest : ClientChain kdc turns now → ClientChainLeft due kdc turns now
-    waiting : (stage : ClientStage C D) (d : TsRequest) (question : NetworkRequest) (asked : D) → due d → AllGoOn turns →
-        ClientChain kdc turns stage → ClientStepped stage d.nego_tokens (Ask question) (record now { kdc = asked }) →
+    waiting : (stage : ClientStage C D) (d : TsRequest) (question : NetworkRequest) (asked : D) →
+        due d → AllGoOn turns →
+        ClientChain kdc turns stage → ClientStepped stage d.nego_tokens (Ask question)
+        (record now { kdc = asked }) →
         k.lost asked now.kdc → ClientChainLeft due kdc turns now
 
   -- the stage of an exchange's client, by the answer
-  abbrev pub ClientChained : (TsRequest → Type 0) → D → Result Delegation DelegateError → List Turn → ClientStage C D → Type 0
+  abbrev pub ClientChained : (TsRequest → Type 0) → D → Result Delegation DelegateError →
+      List Turn → ClientStage C D → Type 0
   ClientChained due kdc (Ok delegation) turns now = ClientChain kdc turns now
-  ClientChained due kdc (Err errors.InsufficientMemory) turns now = ClientChainLeft due kdc turns now
+  ClientChained due kdc (Err errors.InsufficientMemory) turns now =
+      ClientChainLeft due kdc turns now
   ClientChained due kdc (Err error) turns now = ClientChain kdc turns now
 
--- `first` is the server as it was made; its proxy may tell its entries, and what a look-up of a name finds
-module _ {C P : Type 0} (c : Meaning ContextSetting C) (p : ProxyMeaning P) (first : ServerView C P) where
-  abbrev pub server_at : ServerStage C → ServerView C P
-  server_at stage = record first { context = stage.context; handle = stage.handle }
+-- `first` is the server as it was made; its proxy may tell its entries, and what a look-up of a
+-- name finds
+module _ {C P : Type 0} (c : Meaning ContextSetting C) (p : ProxyMeaning P) (first : ServerView C P)
+  where
+    abbrev pub server_at : ServerStage C → ServerView C P
+    server_at stage = record first { context = stage.context; handle = stage.handle }
 
-  -- One step, of the context that is there or is made first, took this token and came to this answer; then the peer is known so far.
-  abbrev pub ServerStepped : Knowing → ServerStage C → Option (List ℕ) → Result Step Error → ServerStage C → Type 0
-  ServerStepped known stage token answer next = IfContext next.context (Accepted c p (server_at stage) next.handle token known answer)
+    -- One step, of the context that is there or is made first, took this token and came to this
+    -- answer; then the peer is known so far.
+    abbrev pub ServerStepped : Knowing → ServerStage C → Option (List ℕ) → Result Step Error →
+        ServerStage C → Type 0
+    ServerStepped known stage token answer next =
+        IfContext next.context (Accepted c p (server_at stage) next.handle token known answer)
 
-  -- no step: the context may have sealed and opened, or was but made, in a turn that was refused before its step
-  pub record ServerRested (stage next : ServerStage C) : Type 0 where
-    pub context : UnlessMade c stage.context next.context
-        (Begun c stage.context stage.handle (server_setting p first) Inbound None next.handle)
-    pub handle : IsSome stage.context → next.handle ≡ stage.handle
+    -- no step: the context may have sealed and opened, or was but made, in a turn that was refused
+    -- before its step
+    pub record ServerRested (stage next : ServerStage C) : Type 0 where
+      pub context : UnlessMade c stage.context next.context
+          (Begun c stage.context stage.handle (server_setting p first) Inbound None next.handle)
+      pub handle : IsSome stage.context → next.handle ≡ stage.handle
 
-  -- As on a client. At the end of the authentication a turn that is not refused knows its peer; a refused one may have come less far.
-  abbrev pub ServerMovedBy : Bool → Option SecurityStatus → Outcome → Option (List ℕ) → List ℕ → ServerStage C → ServerStage C → Type 0
-  ServerMovedBy false status came token output stage next = ServerRested stage next
-  ServerMovedBy true (Some status) (outcome.Refused kind reply) token output stage next = IfContext next.context
-      (RefusedAt c p (Some status) (server_at stage) next.handle token (Ok (record { status = status; output = output })))
-  ServerMovedBy true (Some status) came token output stage next =
-      ServerStepped (known_at c p status) stage token (Ok (record { status = status; output = output })) next
-  ServerMovedBy true None (outcome.Refused kind reply) token output stage next =
-      (error : Error) × (error.error_type ≡ kind) × ServerStepped Unknown stage token (Err error) next
-  ServerMovedBy true None came token output stage next = ⊥
+    -- As on a client. At the end of the authentication a turn that is not refused knows its peer; a
+    -- refused one may have come less far.
+    abbrev pub ServerMovedBy : Bool → Option SecurityStatus → Outcome → Option (List ℕ) → List ℕ →
+        ServerStage C → ServerStage C → Type 0
+    ServerMovedBy false status came token output stage next = ServerRested stage next
+    ServerMovedBy true (Some status) (outcome.Refused kind reply) token output stage next =
+        IfContext next.context
+        (RefusedAt c p (Some status) (server_at stage) next.handle token
+        (Ok (record { status = status; output = output })))
+    ServerMovedBy true (Some status) came token output stage next =
+        ServerStepped (known_at c p status) stage token
+        (Ok (record { status = status; output = output })) next
+    ServerMovedBy true None (outcome.Refused kind reply) token output stage next =
+        (error : Error) × (error.error_type ≡ kind) ×
+        ServerStepped Unknown stage token (Err error) next
+    ServerMovedBy true None came token output stage next = ⊥
 
-  -- one turn after those before it; the context has sealed and opened as often as the turns say
-  pub record ServerLink (past : List Turn) (t : Turn) (stage next : ServerStage C) : Type 0 where
-    pub moved : ServerMovedBy t.acts.negotiated t.acts.status t.outcome t.delivered.nego_tokens t.output stage next
-    pub sealings : sealings_in c next.context ≡ made_in (t ∷ past)
-    pub unsealings : unsealings_in c next.context ≡ opened_in (t ∷ past)
+    -- one turn after those before it; the context has sealed and opened as often as the turns say
+    pub record ServerLink (past : List Turn) (t : Turn) (stage next : ServerStage C) : Type 0 where
+      pub moved : ServerMovedBy t.acts.negotiated t.acts.status t.outcome t.delivered.nego_tokens
+          t.output stage next
+      pub sealings : sealings_in c next.context ≡ made_in (t ∷ past)
+      pub unsealings : unsealings_in c next.context ≡ opened_in (t ∷ past)
 
-  -- the stage that these turns lead to, the newest first, from a server as it was made
-  abbrev pub ServerChain : List Turn → ServerStage C → Type 0
-  ServerChain [] stage = stage ≡ server_stage first
-  ServerChain (t ∷ past) next = (stage : ServerStage C) × ServerChain past stage × ServerLink past t stage next
+    -- the stage that these turns lead to, the newest first, from a server as it was made
+    abbrev pub ServerChain : List Turn → ServerStage C → Type 0
+    ServerChain [] stage = stage ≡ server_stage first
+    ServerChain (t ∷ past) next = (stage : ServerStage C) × ServerChain past stage ×
+        ServerLink past t stage next

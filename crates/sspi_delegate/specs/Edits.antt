@@ -1,9 +1,11 @@
--- Which edits of an entry fail its carry, and which give it a text of their own, whatever stood there before.
+-- Which edits of an entry fail its carry, and which give it a text of their own, whatever stood
+-- there before.
 use Rattle.std.specs.Prelude.{ℕ, ◌==◌, ◌&&◌, List, Bool, true, false}
 use Rattle.std.specs.List.{list_any}
 use Rattle.sspi_delegate.specs.declared.edit.Edit.{Edit}
 use Rattle.sspi_delegate.specs.declared.edit.EditKind.{EditKind}
-use Rattle.sspi_delegate.specs.declared.edit.EditKind.TheVariants.{Drop, Cut, Set, Add, Give, Again, Fail}
+use Rattle.sspi_delegate.specs.declared.edit.EditKind.TheVariants.{Drop, Cut, Set, Add, Give, Again}
+use Rattle.sspi_delegate.specs.declared.edit.EditKind.TheVariants.{Fail}
 
 abbrev pub is_fail : EditKind → Bool
 is_fail Drop = false

@@ -1,6 +1,8 @@
 -- What the calls of a link answer, and what its edits give of what was sent, where it tells them.
-use Rattle.std.specs.Prelude.{◌≡◌, ℕ, ◌==◌, true, if◌then◌else◌, List, [], ◌∷◌, ◌++◌, map, reverse, length, take, slice_get, slice_set}
-use Rattle.std.specs.Prelude.{Option, Some, None, option_and_then, unwrap_or, ◌≤◌, Bool, false, Result, Ok, Err, IfOk, ◌⊎◌}
+use Rattle.std.specs.Prelude.{◌≡◌, ℕ, ◌==◌, true, if◌then◌else◌, List, [], ◌∷◌, ◌++◌, map, reverse}
+use Rattle.std.specs.Prelude.{length, take, slice_get, slice_set}
+use Rattle.std.specs.Prelude.{Option, Some, None, option_and_then, unwrap_or, ◌≤◌, Bool, false}
+use Rattle.std.specs.Prelude.{Result, Ok, Err, IfOk, ◌⊎◌}
 use Rattle.sspi_types.specs.declared.error_kind.ErrorKind.{ErrorKind}
 use Rattle.sspi_types.specs.declared.error_kind.ErrorKind.TheVariants as kinds
 use Rattle.sspi_types.specs.Counting.{Counts}
@@ -15,7 +17,8 @@ use Rattle.sspi_delegate.specs.declared.answer.DelegateError.TheVariants.{Insuff
 use Rattle.sspi_delegate.specs.declared.carried.Carried.{Carried}
 use Rattle.sspi_delegate.specs.declared.edit.Edit.{Edit}
 use Rattle.sspi_delegate.specs.declared.edit.EditKind.{EditKind}
-use Rattle.sspi_delegate.specs.declared.edit.EditKind.TheVariants.{Drop, Cut, Set, Add, Give, Again, Fail}
+use Rattle.sspi_delegate.specs.declared.edit.EditKind.TheVariants.{Drop, Cut, Set, Add, Give, Again}
+use Rattle.sspi_delegate.specs.declared.edit.EditKind.TheVariants.{Fail}
 use Rattle.sspi_delegate.specs.declared.link.LinkError.{LinkError}
 use Rattle.sspi_delegate.specs.declared.link.LinkError.TheVariants.{Failed, InsufficientMemory}
 use Rattle.sspi_delegate.specs.Log.{NewestIs, IsServerRefusal}
@@ -31,7 +34,8 @@ sent_texts entries = map (λ e. e.sent) entries
 abbrev pub text_at : List (List ℕ) → ℕ → List ℕ
 text_at texts place = unwrap_or (slice_get texts place) []
 
--- what one edit makes of a text, where the earlier entries sent these texts, the first entry first; None: the carry fails
+-- what one edit makes of a text, where the earlier entries sent these texts, the first entry first;
+-- None: the carry fails
 abbrev pub edited_once : EditKind → List (List ℕ) → List ℕ → Option (List ℕ)
 edited_once Drop earlier text = Some []
 edited_once (Cut count) earlier text = Some (take count text)
@@ -41,28 +45,33 @@ edited_once (Give bytes) earlier text = Some bytes
 edited_once (Again entry) earlier text = Some (text_at earlier entry)
 edited_once Fail earlier text = None
 
--- what the edits of the entry after the earlier ones give of what it sent: each in its order, of what the one before gives
+-- what the edits of the entry after the earlier ones give of what it sent: each in its order, of
+-- what the one before gives
 abbrev pub edited : List Edit → List (List ℕ) → List ℕ → Option (List ℕ)
 edited [] earlier text = Some text
 edited (edit ∷ edits) earlier text = option_and_then (edited edits earlier)
     (if edit.entry == length earlier then edited_once edit.kind earlier text else Some text)
 
--- the delivery is a beginning of this text, and it has ended only once it is the whole; None: there is no such entry
+-- the delivery is a beginning of this text, and it has ended only once it is the whole; None: there
+-- is no such entry
 abbrev pub Delivers : Option (List ℕ) → Carried → Type 0
 Delivers None e = ⊥
-Delivers (Some text) e = (e.delivered ≡ take (length e.delivered) text) × (e.ended ≡ true → e.delivered ≡ text)
+Delivers (Some text) e = (e.delivered ≡ take (length e.delivered) text) ×
+    (e.ended ≡ true → e.delivered ≡ text)
 
 -- each entry of a log, the newest first, delivers what the edits give
 abbrev pub FollowsEdits : List Edit → List Carried → Type 0
 FollowsEdits edits [] = Unit {0}
-FollowsEdits edits (e ∷ log) = Delivers (edited edits (sent_texts (reverse log)) e.sent) e × FollowsEdits edits log
+FollowsEdits edits (e ∷ log) = Delivers (edited edits (sent_texts (reverse log)) e.sent) e ×
+    FollowsEdits edits log
 
 -- this text is what the edits give of the newest entry
 abbrev pub IsNewestText : List Edit → List Carried → List ℕ → Type 0
 IsNewestText edits [] text = Unit {0}
 IsNewestText edits (e ∷ log) text = edited edits (sent_texts (reverse log)) e.sent ≡ Some text
 
--- a link in memory: its log, the newest entry first, its edits, how often it failed, and how many bytes a piece may have
+-- a link in memory: its log, the newest entry first, its edits, how often it failed, and how many
+-- bytes a piece may have
 pub record MemoryLinkView : Type 0 where
   pub log : List Carried
   pub edits : List Edit
@@ -70,7 +79,8 @@ pub record MemoryLinkView : Type 0 where
   -- None: any number
   pub most : Option ℕ
 
--- what a link in memory keeps: its log follows its edits, and the text that is served is that of the newest entry
+-- what a link in memory keeps: its log follows its edits, and the text that is served is that of
+-- the newest entry
 pub record IsServed (edits : List Edit) (log : List Carried) (text : List ℕ) : Type 0 where
   pub follows : FollowsEdits edits log
   pub newest : IsNewestText edits log text
@@ -93,7 +103,8 @@ abbrev pub IsWithin : Option ℕ → Result ℕ LinkError → Type 0
 IsWithin None result = Unit {0}
 IsWithin (Some most) result = IfOk result (λ n. n ≤ most)
 
--- where the edits give this, `carry` fails only where they give nothing, is Ok nowhere there, and counts a fault then alone: one
+-- where the edits give this, `carry` fails only where they give nothing, is Ok nowhere there, and
+-- counts a fault then alone: one
 abbrev pub CarriesEdited : Option (List ℕ) → ℕ → ℕ → Result (Unit {0}) LinkError → Type 0
 CarriesEdited None before now (Ok done) = ⊥
 CarriesEdited None before now (Err Failed) = Counts before now
@@ -103,7 +114,8 @@ CarriesEdited (Some text) before now (Err Failed) = ⊥
 CarriesEdited (Some text) before now (Err InsufficientMemory) = now ≡ before
 
 -- the same of a link that tells its edits; one that does not tell claims nothing
-abbrev pub CarryTold : Option (List Edit) → List Carried → List ℕ → ℕ → ℕ → Result (Unit {0}) LinkError → Type 0
+abbrev pub CarryTold : Option (List Edit) → List Carried → List ℕ → ℕ → ℕ →
+    Result (Unit {0}) LinkError → Type 0
 CarryTold None log sent before now result = Unit {0}
 CarryTold (Some edits) log sent before now result =
     CarriesEdited (edited edits (sent_texts (reverse log)) sent) before now result
@@ -126,16 +138,20 @@ pub record StaysTold (edits edits2 : Option (List Edit)) (log log2 : List Carrie
   pub follows : FollowsTold edits log → FollowsTold edits2 log2
 
 -- a carrier gave these bytes of a delivery, unless that had ended
-abbrev pub IsReceivedOf : {R : Type 0} → (R → ℕ → List ℕ → R → Type 0) → Bool → R → ℕ → List ℕ → R → Type 0
+abbrev pub IsReceivedOf : {R : Type 0} → (R → ℕ → List ℕ → R → Type 0) → Bool → R → ℕ → List ℕ → R →
+    Type 0
 IsReceivedOf receives true before count into now = now ≡ before
 IsReceivedOf receives false before count into now = receives before count into now
 
 -- the same of the newest entry of a log; where there is none, nothing is asked of the carrier
-abbrev pub IsReceived : {R : Type 0} → (R → ℕ → List ℕ → R → Type 0) → List Carried → R → ℕ → List ℕ → R → Type 0
+abbrev pub IsReceived : {R : Type 0} → (R → ℕ → List ℕ → R → Type 0) → List Carried → R → ℕ →
+    List ℕ → R → Type 0
 IsReceived receives [] before count into now = now ≡ before
-IsReceived receives (e ∷ log) before count into now = IsReceivedOf receives e.ended before count into now
+IsReceived receives (e ∷ log) before count into now =
+    IsReceivedOf receives e.ended before count into now
 
--- a carrier did this and answered so; or there was no memory before it was asked, and it is as it was
+-- a carrier did this and answered so; or there was no memory before it was asked, and it is as it
+-- was
 abbrev pub DidOrKept : LinkError → Type 0 → Type 0 → Type 0
 DidOrKept Failed Did Kept = Did
 DidOrKept InsufficientMemory Did Kept = Did ⊎ Kept
@@ -150,18 +166,23 @@ newest_message (t ∷ past) = message_of t.outcome
 -- the edits of the next entry fail the carry of this message
 abbrev pub CarryFails : List Edit → List Carried → Option TsRequest → Type 0
 CarryFails edits log None = ⊥
-CarryFails edits log (Some message) = edited edits (sent_texts (reverse log)) (spelled message) ≡ None
+CarryFails edits log (Some message) = edited edits (sent_texts (reverse log))
+    (spelled message) ≡ None
 
 -- the edits failed the carry of the newest turn's message, and one fault was counted
 abbrev pub HasFailed : List Edit → ℕ → ℕ → List Carried → List Turn → Type 0
-HasFailed edits before now log turns = CarryFails edits log (newest_message turns) × Counts before now
+HasFailed edits before now log turns = CarryFails edits log (newest_message turns) ×
+    Counts before now
 
 -- that turn is a server's that was refused so, and the message was to tell its client
 abbrev pub HasFailedToTell : ErrorKind → List Edit → ℕ → ℕ → List Carried → List Turn → Type 0
-HasFailedToTell kind edits before now log turns = NewestIs ends.Server (IsServerRefusal kind) turns × HasFailed edits before now log turns
+HasFailedToTell kind edits before now log turns =
+    NewestIs ends.Server (IsServerRefusal kind) turns × HasFailed edits before now log turns
 
--- where the edits are told, only a carry that they fail counts a fault: where it is that of a server's refusal it changes no answer
-abbrev pub AnswerTold : {X : Type 0} → Option (List Edit) → ℕ → ℕ → Result X DelegateError → List Carried → List Turn → Type 0
+-- where the edits are told, only a carry that they fail counts a fault: where it is that of a
+-- server's refusal it changes no answer
+abbrev pub AnswerTold : {X : Type 0} → Option (List Edit) → ℕ → ℕ → Result X DelegateError →
+    List Carried → List Turn → Type 0
 AnswerTold None before now result log turns = Unit {0}
 AnswerTold (Some edits) before now (Err (Server error)) log turns =
     (now ≡ before) ⊎ HasFailedToTell error.error_type edits before now log turns

@@ -1,6 +1,8 @@
--- The log of a link: its entries, the newest first; how the newest delivery is read; how the turns of an exchange and the entries
--- that it added belong together; and what they show of its answer, and where each answer must come.
-use Rattle.std.specs.Prelude.{◌≡◌, ℕ, ◌==◌, ◌&&◌, ◌||◌, nat_lt, Bool, true, false, List, [], ◌∷◌, ◌++◌, length, take, ◌+◌, ◌≤◌, nat_le, ◌⊎◌}
+-- The log of a link: its entries, the newest first; how the newest delivery is read; how the turns
+-- of an exchange and the entries that it added belong together; and what they show of its answer,
+-- and where each answer must come.
+use Rattle.std.specs.Prelude.{◌≡◌, ℕ, ◌==◌, ◌&&◌, ◌||◌, nat_lt, Bool, true, false, List, [], ◌∷◌}
+use Rattle.std.specs.Prelude.{◌++◌, length, take, ◌+◌, ◌≤◌, nat_le, ◌⊎◌}
 use Rattle.std.specs.Prelude.{Option, None, Some, ◌≢◌, ◌<◌, Result, Ok, Err, IsOk}
 use Rattle.sspi_ber.specs.declared.wire_kind.WireKind.{WireKind}
 use Rattle.sspi_ber.specs.declared.wire_kind.WireKind.TheVariants.{UnexpectedEof, InvalidData}
@@ -29,13 +31,17 @@ use Rattle.sspi_delegate.specs.Turns.{other, next_end, AllGoOn, Alternates}
 abbrev pub begun : End → List ℕ → Carried
 begun from sent = record { from = from; sent = sent; delivered = []; ended = false }
 
--- whether a delivery has ended, once n bytes came where `asked` were asked for: none, where some were asked for, is its end
+-- whether a delivery has ended, once n bytes came where `asked` were asked for: none, where some
+-- were asked for, is its end
 abbrev pub ended_by : Bool → ℕ → ℕ → Bool
 ended_by ended n asked = ended || ((n == 0) && nat_lt 0 asked)
 
 -- the entry after the first n bytes of `into`, which was asked to be filled, were handed out
 abbrev pub grown : Carried → ℕ → List ℕ → Carried
-grown e n into = record e { delivered = e.delivered ++ take n into; ended = ended_by e.ended n (length into) }
+grown e n into = record e {
+  delivered = e.delivered ++ take n into;
+  ended = ended_by e.ended n (length into);
+}
 
 -- the newest delivery went on by the first n bytes of `into`; one that has ended gives no more
 abbrev pub Grows : List Carried → List Carried → ℕ → List ℕ → Type 0
@@ -89,11 +95,13 @@ IsFault bytes UnexpectedEof = fault bytes ≡ Some Ended
 IsFault bytes InvalidData = fault bytes ≡ Some Invalid
 IsFault bytes other = ⊥
 
--- a turn after these is given this request: the first its own, each other what the newest entry delivered, taken to its end or limit
+-- a turn after these is given this request: the first its own, each other what the newest entry
+-- delivered, taken to its end or limit
 abbrev pub IsDelivered : List Turn → List Carried → TsRequest → Type 0
 IsDelivered [] log request = request ≡ first_request
 IsDelivered (t ∷ past) [] request = ⊥
-IsDelivered (t ∷ past) (e ∷ log) request = (is_taken e ≡ true) × IsRead e.delivered request × (length e.delivered ≤ delivery_limit)
+IsDelivered (t ∷ past) (e ∷ log) request = (is_taken e ≡ true) × IsRead e.delivered request ×
+    (length e.delivered ≤ delivery_limit)
 
 -- what was sent is the encoding of the message, which fits
 abbrev pub IsSent : Option TsRequest → List ℕ → Type 0
@@ -111,9 +119,11 @@ module _ (base : List Carried) where
   Logged (t ∷ past) [] = ⊥
   Logged (t ∷ past) (e ∷ log) = IsEntry t e × IsDelivered past log t.delivered × Logged past log
 
-  -- the next turn is this end's, and is given this request: those before it went on, and each has its entry
+  -- the next turn is this end's, and is given this request: those before it went on, and each has
+  -- its entry
   abbrev pub IsDue : End → List Turn → List Carried → TsRequest → Type 0
-  IsDue end turns log request = AllGoOn turns × (next_end turns ≡ end) × Logged turns log × IsDelivered turns log request
+  IsDue end turns log request = AllGoOn turns × (next_end turns ≡ end) × Logged turns log ×
+      IsDelivered turns log request
 
   -- the same as `Logged`, but for the newest turn, which has no entry
   abbrev pub LoggedButLast : List Turn → List Carried → Type 0
@@ -181,7 +191,8 @@ NewestFits (t ∷ past) fit = MessageFits (message_of t.outcome) fit
 abbrev pub TurnLeft : ℕ → List Turn → Type 0
 TurnLeft limit turns = next_end turns ≡ Client → turns_of Client turns < limit
 
--- base: the log before the exchange; start: the link's count of faults then, to which a failure of the link alone adds, namely one
+-- base: the log before the exchange; start: the link's count of faults then, to which a failure of
+-- the link alone adds, namely one
 module _ (base : List Carried) (start : ℕ) where
   -- the server has the credentials
   pub record Finishes (turns : List Turn) (log : List Carried) (now : ℕ) : Type 0 where
@@ -190,49 +201,66 @@ module _ (base : List Carried) (start : ℕ) where
     pub entries : LoggedButLast base turns log
     pub calm : now ≡ start
 
-  -- What giving the newest turn's message to the link came to: an unread entry, or none. It is measured before memory is taken.
+  -- What giving the newest turn's message to the link came to: an unread entry, or none. It is
+  -- measured before memory is taken.
   pub data Given (turns : List Turn) (log : List Carried) (now : ℕ) : Type 0 where
     carried : Logged base turns log → UnreadFor turns log → now ≡ start → Given turns log now
-    too_long : LoggedButLast base turns log → NewestFits turns false → now ≡ start → Given turns log now
-    link_failed : LoggedButLast base turns log → NewestFits turns true → Counts start now → Given turns log now
-    no_memory : LoggedButLast base turns log → NewestFits turns true → now ≡ start → Given turns log now
+    too_long : LoggedButLast base turns log → NewestFits turns false → now ≡ start →
+        Given turns log now
+    link_failed : LoggedButLast base turns log → NewestFits turns true → Counts start now →
+        Given turns log now
+    no_memory : LoggedButLast base turns log → NewestFits turns true → now ≡ start →
+        Given turns log now
 
-  -- Where there was no memory. The link may have failed to carry the message of a server that was refused for it; else it did not.
+  -- Where there was no memory. The link may have failed to carry the message of a server that was
+  -- refused for it; else it did not.
   pub data Lacks (limit : ℕ) (turns : List Turn) (log : List Carried) (now : ℕ) : Type 0 where
-    for_a_turn : AllGoOn turns → TurnLeft limit turns → Logged base turns log → WithinFor turns log → now ≡ start →
+    for_a_turn : AllGoOn turns → TurnLeft limit turns → Logged base turns log →
+        WithinFor turns log → now ≡ start →
         Lacks limit turns log now
-    for_a_message : AllGoOn turns → LoggedButLast base turns log → NewestFits turns true → now ≡ start → Lacks limit turns log now
-    by_the_client : NewestIs Client (IsClientRefusal kinds.InsufficientMemory) turns → LoggedButLast base turns log → now ≡ start →
+    for_a_message : AllGoOn turns → LoggedButLast base turns log → NewestFits turns true →
+        now ≡ start → Lacks limit turns log now
+    by_the_client : NewestIs Client (IsClientRefusal kinds.InsufficientMemory) turns →
+        LoggedButLast base turns log → now ≡ start →
         Lacks limit turns log now
-    by_the_server : NewestIs Server (IsServerRefusal kinds.InsufficientMemory) turns → Given turns log now → Lacks limit turns log now
+    by_the_server : NewestIs Server (IsServerRefusal kinds.InsufficientMemory) turns →
+        Given turns log now → Lacks limit turns log now
 
   -- what an error shows; limit: how many turns the client may make
   abbrev pub Cause : ℕ → DelegateError → List Turn → List Carried → ℕ → Type 0
   Cause limit (errors.Client error) turns log now =
-      (error.error_type ≢ kinds.InsufficientMemory) × NewestIs Client (IsClientRefusal error.error_type) turns
+      (error.error_type ≢ kinds.InsufficientMemory) ×
+      NewestIs Client (IsClientRefusal error.error_type) turns
       × LoggedButLast base turns log × (now ≡ start)
   Cause limit (errors.Server error) turns log now =
-      (error.error_type ≢ kinds.InsufficientMemory) × NewestIs Server (IsServerRefusal error.error_type) turns × Given turns log now
+      (error.error_type ≢ kinds.InsufficientMemory) ×
+      NewestIs Server (IsServerRefusal error.error_type) turns × Given turns log now
   Cause limit (errors.Read end kind) turns log now =
-      AllGoOn turns × (next_end turns ≡ end) × TurnLeft limit turns × Logged base turns log × IsUnreadable turns log kind
+      AllGoOn turns × (next_end turns ≡ end) × TurnLeft limit turns × Logged base turns log ×
+      IsUnreadable turns log kind
       × HeadWithin log × (now ≡ start)
   Cause limit (errors.Write end) turns log now =
-      AllGoOn turns × (next_end turns ≡ other end) × LoggedButLast base turns log × NewestFits turns false × (now ≡ start)
+      AllGoOn turns × (next_end turns ≡ other end) × LoggedButLast base turns log ×
+      NewestFits turns false × (now ≡ start)
   Cause limit errors.LinkFault turns log now =
       AllGoOn turns × Counts start now
-      × ((Logged base turns log × OpenFor turns log × TurnLeft limit turns) ⊎ (LoggedButLast base turns log × NewestFits turns true))
+      × ((Logged base turns log × OpenFor turns log × TurnLeft limit turns) ⊎
+      (LoggedButLast base turns log × NewestFits turns true))
   Cause limit errors.TurnsSpent turns log now =
-      AllGoOn turns × (next_end turns ≡ Client) × (turns_of Client turns ≡ limit) × Logged base turns log
+      AllGoOn turns × (next_end turns ≡ Client) × (turns_of Client turns ≡ limit) ×
+      Logged base turns log
       × UnreadFor turns log × (now ≡ start)
   Cause limit errors.InsufficientMemory turns log now = Lacks limit turns log now
 
-  pub record Stopped (limit : ℕ) (error : DelegateError) (turns : List Turn) (log : List Carried) (now : ℕ) : Type 0 where
+  pub record Stopped (limit : ℕ) (error : DelegateError) (turns : List Turn) (log : List Carried)
+      (now : ℕ) : Type 0 where
     pub order : Alternates turns
     pub cause : Cause limit error turns log now
 
   -- what the exchange comes to
   abbrev pub RunEnds : ℕ → Result Delegation DelegateError → List Turn → List Carried → ℕ → Type 0
-  RunEnds limit (Ok delegation) turns log now = Finishes turns log now × (delegation.rounds ≡ turns_of Client turns)
+  RunEnds limit (Ok delegation) turns log now = Finishes turns log now ×
+      (delegation.rounds ≡ turns_of Client turns)
   RunEnds limit (Err error) turns log now = Stopped limit error turns log now
 
 -- ---- Where each answer of an exchange must come: what the turns and the log show leaves no other, but when out of memory, whose
@@ -244,8 +272,10 @@ IsOnly P (Ok delegation) = ⊥
 IsOnly P (Err errors.InsufficientMemory) = Unit {0}
 IsOnly P (Err error) = P error
 
--- the answer to a refusal of this kind is an error of which this holds, and out of memory only where that is the kind
-abbrev pub IsAnswerOf : ErrorKind → (DelegateError → Type 0) → Result Delegation DelegateError → Type 0
+-- the answer to a refusal of this kind is an error of which this holds, and out of memory only
+-- where that is the kind
+abbrev pub IsAnswerOf : ErrorKind → (DelegateError → Type 0) → Result Delegation DelegateError →
+    Type 0
 IsAnswerOf kind P (Ok delegation) = ⊥
 IsAnswerOf kind P (Err errors.InsufficientMemory) = kind ≡ kinds.InsufficientMemory
 IsAnswerOf kind P (Err error) = P error
@@ -259,17 +289,24 @@ IsServerError kind (errors.Server error) = error.error_type ≡ kind
 IsServerError kind error = ⊥
 
 -- base: the log before the exchange; limit: how many turns the client may make
-pub record Exactly (base : List Carried) (limit : ℕ) (result : Result Delegation DelegateError) (turns : List Turn)
+pub record Exactly (base : List Carried) (limit : ℕ) (result : Result Delegation DelegateError)
+    (turns : List Turn)
     (log : List Carried) : Type 0 where
   pub ok : NewestIs Server IsFinished turns → IsOk result
-  pub client : (kind : ErrorKind) → NewestIs Client (IsClientRefusal kind) turns → IsAnswerOf kind (IsClientError kind) result
-  pub server : (kind : ErrorKind) → NewestIs Server (IsServerRefusal kind) turns → IsAnswerOf kind (IsServerError kind) result
-  pub read : (kind : WireKind) → AllGoOn turns → Logged base turns log → IsUnreadable turns log kind →
+  pub client : (kind : ErrorKind) → NewestIs Client (IsClientRefusal kind) turns →
+      IsAnswerOf kind (IsClientError kind) result
+  pub server : (kind : ErrorKind) → NewestIs Server (IsServerRefusal kind) turns →
+      IsAnswerOf kind (IsServerError kind) result
+  pub read : (kind : WireKind) → AllGoOn turns → Logged base turns log →
+      IsUnreadable turns log kind →
       IsOnly (λ error. error ≡ errors.Read (next_end turns) kind) result
-  pub write : (end : End) → NewestIs end (λ outcome. Unit {0}) turns → AllGoOn turns → LoggedButLast base turns log →
+  pub write : (end : End) → NewestIs end (λ outcome. Unit {0}) turns → AllGoOn turns →
+      LoggedButLast base turns log →
       NewestFits turns false → result ≡ Err (errors.Write end)
-  pub carry : AllGoOn turns → LoggedButLast base turns log → NewestFits turns true → IsOnly (λ error. error ≡ errors.LinkFault) result
+  pub carry : AllGoOn turns → LoggedButLast base turns log → NewestFits turns true →
+      IsOnly (λ error. error ≡ errors.LinkFault) result
   pub piece : AllGoOn turns → Logged base turns log → OpenFor turns log → TurnLeft limit turns →
       IsOnly (λ error. error ≡ errors.LinkFault) result
-  pub spent : AllGoOn turns → Logged base turns log → next_end turns ≡ Client → turns_of Client turns ≡ limit →
+  pub spent : AllGoOn turns → Logged base turns log → next_end turns ≡ Client →
+      turns_of Client turns ≡ limit →
       result ≡ Err errors.TurnsSpent

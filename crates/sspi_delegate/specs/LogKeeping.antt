@@ -20,4 +20,10 @@ pub record LogView : Type 0 where
 
 -- a turn as it is recorded
 abbrev pub recorded : End → TsRequest → Acts → List ℕ → Outcome → Turn
-recorded end request acts output outcome = record { end = end; delivered = request; acts = acts; output = output; outcome = outcome }
+recorded end request acts output outcome = record {
+  end = end;
+  delivered = request;
+  acts = acts;
+  output = output;
+  outcome = outcome;
+}

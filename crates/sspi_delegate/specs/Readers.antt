@@ -16,7 +16,8 @@ Fed (e ∷ log) (f ∷ more) = (f.from ≡ e.from) × (f.sent ≡ e.sent) × (mo
 -- this is the newest delivery, which was taken, and no more of it than the limit
 abbrev pub HeadTaken : List Carried → List ℕ → Type 0
 HeadTaken [] text = ⊥
-HeadTaken (e ∷ log) text = (is_taken e ≡ true) × (e.delivered ≡ text) × (length text ≤ delivery_limit)
+HeadTaken (e ∷ log) text = (is_taken e ≡ true) × (e.delivered ≡ text) ×
+    (length text ≤ delivery_limit)
 
 -- reading takes the whole delivery, or fails before it was taken
 abbrev pub Takes : List Carried → List Carried → Result (List ℕ) LinkError → Type 0
@@ -24,7 +25,8 @@ Takes old new (Ok text) = Fed old new × HeadTaken new text
 Takes old new (Err Failed) = Fed old new × HeadOpen new
 Takes old new (Err InsufficientMemory) = Fed old new × HeadWithin new
 
--- the reader stands for the text that was taken of the newest delivery, and a failure is one of taking it
+-- the reader stands for the text that was taken of the newest delivery, and a failure is one of
+-- taking it
 abbrev pub TakesIn : List Carried → List Carried → Result TsReader LinkError → Type 0
 TakesIn old new (Ok reader) = (text : List ℕ) × Takes old new (Ok text) × Stands reader text
 TakesIn old new (Err error) = Takes old new (Err error)

@@ -19,11 +19,14 @@ PushedSuch end request P old (t ∷ past) =
 
 abbrev pub ClientPushed : TsRequest → Round (Unit {0}) → List Turn → List Turn → Type 0
 ClientPushed request (round.Answered done) old new = PushedSuch Client request GoesOn old new
-ClientPushed request (round.Refused error) old new = PushedSuch Client request (IsClientRefusal error.error_type) old new
+ClientPushed request (round.Refused error) old new =
+    PushedSuch Client request (IsClientRefusal error.error_type) old new
 ClientPushed request round.Lost old new = new ≡ old
 
 abbrev pub ServerPushed : TsRequest → Round (Option AuthIdentity) → List Turn → List Turn → Type 0
 ServerPushed request (round.Answered None) old new = PushedSuch Server request GoesOn old new
-ServerPushed request (round.Answered (Some identity)) old new = PushedSuch Server request IsFinished old new
-ServerPushed request (round.Refused error) old new = PushedSuch Server request (IsServerRefusal error.error_type) old new
+ServerPushed request (round.Answered (Some identity)) old new =
+    PushedSuch Server request IsFinished old new
+ServerPushed request (round.Refused error) old new =
+    PushedSuch Server request (IsServerRefusal error.error_type) old new
 ServerPushed request round.Lost old new = new ≡ old

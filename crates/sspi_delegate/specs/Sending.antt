@@ -1,11 +1,14 @@
 -- How a message is encoded and carried.
-use Rattle.std.specs.Prelude.{◌≡◌, ℕ, true, false, List, ◌∷◌, reverse, Option, None, Some, Result, Ok, Err}
+use Rattle.std.specs.Prelude.{◌≡◌, ℕ, true, false, List, ◌∷◌, reverse, Option, None, Some, Result}
+use Rattle.std.specs.Prelude.{Ok, Err}
 use Rattle.sspi_types.specs.Counting.{Counts}
 use Rattle.sspi_tsreq.specs.declared.request.TsRequest.{TsRequest}
 use Rattle.sspi_tsreq.specs.Spelling.{fits, spelled}
 use Rattle.sspi_credssp.specs.declared.turn.End.{End}
 use Rattle.sspi_delegate.specs.declared.answer.DelegateError.{DelegateError}
-use Rattle.sspi_delegate.specs.declared.answer.DelegateError.TheVariants.{Client, Server, Read, Write, LinkFault, TurnsSpent}
+use Rattle.sspi_delegate.specs.declared.answer.DelegateError.TheVariants.{Client, Server, Read}
+use Rattle.sspi_delegate.specs.declared.answer.DelegateError.TheVariants.{Write, LinkFault}
+use Rattle.sspi_delegate.specs.declared.answer.DelegateError.TheVariants.{TurnsSpent}
 use Rattle.sspi_delegate.specs.declared.answer.DelegateError.TheVariants.{InsufficientMemory}
 use Rattle.sspi_delegate.specs.declared.carried.Carried.{Carried}
 use Rattle.sspi_delegate.specs.declared.edit.Edit.{Edit}
@@ -13,19 +16,25 @@ use Rattle.sspi_delegate.specs.Link.{edited, sent_texts}
 use Rattle.sspi_delegate.specs.Log.{begun}
 
 -- what sending a message does to the log and to the count of faults
-abbrev pub Sends : End → TsRequest → List Carried → List Carried → ℕ → ℕ → Result (Unit {0}) DelegateError → Type 0
+abbrev pub Sends : End → TsRequest → List Carried → List Carried → ℕ → ℕ →
+    Result (Unit {0}) DelegateError → Type 0
 Sends from message old new before now (Ok done) =
     (fits message ≡ true) × (new ≡ begun from (spelled message) ∷ old) × (now ≡ before)
-Sends from message old new before now (Err (Write end)) = (end ≡ from) × (fits message ≡ false) × (new ≡ old) × (now ≡ before)
-Sends from message old new before now (Err LinkFault) = (fits message ≡ true) × (new ≡ old) × Counts before now
-Sends from message old new before now (Err InsufficientMemory) = (fits message ≡ true) × (new ≡ old) × (now ≡ before)
+Sends from message old new before now (Err (Write end)) = (end ≡ from) × (fits message ≡ false) ×
+    (new ≡ old) × (now ≡ before)
+Sends from message old new before now (Err LinkFault) = (fits message ≡ true) × (new ≡ old) ×
+    Counts before now
+Sends from message old new before now (Err InsufficientMemory) = (fits message ≡ true) ×
+    (new ≡ old) × (now ≡ before)
 Sends from message old new before now (Err (Client error)) = ⊥
 Sends from message old new before now (Err (Server error)) = ⊥
 Sends from message old new before now (Err (Read end kind)) = ⊥
 Sends from message old new before now (Err TurnsSpent) = ⊥
 
--- where the edits are told, the link fails exactly where they say so, then one fault is counted, and no other is
-abbrev pub SendTold : Option (List Edit) → List Carried → TsRequest → ℕ → ℕ → Result (Unit {0}) DelegateError → Type 0
+-- where the edits are told, the link fails exactly where they say so, then one fault is counted,
+-- and no other is
+abbrev pub SendTold : Option (List Edit) → List Carried → TsRequest → ℕ → ℕ →
+    Result (Unit {0}) DelegateError → Type 0
 SendTold None log message before now result = Unit {0}
 SendTold (Some edits) log message before now (Ok done) = now ≡ before
 SendTold (Some edits) log message before now (Err LinkFault) =
@@ -38,7 +47,8 @@ SendTold (Some edits) log message before now (Err TurnsSpent) = now ≡ before
 SendTold (Some edits) log message before now (Err InsufficientMemory) = now ≡ before
 
 -- the same of the newest turn's message, where it has one; else nothing is sent
-abbrev pub GiveTold : Option (List Edit) → List Carried → Option TsRequest → ℕ → ℕ → Result (Unit {0}) DelegateError → Type 0
+abbrev pub GiveTold : Option (List Edit) → List Carried → Option TsRequest → ℕ → ℕ →
+    Result (Unit {0}) DelegateError → Type 0
 GiveTold edits log None before now result = now ≡ before
 GiveTold edits log (Some message) before now result = SendTold edits log message before now result
 

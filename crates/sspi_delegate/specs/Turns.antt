@@ -1,18 +1,22 @@
--- The turns of an exchange, the newest first, and what they show of each end; and the turns of either end, one after another
--- (MS-CSSP 3.1.5), whose state and pinned version are those that its turns say.
-use Rattle.std.specs.Prelude.{◌≡◌, ℕ, List, [], ◌∷◌, ◌+◌, ◌&&◌, ◌||◌, Bool, true, false, Option, None, IsSome, if◌then◌else◌, Some}
+-- The turns of an exchange, the newest first, and what they show of each end; and the turns of
+-- either end, one after another (MS-CSSP 3.1.5), whose state and pinned version are those that its
+-- turns say.
+use Rattle.std.specs.Prelude.{◌≡◌, ℕ, List, [], ◌∷◌, ◌+◌, ◌&&◌, ◌||◌, Bool, true, false, Option}
+use Rattle.std.specs.Prelude.{None, IsSome, if◌then◌else◌, Some}
 use Rattle.sspi_credssp.specs.declared.turn.End.{End}
 use Rattle.sspi_credssp.specs.declared.turn.End.TheVariants.{Client, Server}
 use Rattle.sspi_credssp.specs.declared.turn.Outcome.{Outcome}
 use Rattle.sspi_credssp.specs.declared.turn.Outcome.TheVariants.{Reply, Final, Finished, Refused}
 use Rattle.sspi_credssp.specs.declared.turn.Turn.{Turn}
-use Rattle.sspi_credssp.specs.Acts.{sealings_by, unsealings_by, sealings_in, unsealings_in, is_waiting_in}
+use Rattle.sspi_credssp.specs.Acts.{sealings_by, unsealings_by, sealings_in, unsealings_in}
+use Rattle.sspi_credssp.specs.Acts.{is_waiting_in}
 use Rattle.sspi_types.specs.declared.security_status.SecurityStatus.{SecurityStatus}
 use Rattle.sspi_types.specs.declared.security_status.SecurityStatus.TheVariants as statuses
 use Rattle.sspi_names.specs.declared.identity.AuthIdentity.{AuthIdentity}
 use Rattle.sspi_mech.specs.Meaning.{Meaning}
 use Rattle.sspi_credssp.specs.declared.state.CredSspState.{CredSspState}
-use Rattle.sspi_credssp.specs.declared.state.CredSspState.TheVariants.{NegoToken, AuthInfo, Final, PubKeyInfo}
+use Rattle.sspi_credssp.specs.declared.state.CredSspState.TheVariants.{NegoToken, AuthInfo, Final}
+use Rattle.sspi_credssp.specs.declared.state.CredSspState.TheVariants.{PubKeyInfo}
 use Rattle.sspi_credssp.specs.ClientTurn.{IsClientTurn}
 use Rattle.sspi_credssp.specs.Context.{ContextSetting}
 use Rattle.sspi_credssp.specs.Ends.{ClientSettings, ClientView, ServerSettings, ServerView}
@@ -137,8 +141,10 @@ ServerEnd C = Kept ServerSettings C
 abbrev pub server_end : {C P : Type 0} → ServerView C P → ServerEnd C
 server_end server = record { settings = server.settings; context = server.context }
 
--- what an end is at the turn t after these turns, by what turns make of its state and of the version that is pinned
-abbrev pub frame_at : {S C : Type 0} → (List Turn → CredSspState) → (List Turn → Option ℕ) → Bool → Kept S C → List Turn → Turn →
+-- what an end is at the turn t after these turns, by what turns make of its state and of the
+-- version that is pinned
+abbrev pub frame_at : {S C : Type 0} → (List Turn → CredSspState) → (List Turn → Option ℕ) → Bool →
+    Kept S C → List Turn → Turn →
     Frame S C
 frame_at state noted looks e past t = record {
   settings = e.settings;
@@ -155,8 +161,10 @@ abbrev pub EachTurn : (List Turn → Turn → Type 0) → List Turn → Type 0
 EachTurn MayCome [] = Unit {0}
 EachTurn MayCome (t ∷ past) = MayCome past t × EachTurn MayCome past
 
--- An end that was `first` has made these turns: each is one over its context now, which sealed and opened exactly what they say.
-pub record Ran {S C : Type 0} (c : Meaning ContextSetting C) (Each Others : List Turn → Type 0) (first now : Kept S C)
+-- An end that was `first` has made these turns: each is one over its context now, which sealed and
+-- opened exactly what they say.
+pub record Ran {S C : Type 0} (c : Meaning ContextSetting C) (Each Others : List Turn →
+    Type 0) (first now : Kept S C)
     (past : List Turn) : Type 0 where
   pub same : now.settings ≡ first.settings
   pub made : sealings_in c now.context ≡ made_in past
@@ -169,9 +177,11 @@ pub record Ran {S C : Type 0} (c : Meaning ContextSetting C) (Each Others : List
 
 -- the state after these turns
 abbrev pub client_state : List Turn → CredSspState
-client_state past = if any_ended past then Final else (if any_proved past then AuthInfo else NegoToken)
+client_state past = if any_ended past then Final
+    else (if any_proved past then AuthInfo else NegoToken)
 
--- the version that is pinned: that of the second request, since the first is the client's own, unless it is below the least
+-- the version that is pinned: that of the second request, since the first is the client's own,
+-- unless it is below the least
 abbrev pub client_noted : ℕ → List Turn → Option ℕ
 client_noted least [] = None
 client_noted least (t ∷ []) = None
@@ -185,14 +195,16 @@ has_turn (t ∷ past) = true
 
 -- what the client is at the turn t after these turns
 abbrev pub client_frame_at : {C : Type 0} → ClientEnd C → List Turn → Turn → ClientFrame C
-client_frame_at e past t = frame_at client_state (client_noted e.settings.least) (has_turn past) e past t
+client_frame_at e past t = frame_at client_state (client_noted e.settings.least) (has_turn past) e
+    past t
 
 module _ {C : Type 0} (c : Meaning ContextSetting C) where
   abbrev pub EachClientTurn : ClientEnd C → List Turn → Type 0
   EachClientTurn e past = EachTurn (λ past t. IsClientTurn c (client_frame_at e past t) t) past
 
   abbrev pub ClientRan : ClientView C → ClientView C → List Turn → Type 0
-  ClientRan first now past = Ran c (EachClientTurn (client_end now)) OthersGoOn (client_end first) (client_end now) past
+  ClientRan first now past = Ran c (EachClientTurn (client_end now)) OthersGoOn (client_end first)
+      (client_end now) past
 
   abbrev pub HasBegun : Option C → List Turn → Type 0
   HasBegun context [] = context ≡ None
@@ -224,7 +236,8 @@ any_over (t ∷ past) = (is_replied t.outcome && is_over t.acts.status) || any_o
 -- the state after these turns
 abbrev pub server_state : List Turn → CredSspState
 server_state past =
-    if any_finished past then Final else (if any_proved past then AuthInfo else (if any_over past then PubKeyInfo else NegoToken))
+    if any_finished past then Final else (if any_proved past then AuthInfo
+    else (if any_over past then PubKeyInfo else NegoToken))
 
 -- the version that is pinned: that of the first request, unless it is below the least
 abbrev pub server_noted : ℕ → List Turn → Option ℕ
@@ -247,7 +260,8 @@ module _ {C : Type 0} (c : Meaning ContextSetting C) where
 
   module _ {P : Type 0} where
     abbrev pub ServerRan : ServerView C P → ServerView C P → List Turn → Type 0
-    ServerRan first now past = Ran c (EachServerTurn (server_end now)) OthersUnrefused (server_end first) (server_end now) past
+    ServerRan first now past = Ran c (EachServerTurn (server_end now)) OthersUnrefused
+        (server_end first) (server_end now) past
 
     -- none of the turns was refused, and the server is where they left it
     pub record ServerFollows (first now : ServerView C P) (past : List Turn) : Type 0 where

@@ -30,7 +30,8 @@ pub enum EditKind {
     Add(Bytes),
     /// These bytes are delivered instead.
     Give(Bytes),
-    /// What that earlier entry sent is delivered instead; nothing where that entry is not an earlier one.
+    /// What that earlier entry sent is delivered instead; nothing where that entry is not an
+    /// earlier one.
     Again(u32),
     /// The message is not carried: `carry` fails.
     Fail,
@@ -104,10 +105,11 @@ fn fails(edits: &[Edit], entry: usize) -> bool
     edits.iter().any(|edit| edit.fails(entry))
 }
 
-/// The edits from the last one that gives this entry a text of its own, or all. What stands before it comes to nothing, so no text is
-/// made for an edit that a later one replaces.
+/// The edits from the last one that gives this entry a text of its own, or all. What stands before
+/// it comes to nothing, so no text is made for an edit that a later one replaces.
 fn since_whole(edits: &[Edit], entry: usize) -> &[Edit]
-    ensures same { (earlier : List (List ℕ)) (sent : List ℕ) → length earlier ≡ entry → fails entry edits.now ≡ false →
+    ensures same { (earlier : List (List ℕ)) (sent : List ℕ) → length earlier ≡ entry →
+        fails entry edits.now ≡ false →
         edited result.now earlier sent ≡ edited edits.now earlier sent }
     ensures none { fails entry edits.now ≡ false → fails entry result.now ≡ false }
 {
@@ -139,7 +141,8 @@ fn apply_all(
     Ok(text)
 }
 
-/// The text that the edits begin with: what was sent, of which no copy is made where the first edit replaces it.
+/// The text that the edits begin with: what was sent, of which no copy is made where the first edit
+/// replaces it.
 fn first_text(alloc: Global, edits: &[Edit], entry: usize, sent: &[u8]) -> Result<Bytes, AllocError>
     ensures { IfOk result (λ text. (earlier : List (List ℕ)) → length earlier ≡ entry →
         edited edits.now earlier text ≡ edited edits.now earlier sent.now) }

@@ -8,7 +8,8 @@ ghost use Rattle.sspi_delegate.specs.Turns.{client_turns, server_turns};
 ghost use Rattle.sspi_delegate.specs.LogKeeping.{recorded};
 ghost use Rattle.sspi_delegate.specs.History.{ClientHistory, ServerHistory, KdcStays, ProxyStays};
 ghost use Rattle.sspi_delegate.specs.Recorded.{ClientPushed, ServerPushed};
-ghost use Rattle.sspi_delegate.specs.Rounds.{added_by_client, added_by_server, ClientRoundPast, ServerRoundPast};
+ghost use Rattle.sspi_delegate.specs.Rounds.{added_by_client, added_by_server, ClientRoundPast};
+ghost use Rattle.sspi_delegate.specs.Rounds.{ServerRoundPast};
 ghost use Rattle.sspi_delegate.specs.Halves.{ClientConcludes};
 
 use crate::transcript::Transcript;
@@ -29,13 +30,15 @@ pub enum Round<T> {
     Answered(T),
     /// It was refused, with this error.
     Refused(Error),
-    /// There was no memory, and no turn was recorded. A client may then wait for a reply of its KDC.
+    /// There was no memory, and no turn was recorded. A client may then wait for a reply of its
+    /// KDC.
     Lost,
 }
 
 /// What comes of a question to the KDC, or nothing where it had no memory.
 fn ask<D: Kdc>(kdc: &mut D, question: &NetworkRequest) -> Option<Reply>
-    ensures replied { IfSome result (λ reply. HasReplied D.told D.asked D.faults kdc.old question.now reply kdc.new) }
+    ensures replied { IfSome result (λ reply. HasReplied D.told D.asked D.faults kdc.old
+        question.now reply kdc.new) }
     ensures lost { result ≡ None → HasNoReply D.told D.asked D.faults kdc.old kdc.new }
 {
     match kdc.ask(question) {
@@ -77,9 +80,10 @@ fn finish_turn<N: Mechanism, K: Mechanism, D: Kdc>(
 
 /// A turn of the client on this request, which is recorded whether or not it is refused.
 ///
-/// The KDC is asked what the client's context asks, and the turn goes on with its replies; a call of the KDC that fails goes
-/// on as `Reply::Failed`. `Lost` comes where there was no memory for the record or for a reply of the KDC: then the transcript
-/// has no further turn, and the client is as it was, or waits for that reply.
+/// The KDC is asked what the client's context asks, and the turn goes on with its replies; a call
+/// of the KDC that fails goes on as `Reply::Failed`. `Lost` comes where there was no memory for the
+/// record or for a reply of the KDC: then the transcript has no further turn, and the client is as
+/// it was, or waits for that reply.
 pub fn client_round<N: Mechanism, K: Mechanism, D: Kdc>(
     alloc: Global,
     client: &mut CredSspClient<N, K>,
@@ -89,12 +93,16 @@ pub fn client_round<N: Mechanism, K: Mechanism, D: Kdc>(
 ) -> Round<()>
     // The turn that was made and recorded.
     ensures turn { ClientPushed request result transcript.old.turns transcript.new.turns }
-    ensures made { ClientRoundPast (either N.REQUESTS N.meaning K.meaning) (kdc_calls D.told D.asked D.faults) request
-        client.old kdc.old result (client_turns (added_by_client result transcript.new.turns)) client.new kdc.new }
-    ensures client_history { let c = either N.REQUESTS N.meaning K.meaning in let k = kdc_calls D.told D.asked D.faults in
+    ensures made { ClientRoundPast (either N.REQUESTS N.meaning K.meaning)
+        (kdc_calls D.told D.asked D.faults) request
+        client.old kdc.old result (client_turns (added_by_client result transcript.new.turns))
+        client.new kdc.new }
+    ensures client_history { let c = either N.REQUESTS N.meaning K.meaning in let k =
+        kdc_calls D.told D.asked D.faults in
         (first : ClientView (SspiContext N K)) (kdc_first : D) →
         ClientHistory c k first kdc_first (client_turns transcript.old.turns) client.old kdc.old →
-        ClientRoundPast c k request first kdc_first result (client_turns transcript.new.turns) client.new kdc.new }
+        ClientRoundPast c k request first kdc_first result (client_turns transcript.new.turns)
+        client.new kdc.new }
     // What stays.
     ensures server { server_turns transcript.new.turns ≡ server_turns transcript.old.turns }
     ensures kdc { KdcStays D.told D.faults kdc.old kdc.new }
@@ -134,7 +142,8 @@ fn record_client<N: Mechanism, K: Mechanism>(
     outcome: Outcome,
 )
     requires { 0 < transcript.old.room }
-    ensures turn { transcript.new.turns ≡ recorded End.Client delivered client.old.acts client.old.output outcome ∷ transcript.old.turns }
+    ensures turn { transcript.new.turns ≡ recorded End.Client delivered client.old.acts
+        client.old.output outcome ∷ transcript.old.turns }
     ensures rest { client.new ≡ record client.old { output = [] } }
 {
     let acts = client.last_acts();
@@ -144,7 +153,8 @@ fn record_client<N: Mechanism, K: Mechanism>(
 
 /// A turn of the server on this request, which is recorded whether or not it is refused.
 ///
-/// `Lost` comes where there was no memory for the record: then the server is as it was, and the transcript has no further turn.
+/// `Lost` comes where there was no memory for the record: then the server is as it was, and the
+/// transcript has no further turn.
 pub fn server_round<N: Mechanism, K: Mechanism, C: CredentialsProxy>(
     alloc: Global,
     server: &mut CredSspServer<N, K, C>,
@@ -153,9 +163,11 @@ pub fn server_round<N: Mechanism, K: Mechanism, C: CredentialsProxy>(
 ) -> Round<Option<AuthIdentity>>
     // The turn that was made and recorded.
     ensures turn { ServerPushed request result transcript.old.turns transcript.new.turns }
-    ensures made { ServerRoundPast (either N.REQUESTS N.meaning K.meaning) C.meaning server.old result
+    ensures made { ServerRoundPast (either N.REQUESTS N.meaning K.meaning) C.meaning server.old
+        result
         (server_turns (added_by_server result transcript.new.turns)) server.new }
-    ensures server_history { let c = either N.REQUESTS N.meaning K.meaning in (first : ServerView (SspiContext N K) C) →
+    ensures server_history { let c = either N.REQUESTS N.meaning K.meaning
+        in (first : ServerView (SspiContext N K) C) →
         ServerHistory c C.meaning first (server_turns transcript.old.turns) server.old →
         ServerRoundPast c C.meaning first result (server_turns transcript.new.turns) server.new }
     // What stays.

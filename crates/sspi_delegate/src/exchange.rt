@@ -6,11 +6,13 @@ ghost use Rattle.sspi_credssp.specs.Context.{either};
 ghost use Rattle.sspi_delegate.specs.Chain.{kdc_calls};
 ghost use Rattle.sspi_delegate.specs.Headline.{around_by, parties, Delegates, Accounts, Stays};
 ghost use Rattle.sspi_delegate.specs.Turns.{client_turns, server_turns, next_end};
-ghost use Rattle.sspi_delegate.specs.History.{ClientHistory, ClientPast, ServerHistory, ServerPast, KdcStays, ProxyStays};
+ghost use Rattle.sspi_delegate.specs.History.{ClientHistory, ClientPast, ServerHistory, ServerPast};
+ghost use Rattle.sspi_delegate.specs.History.{KdcStays, ProxyStays};
 ghost use Rattle.sspi_delegate.specs.Halves.{IsNoRefusal, ClientHalfPast, ServerHalfPast, Between};
 ghost use Rattle.sspi_delegate.specs.declared.carried.Carried.{Carried};
 ghost use Rattle.sspi_delegate.specs.Log.{Stopped, RunEnds, TurnLeft, IsDue, Given, turns_of};
-ghost use Rattle.sspi_delegate.specs.Halves.{Asked, Turned, ClientHalf, ServerHalf, HasMessage, IsAnswerTo};
+ghost use Rattle.sspi_delegate.specs.Halves.{Asked, Turned, ClientHalf, ServerHalf, HasMessage};
+ghost use Rattle.sspi_delegate.specs.Halves.{IsAnswerTo};
 ghost use Rattle.sspi_delegate.specs.Headline.{IsFresh};
 ghost use Rattle.sspi_delegate.specs.Link.{StaysTold, newest_message, AnswerTold};
 ghost use Rattle.sspi_delegate.specs.Sending.{GiveTold, RequestTold};
@@ -28,32 +30,37 @@ use sspi_tsreq::TsRequest;
 use sspi_types::{Error, ErrorKind};
 use std::alloc::Global;
 
-/// Carries the messages of a client and a server until the server has the client's credentials (MS-CSSP 3.1.5).
+/// Carries the messages of a client and a server until the server has the client's credentials
+/// (MS-CSSP 3.1.5).
 ///
-/// In each of at most `limit` rounds the client makes a turn and then the server. The first turn of the client in this call takes a
-/// default request; each other turn takes the request with which the newest delivery begins, which is read to its end or to
-/// `DELIVERY_LIMIT` bytes, whichever comes first. Where the client's context asks a KDC, `kdc` is asked and the turn goes on
-/// with its reply; a call that fails goes on as `Reply::Failed`.
+/// In each of at most `limit` rounds the client makes a turn and then the server. The first turn of
+/// the client in this call takes a default request; each other turn takes the request with which
+/// the newest delivery begins, which is read to its end or to `DELIVERY_LIMIT` bytes, whichever
+/// comes first. Where the client's context asks a KDC, `kdc` is asked and the turn goes on with its
+/// reply; a call that fails goes on as `Reply::Failed`.
 ///
 /// Ok gives the identity that the server opened, and how many turns the client made. Refused:
 ///
-/// - `Client`, `Server`: this end refused its turn, with this error. What a refusing server tells its client is carried, unless
-///   it does not fit, the link fails or there is no memory; that changes no answer.
-/// - `Read`: what was delivered to this end is no request. The kind is `UnexpectedEof` where it ends too early or its header is
-///   at fault, and else `InvalidData`.
+/// - `Client`, `Server`: this end refused its turn, with this error. What a refusing server tells
+///   its client is carried, unless it does not fit, the link fails or there is no memory; that
+///   changes no answer.
+/// - `Read`: what was delivered to this end is no request. The kind is `UnexpectedEof` where it
+///   ends too early or its header is at fault, and else `InvalidData`.
 /// - `Write`: the message of this end has a content past `sspi_ber::MAX_CONTENT`, 1048576 octets.
 /// - `LinkFault`: a call on the link failed.
-/// - `TurnsSpent`: the client made `limit` turns, each was answered, and none of them ended the exchange; at once where `limit`
-///   is 0.
-/// - `InsufficientMemory`, that of an end or of the KDC among it; never in place of an end's other refusal, of a message that
-///   is too long or of turns that are spent.
+/// - `TurnsSpent`: the client made `limit` turns, each was answered, and none of them ended the
+///   exchange; at once where `limit` is 0.
+/// - `InsufficientMemory`, that of an end or of the KDC among it; never in place of an end's other
+///   refusal, of a message that is too long or of turns that are spent.
 ///
-/// The transcript lets go of the turns that it held before. Whatever the answer, it then has each turn that was made, a refused one
-/// too, and the log of the link each message that it took. Both ends are as their last turn left them. Where there was no memory
-/// for a reply of the KDC, the client waits for it in one further turn, on the request that was due, which has no record.
+/// The transcript lets go of the turns that it held before. Whatever the answer, it then has each
+/// turn that was made, a refused one too, and the log of the link each message that it took. Both
+/// ends are as their last turn left them. Where there was no memory for a reply of the KDC, the
+/// client waits for it in one further turn, on the request that was due, which has no record.
 ///
-/// `delegates` speaks of ends to which nothing was delivered since they were made, by whatever version and least version;
-/// `accounts` and `stays` speak of every call, and `delegates` holds both.
+/// `delegates` speaks of ends to which nothing was delivered since they were made, by whatever
+/// version and least version; `accounts` and `stays` speak of every call, and `delegates` holds
+/// both.
 pub fn delegate<N: Mechanism, K: Mechanism, C: CredentialsProxy, L: Link, D: Kdc>(
     alloc: Global,
     client: &mut CredSspClient<N, K>,
@@ -63,7 +70,8 @@ pub fn delegate<N: Mechanism, K: Mechanism, C: CredentialsProxy, L: Link, D: Kdc
     limit: u32,
     transcript: &mut Transcript,
 ) -> Result<Delegation, DelegateError>
-    ensures delegates { IsFresh client.old server.old → Delegates (either N.REQUESTS N.meaning K.meaning)
+    ensures delegates { IsFresh client.old server.old →
+        Delegates (either N.REQUESTS N.meaning K.meaning)
         (around_by C.meaning L.log L.edits L.faults D.told D.asked D.faults)
         (parties client.old server.old link.old kdc.old []) limit result
         (parties client.new server.new link.new kdc.new transcript.new.turns) }
@@ -90,19 +98,25 @@ fn rounds<N: Mechanism, K: Mechanism, C: CredentialsProxy, L: Link, D: Kdc>(
     transcript: &mut Transcript,
 ) -> Result<Delegation, DelegateError>
     // What the answer says of the link and the turns.
-    ensures cause { transcript.old.turns ≡ [] → RunEnds (L.log link.old) (L.faults link.old) limit result transcript.new.turns
+    ensures cause { transcript.old.turns ≡ [] →
+        RunEnds (L.log link.old) (L.faults link.old) limit result transcript.new.turns
         (L.log link.new) (L.faults link.new) }
-    ensures told { StaysTold (L.edits link.old) (L.edits link.new) (L.log link.old) (L.log link.new) }
-    ensures failing { AnswerTold (L.edits link.old) (L.faults link.old) (L.faults link.new) result (L.log link.new)
+    ensures told { StaysTold (L.edits link.old) (L.edits link.new) (L.log link.old)
+        (L.log link.new) }
+    ensures failing { AnswerTold (L.edits link.old) (L.faults link.old) (L.faults link.new) result
+        (L.log link.new)
         transcript.new.turns }
-    ensures within { (limit ≡ 0 → result ≡ Err DelegateError.TurnsSpent) × IfOk result (λ delegation. delegation.rounds ≤ limit) }
+    ensures within { (limit ≡ 0 → result ≡ Err DelegateError.TurnsSpent) ×
+        IfOk result (λ delegation. delegation.rounds ≤ limit) }
     // What both ends did.
     ensures client_history { transcript.old.turns ≡ [] →
         ClientPast (either N.REQUESTS N.meaning K.meaning) (kdc_calls D.told D.asked D.faults)
-        (IsDue (L.log link.old) End.Client transcript.new.turns (L.log link.new)) client.old kdc.old result
+        (IsDue (L.log link.old) End.Client transcript.new.turns (L.log link.new)) client.old kdc.old
+        result
         (client_turns transcript.new.turns) client.new kdc.new }
     ensures server_history { transcript.old.turns ≡ [] →
-        ServerPast (either N.REQUESTS N.meaning K.meaning) C.meaning server.old result (server_turns transcript.new.turns) server.new }
+        ServerPast (either N.REQUESTS N.meaning K.meaning) C.meaning server.old result
+        (server_turns transcript.new.turns) server.new }
     ensures proxy { ProxyStays C.meaning server.old.proxy server.new.proxy }
     ensures kdc { KdcStays D.told D.faults kdc.old kdc.new }
 {
@@ -118,7 +132,8 @@ fn rounds<N: Mechanism, K: Mechanism, C: CredentialsProxy, L: Link, D: Kdc>(
     Err(DelegateError::TurnsSpent)
 }
 
-/// The client's half of a round: its request is read, it makes its turn, and its message is carried.
+/// The client's half of a round: its request is read, it makes its turn, and its message is
+/// carried.
 fn client_half<N: Mechanism, K: Mechanism, L: Link, D: Kdc>(
     alloc: Global,
     client: &mut CredSspClient<N, K>,
@@ -130,19 +145,26 @@ fn client_half<N: Mechanism, K: Mechanism, L: Link, D: Kdc>(
     ensures half { (base : List Carried) (start limit : ℕ) →
         next_end transcript.old.turns ≡ End.Client → TurnLeft limit transcript.old.turns →
         Between base start transcript.old.turns (L.log link.old) (L.faults link.old) →
-        ClientHalf base start limit result transcript.new.turns (L.log link.new) (L.faults link.new) }
+        ClientHalf base start limit result transcript.new.turns (L.log link.new)
+        (L.faults link.new) }
     ensures next { OnOk result (next_end transcript.new.turns ≡ End.Server) }
-    ensures count { OnOk result (turns_of End.Client transcript.new.turns ≡ turns_of End.Client transcript.old.turns + 1) }
+    ensures count { OnOk result (turns_of End.Client transcript.new.turns ≡ turns_of End.Client
+        transcript.old.turns + 1) }
     // What the answer says of the link.
-    ensures told { StaysTold (L.edits link.old) (L.edits link.new) (L.log link.old) (L.log link.new) }
-    ensures failing { AnswerTold (L.edits link.old) (L.faults link.old) (L.faults link.new) result (L.log link.new)
+    ensures told { StaysTold (L.edits link.old) (L.edits link.new) (L.log link.old)
+        (L.log link.new) }
+    ensures failing { AnswerTold (L.edits link.old) (L.faults link.old) (L.faults link.new) result
+        (L.log link.new)
         transcript.new.turns }
     // What the ends did.
-    ensures client_history { let c = either N.REQUESTS N.meaning K.meaning in let k = kdc_calls D.told D.asked D.faults in
+    ensures client_history { let c = either N.REQUESTS N.meaning K.meaning in let k =
+        kdc_calls D.told D.asked D.faults in
         (base : List Carried) (start : ℕ) (first : ClientView (SspiContext N K)) (kdc_first : D) →
-        next_end transcript.old.turns ≡ End.Client → Between base start transcript.old.turns (L.log link.old) (L.faults link.old) →
+        next_end transcript.old.turns ≡ End.Client →
+        Between base start transcript.old.turns (L.log link.old) (L.faults link.old) →
         ClientHistory c k first kdc_first (client_turns transcript.old.turns) client.old kdc.old →
-        ClientHalfPast c k (IsDue base End.Client transcript.new.turns (L.log link.new)) first kdc_first result
+        ClientHalfPast c k (IsDue base End.Client transcript.new.turns (L.log link.new)) first
+        kdc_first result
         (client_turns transcript.new.turns) client.new kdc.new }
     ensures kdc { KdcStays D.told D.faults kdc.old kdc.new }
     ensures server { server_turns transcript.new.turns ≡ server_turns transcript.old.turns }
@@ -166,17 +188,23 @@ fn server_half<N: Mechanism, K: Mechanism, C: CredentialsProxy, L: Link>(
     transcript: &mut Transcript,
 ) -> Result<Option<AuthIdentity>, DelegateError>
     // Where the exchange stands.
-    ensures half { (base : List Carried) (start limit : ℕ) → next_end transcript.old.turns ≡ End.Server →
+    ensures half { (base : List Carried) (start limit : ℕ) →
+        next_end transcript.old.turns ≡ End.Server →
         Between base start transcript.old.turns (L.log link.old) (L.faults link.old) →
-        ServerHalf base start limit result transcript.new.turns (L.log link.new) (L.faults link.new) }
+        ServerHalf base start limit result transcript.new.turns (L.log link.new)
+        (L.faults link.new) }
     ensures next { OnOk result (next_end transcript.new.turns ≡ End.Client) }
-    ensures count { OnOk result (turns_of End.Client transcript.new.turns ≡ turns_of End.Client transcript.old.turns) }
+    ensures count { OnOk result (turns_of End.Client transcript.new.turns ≡ turns_of End.Client
+        transcript.old.turns) }
     // What the answer says of the link.
-    ensures told { StaysTold (L.edits link.old) (L.edits link.new) (L.log link.old) (L.log link.new) }
-    ensures failing { AnswerTold (L.edits link.old) (L.faults link.old) (L.faults link.new) result (L.log link.new)
+    ensures told { StaysTold (L.edits link.old) (L.edits link.new) (L.log link.old)
+        (L.log link.new) }
+    ensures failing { AnswerTold (L.edits link.old) (L.faults link.old) (L.faults link.new) result
+        (L.log link.new)
         transcript.new.turns }
     // What the ends did.
-    ensures server_history { let c = either N.REQUESTS N.meaning K.meaning in (first : ServerView (SspiContext N K) C) →
+    ensures server_history { let c = either N.REQUESTS N.meaning K.meaning
+        in (first : ServerView (SspiContext N K) C) →
         ServerHistory c C.meaning first (server_turns transcript.old.turns) server.old →
         ServerHalfPast c C.meaning first result (server_turns transcript.new.turns) server.new }
     ensures proxy { ProxyStays C.meaning server.old.proxy server.new.proxy }
@@ -198,7 +226,8 @@ fn server_half<N: Mechanism, K: Mechanism, C: CredentialsProxy, L: Link>(
     }
 }
 
-/// The request of the next turn: the client's first one is its own, each other one is read from the newest delivery.
+/// The request of the next turn: the client's first one is its own, each other one is read from the
+/// newest delivery.
 fn next_request<L: Link>(
     alloc: Global,
     link: &mut L,
@@ -214,9 +243,11 @@ fn next_request<L: Link>(
         Between base start transcript.now.turns (L.log link.old) (L.faults link.old) →
         Stopped base start limit error transcript.now.turns (L.log link.new) (L.faults link.new)) }
     // What the answer says of the link.
-    ensures told { StaysTold (L.edits link.old) (L.edits link.new) (L.log link.old) (L.log link.new) }
+    ensures told { StaysTold (L.edits link.old) (L.edits link.new) (L.log link.old)
+        (L.log link.new) }
     ensures link { IfErr result IsNoRefusal }
-    ensures failing { RequestTold (L.edits link.old) (L.faults link.old) (L.faults link.new) result }
+    ensures failing { RequestTold (L.edits link.old) (L.faults link.old) (L.faults link.new)
+        result }
 {
     if let None = transcript.newest() {
         return Ok(TsRequest::default());
@@ -241,14 +272,18 @@ fn give<L: Link>(alloc: Global, link: &mut L, transcript: &Transcript) -> Result
     ensures err { IfErr result (λ error. (base : List Carried) (start limit : ℕ) →
         Turned base start transcript.now.turns (L.log link.old) (L.faults link.old) →
         Stopped base start limit error transcript.now.turns (L.log link.new) (L.faults link.new)) }
-    ensures given { (base : List Carried) (start : ℕ) → L.faults link.old ≡ start → HasMessage transcript.now.turns →
-        LoggedButLast base transcript.now.turns (L.log link.old) → Given base start transcript.now.turns (L.log link.new)
+    ensures given { (base : List Carried) (start : ℕ) → L.faults link.old ≡ start →
+        HasMessage transcript.now.turns →
+        LoggedButLast base transcript.now.turns (L.log link.old) →
+        Given base start transcript.now.turns (L.log link.new)
         (L.faults link.new) }
     // What the answer says of the link.
     ensures link { IfErr result IsNoRefusal }
     ensures same { OnErr result (L.log link.new ≡ L.log link.old) }
-    ensures told { StaysTold (L.edits link.old) (L.edits link.new) (L.log link.old) (L.log link.new) }
-    ensures failing { GiveTold (L.edits link.old) (L.log link.old) (newest_message transcript.now.turns) (L.faults link.old)
+    ensures told { StaysTold (L.edits link.old) (L.edits link.new) (L.log link.old)
+        (L.log link.new) }
+    ensures failing { GiveTold (L.edits link.old) (L.log link.old)
+        (newest_message transcript.now.turns) (L.faults link.old)
         (L.faults link.new) result }
 {
     match transcript.newest() {

@@ -12,7 +12,8 @@ use std::marker::Model;
 
 /// What moves bytes for a `KeptLink`, and tells nothing of them.
 ///
-/// A call that answers `Failed` counts one fault, up to the last value of the count, and no other answer counts any.
+/// A call that answers `Failed` counts one fault, up to the last value of the count, and no other
+/// answer counts any.
 pub trait Carrier: Drop {
     ghost use Rattle.std.specs.Prelude.{ℕ, List, ◌≤◌, length, IfOk, IfErr, OnOk};
     ghost use Rattle.sspi_credssp.specs.declared.turn.End.{End};
@@ -30,13 +31,15 @@ pub trait Carrier: Drop {
     /// What it leaves of the carrier that sending, or receiving, is refused with this error.
     ghost refuses: { Self → LinkError → Self → Type 0 };
 
-    /// Sends a whole message from this end. What was left of the last one is not to be received any more.
+    /// Sends a whole message from this end. What was left of the last one is not to be received any
+    /// more.
     fn send(&mut self, from: End, sent: &[u8]) -> Result<(), LinkError>
         ensures sends { OnOk result (sends self.old from sent.now self.new) }
         ensures refuses { IfErr result (λ error. refuses self.old error self.new) }
         ensures cause { LinkCause (faults self.old) (faults self.new) result };
 
-    /// Writes the next bytes of the message to the prefix of `into`, and answers how many they are; none is its end.
+    /// Writes the next bytes of the message to the prefix of `into`, and answers how many they are;
+    /// none is its end.
     fn receive(&mut self, into: &mut [u8]) -> Result<usize, LinkError>
         ensures bound { IfOk result (λ count. count ≤ length into.new) }
         ensures receives { IfOk result (λ count. receives self.old count into.new self.new) }
@@ -44,8 +47,8 @@ pub trait Carrier: Drop {
         ensures cause { LinkCause (faults self.old) (faults self.new) result };
 }
 
-/// A link over a carrier, which keeps the log. A call that is refused leaves the log, and where there is no memory for the log the
-/// carrier is not asked.
+/// A link over a carrier, which keeps the log. A call that is refused leaves the log, and where
+/// there is no memory for the log the carrier is not asked.
 #[derive(Drop)]
 pub struct KeptLink<R: Carrier> {
     alloc: Global,
@@ -101,7 +104,8 @@ impl<R: Carrier> Link for KeptLink<R> {
         ensures cause { LinkCause (R.faults self.old.carrier) (R.faults self.new.carrier) result }
         ensures sends { OnOk result (R.sends self.old.carrier from sent.now self.new.carrier) }
         ensures refuses { IfErr result (λ error.
-            DidOrKept error (R.refuses self.old.carrier error self.new.carrier) (self.new.carrier ≡ self.old.carrier)) }
+            DidOrKept error (R.refuses self.old.carrier error self.new.carrier)
+            (self.new.carrier ≡ self.old.carrier)) }
     {
         let sent_copy = Bytes::from_slice(self.alloc, sent)?;
         self.log.reserve()?;
@@ -119,9 +123,11 @@ impl<R: Carrier> Link for KeptLink<R> {
         ensures gives { PieceGives self.old.log self.new.log result into.new }
         ensures cause { LinkCause (R.faults self.old.carrier) (R.faults self.new.carrier) result }
         ensures none { self.old.log ≡ [] → (result ≡ Ok 0) × (self.new ≡ self.old) }
-        ensures receives { IfOk result (λ count. IsReceived R.receives self.old.log self.old.carrier count into.new self.new.carrier) }
+        ensures receives { IfOk result (λ count. IsReceived R.receives self.old.log self.old.carrier
+            count into.new self.new.carrier) }
         ensures refuses { IfErr result (λ error.
-            DidOrKept error (R.refuses self.old.carrier error self.new.carrier) (self.new.carrier ≡ self.old.carrier)) }
+            DidOrKept error (R.refuses self.old.carrier error self.new.carrier)
+            (self.new.carrier ≡ self.old.carrier)) }
     {
         self.log.receive(&mut self.carrier, into)
     }

@@ -9,7 +9,8 @@ ghost use Rattle.sspi_delegate.specs.Turns.{GivesNewest, ServerEnd};
 
 use sspi_mech::Mechanism;
 
-/// The server that an exchange leaves and its turns tell the identity that it opened last: one at most.
+/// The server that an exchange leaves and its turns tell the identity that it opened last: one at
+/// most.
 pub fn a_run_gives_one_identity<N: Mechanism, K: Mechanism>()
     ensures { let c = either N.REQUESTS N.meaning K.meaning in
         (server : ServerEnd (SspiContext N K)) (turns : List Turn) (identity other : AuthIdentity) →

@@ -36,14 +36,15 @@ impl<T: Drop> From<AllocFailed<T>> for LinkError {
 
 /// What carries the messages of an exchange, and keeps a log of them.
 ///
-/// A call that answers `Failed` counts one fault, up to the last value of the count, and no other answer counts any: so the count
-/// shows a caller that tries a failed call again. A link that tells its edits delivers what they give, fails only where they say
-/// so, and carries nothing there.
+/// A call that answers `Failed` counts one fault, up to the last value of the count, and no other
+/// answer counts any: so the count shows a caller that tries a failed call again. A link that tells
+/// its edits delivers what they give, fails only where they say so, and carries nothing there.
 pub trait Link: Drop {
     ghost use Rattle.std.specs.Prelude.{◌≡◌, [], ◌∷◌, ℕ, List, Option, OnOk, OnErr};
     ghost use Rattle.sspi_delegate.specs.declared.carried.Carried.{Carried};
     ghost use Rattle.sspi_delegate.specs.declared.edit.Edit.{Edit};
-    ghost use Rattle.sspi_delegate.specs.Link.{LinkCause, PieceGives, IsWithin, CarryTold, NeverFails, FollowsTold};
+    ghost use Rattle.sspi_delegate.specs.Link.{LinkCause, PieceGives, IsWithin, CarryTold};
+    ghost use Rattle.sspi_delegate.specs.Link.{NeverFails, FollowsTold};
     ghost use Rattle.sspi_delegate.specs.Log.{begun};
 
     /// What was carried, the newest entry first.
@@ -68,12 +69,13 @@ pub trait Link: Drop {
         ensures edits { edits self.new ≡ edits self.old }
         ensures most { most self.new ≡ most self.old }
         // What the edits say of a call.
-        ensures told { CarryTold (edits self.old) (log self.old) sent.now (faults self.old) (faults self.new) result }
+        ensures told { CarryTold (edits self.old) (log self.old) sent.now (faults self.old)
+            (faults self.new) result }
         ensures follows { FollowsTold (edits self.new) (log self.new) };
 
-    /// Writes the next bytes of the newest delivery to the prefix of `into`, and answers how many they are.
-    /// None, where `into` is not empty, is the end of the delivery. Without an entry there are none, and nothing changes.
-    /// A call that is not `Ok` leaves the log.
+    /// Writes the next bytes of the newest delivery to the prefix of `into`, and answers how many
+    /// they are. None, where `into` is not empty, is the end of the delivery. Without an entry
+    /// there are none, and nothing changes. A call that is not `Ok` leaves the log.
     fn piece(&mut self, into: &mut [u8]) -> Result<usize, LinkError>
         // What was received, and why not.
         ensures gives { PieceGives (log self.old) (log self.new) result into.new }

@@ -1,7 +1,9 @@
 //! The log of a link in memory.
 
-ghost use Rattle.std.specs.Prelude.{◌≡◌, ◌<◌, ◌≤◌, [], ◌∷◌, length, reverse, true, IfOk, IfErr, OnOk, OnErr};
-ghost use Rattle.sspi_delegate.specs.Link.{DidOrKept, IsReceived, IsReceivedOf, LinkCause, PieceGives, Delivers};
+ghost use Rattle.std.specs.Prelude.{◌≡◌, ◌<◌, ◌≤◌, [], ◌∷◌, length, reverse, true, IfOk, IfErr};
+ghost use Rattle.std.specs.Prelude.{OnOk, OnErr};
+ghost use Rattle.sspi_delegate.specs.Link.{DidOrKept, IsReceived, IsReceivedOf, LinkCause};
+ghost use Rattle.sspi_delegate.specs.Link.{PieceGives, Delivers};
 ghost use Rattle.sspi_delegate.specs.LogKeeping.{NewestDelivers};
 ghost use Rattle.sspi_delegate.specs.Log.{grown};
 
@@ -50,7 +52,8 @@ impl Log {
         self.entries.push_reserved(entry);
     }
 
-    /// Hands out the next bytes of `text`, at most so many, of which the newest entry has had some already.
+    /// Hands out the next bytes of `text`, at most so many, of which the newest entry has had some
+    /// already.
     pub fn hand_out(
         &mut self,
         text: &[u8],
@@ -81,10 +84,13 @@ impl Log {
         into: &mut [u8],
     ) -> Result<usize, LinkError>
         ensures gives { PieceGives self.old.entries self.new.entries result into.new }
-        ensures receives { IfOk result (λ count. IsReceived R.receives self.old.entries carrier.old count into.new carrier.new) }
-        ensures refuses { IfErr result (λ error. DidOrKept error (R.refuses carrier.old error carrier.new) (carrier.new ≡ carrier.old)) }
+        ensures receives { IfOk result (λ count. IsReceived R.receives self.old.entries carrier.old
+            count into.new carrier.new) }
+        ensures refuses { IfErr result (λ error. DidOrKept error
+            (R.refuses carrier.old error carrier.new) (carrier.new ≡ carrier.old)) }
         ensures cause { LinkCause (R.faults carrier.old) (R.faults carrier.new) result }
-        ensures none { self.old.entries ≡ [] → (result ≡ Ok 0) × (self.new ≡ self.old) × (carrier.new ≡ carrier.old) }
+        ensures none { self.old.entries ≡ [] → (result ≡ Ok 0) × (self.new ≡ self.old) ×
+            (carrier.new ≡ carrier.old) }
     {
         let Some(last) = self.entries.len().checked_sub(1) else {
             return Ok(0);
@@ -99,7 +105,10 @@ impl Model for Log {
 
     ghost Value = { LogView };
 
-    ghost view = { λ log. record { entries = reverse log.entries.items; room = vec_capacity log.entries - vec_len log.entries } };
+    ghost view = { λ log. record {
+      entries = reverse log.entries.items;
+      room = vec_capacity log.entries - vec_len log.entries;
+    } };
 }
 
 fn hand_out(
@@ -112,7 +121,8 @@ fn hand_out(
     requires delivers { Delivers (Some text.now) entry.old }
     requires some { 0 < most }
     // What was handed out.
-    ensures ok { IfOk result (λ n. (n ≤ length into.new) × (entry.old.ended ≡ true → n ≡ 0) × (entry.new ≡ grown entry.old n into.new)) }
+    ensures ok { IfOk result (λ n. (n ≤ length into.new) × (entry.old.ended ≡ true → n ≡ 0) ×
+        (entry.new ≡ grown entry.old n into.new)) }
     ensures err { OnErr result (entry.new ≡ entry.old) }
     // How much, and that the delivery stays the same.
     ensures within { IfOk result (λ n. n ≤ most) }
@@ -138,10 +148,13 @@ fn receive<R: Carrier>(
     carrier: &mut R,
     into: &mut [u8],
 ) -> Result<usize, LinkError>
-    ensures ok { IfOk result (λ n. (n ≤ length into.new) × (entry.old.ended ≡ true → n ≡ 0) × (entry.new ≡ grown entry.old n into.new)) }
+    ensures ok { IfOk result (λ n. (n ≤ length into.new) × (entry.old.ended ≡ true → n ≡ 0) ×
+        (entry.new ≡ grown entry.old n into.new)) }
     ensures err { OnErr result (entry.new ≡ entry.old) }
-    ensures receives { IfOk result (λ count. IsReceivedOf R.receives entry.old.ended carrier.old count into.new carrier.new) }
-    ensures refuses { IfErr result (λ error. DidOrKept error (R.refuses carrier.old error carrier.new) (carrier.new ≡ carrier.old)) }
+    ensures receives { IfOk result (λ count. IsReceivedOf R.receives entry.old.ended carrier.old
+        count into.new carrier.new) }
+    ensures refuses { IfErr result (λ error. DidOrKept error
+        (R.refuses carrier.old error carrier.new) (carrier.new ≡ carrier.old)) }
     ensures cause { LinkCause (R.faults carrier.old) (R.faults carrier.new) result }
 {
     if entry.ended {

@@ -11,10 +11,12 @@ use sspi_types::Bytes;
 use std::alloc::Global;
 use std::marker::Model;
 
-/// A link in memory: it delivers what was sent, but for its edits, and it fails only where one of them says so.
+/// A link in memory: it delivers what was sent, but for its edits, and it fails only where one of
+/// them says so.
 ///
-/// Where several edits name one entry, the first changes what was sent, and each further one the result so far. What no clause says:
-/// to carry a message takes time linear in it, in the number of all edits and in the bytes that this entry's edits add or give.
+/// Where several edits name one entry, the first changes what was sent, and each further one the
+/// result so far. What no clause says: to carry a message takes time linear in it, in the number of
+/// all edits and in the bytes that this entry's edits add or give.
 #[derive(Drop)]
 pub struct MemoryLink {
     alloc: Global,
@@ -59,7 +61,8 @@ impl MemoryLink {
         }
     }
 
-    /// Limits each piece to `most` bytes from here on; 0 counts as 1. What is delivered stays the same.
+    /// Limits each piece to `most` bytes from here on; 0 counts as 1. What is delivered stays the
+    /// same.
     pub fn set_piece(&mut self, most: usize)
         ensures { self.new ≡ record self.old { most = Some (max 1 most) } }
     {

@@ -19,11 +19,13 @@ pub const DELIVERY_LIMIT: usize = 5 + MAX_CONTENT;
 // A message of an exchange is some hundred bytes, and the room is cleared for each delivery.
 const PIECE_LENGTH: usize = 1024;
 
-/// A reader that was fed with the newest delivery, piece by piece as the link gives it, to its end or to the limit.
+/// A reader that was fed with the newest delivery, piece by piece as the link gives it, to its end
+/// or to the limit.
 pub(crate) fn take_delivery<L: Link>(alloc: Global, link: &mut L) -> Result<TsReader, LinkError>
     ensures takes { IsUnread (L.log link.old) → TakesIn (L.log link.old) (L.log link.new) result }
     ensures cause { LinkCause (L.faults link.old) (L.faults link.new) result }
-    ensures told { StaysTold (L.edits link.old) (L.edits link.new) (L.log link.old) (L.log link.new) }
+    ensures told { StaysTold (L.edits link.old) (L.edits link.new) (L.log link.old)
+        (L.log link.new) }
     ensures failing { NeverFails (L.edits link.old) (L.faults link.old) (L.faults link.new) result }
 {
     let mut reader = TsReader::new(alloc);
@@ -60,9 +62,12 @@ pub(crate) fn send<L: Link>(
     from: End,
     message: &TsRequest,
 ) -> Result<(), DelegateError>
-    ensures sends { Sends from message.now (L.log link.old) (L.log link.new) (L.faults link.old) (L.faults link.new) result }
-    ensures told { StaysTold (L.edits link.old) (L.edits link.new) (L.log link.old) (L.log link.new) }
-    ensures failing { SendTold (L.edits link.old) (L.log link.old) message.now (L.faults link.old) (L.faults link.new) result }
+    ensures sends { Sends from message.now (L.log link.old) (L.log link.new) (L.faults link.old)
+        (L.faults link.new) result }
+    ensures told { StaysTold (L.edits link.old) (L.edits link.new) (L.log link.old)
+        (L.log link.new) }
+    ensures failing { SendTold (L.edits link.old) (L.log link.old) message.now (L.faults link.old)
+        (L.faults link.new) result }
 {
     let text = match message.encode(alloc) {
         Ok(text) => text,

@@ -1,5 +1,6 @@
 -- Many calls on a desk, and what they are to each session.
-use Rattle.std.specs.Prelude.{◌≡◌, ◌==◌, ℕ, List, [], ◌∷◌, length, Option, None, Some, All, Result, Err, if◌then◌else◌}
+use Rattle.std.specs.Prelude.{◌≡◌, ◌==◌, ℕ, List, [], ◌∷◌, length, Option, None, Some, All, Result}
+use Rattle.std.specs.Prelude.{Err, if◌then◌else◌}
 use Rattle.sspi_mech.specs.Meaning.{Meaning}
 use Rattle.sspi_credssp.specs.Context.{ContextSetting}
 use Rattle.sspi_credssp.specs.Proxy.{ProxyMeaning}
@@ -14,7 +15,8 @@ use Rattle.sspi_desk.specs.Desk.{DeskView, session, Counts}
 -- what the session is given, in order
 abbrev pub bytes_for : ℕ → List Call → List (List ℕ)
 bytes_for s [] = []
-bytes_for s (call ∷ calls) = if call.session == s then call.bytes ∷ bytes_for s calls else bytes_for s calls
+bytes_for s (call ∷ calls) = if call.session == s then call.bytes ∷ bytes_for s calls
+    else bytes_for s calls
 
 -- what the session is answered, in order: the answers at its calls
 abbrev pub answers_for : {A : Type 0} → ℕ → List Call → List A → List A
@@ -24,17 +26,21 @@ answers_for s (call ∷ calls) (answer ∷ answers) =
     if call.session == s then answer ∷ answers_for s calls answers else answers_for s calls answers
 
 module _ {C P : Type 0} (c : Meaning ContextSetting C) (p : ProxyMeaning P) where
-  -- A session that is kept gives what its server gives alone, and is kept; of one that is not kept each call has the answer
-  -- `NoSession`.
-  abbrev pub ServesSession : Option (ServerView C P) → List (List ℕ) → List (Result Served DeskError) → Option (ServerView C P) → Type 0
+  -- A session that is kept gives what its server gives alone, and is kept; of one that is not kept
+  -- each call has the answer `NoSession`.
+  abbrev pub ServesSession : Option (ServerView C P) → List (List ℕ) →
+      List (Result Served DeskError) → Option (ServerView C P) → Type 0
   ServesSession None calls answers None = All (λ answer. answer ≡ Err NoSession) answers
   ServesSession None calls answers (Some after) = ⊥
   ServesSession (Some before) calls answers None = ⊥
   ServesSession (Some before) calls answers (Some after) = Alone c p before calls answers after
 
-  -- Each call has one answer, each session goes on as if it were alone, and the limit and both counts stay.
-  pub record ServesAll (calls : List Call) (answers : List (Result Served DeskError)) (old new : DeskView C P) : Type 0 where
+  -- Each call has one answer, each session goes on as if it were alone, and the limit and both
+  -- counts stay.
+  pub record ServesAll (calls : List Call) (answers : List (Result Served DeskError))
+      (old new : DeskView C P) : Type 0 where
     pub answered : length answers ≡ length calls
-    pub each : (s : ℕ) → ServesSession (session s old) (bytes_for s calls) (answers_for s calls answers) (session s new)
+    pub each : (s : ℕ) → ServesSession (session s old) (bytes_for s calls)
+        (answers_for s calls answers) (session s new)
     pub limit : new.limit ≡ old.limit
     pub counts : Counts new old.admitted (length old.kept)

@@ -10,7 +10,8 @@ use Rattle.sspi_desk.specs.Call.{IsServed}
 
 module _ {C P : Type 0} (c : Meaning ContextSetting C) (p : ProxyMeaning P) where
   -- Given these byte strings in turn, the server gives these answers, and is then `new`.
-  abbrev pub Alone : ServerView C P → List (List ℕ) → List (Result Served DeskError) → ServerView C P → Type 0
+  abbrev pub Alone : ServerView C P → List (List ℕ) → List (Result Served DeskError) →
+      ServerView C P → Type 0
   Alone old [] [] new = new ≡ old
   Alone old [] (answer ∷ answers) new = ⊥
   Alone old (bytes ∷ calls) [] new = ⊥

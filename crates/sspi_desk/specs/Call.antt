@@ -1,5 +1,7 @@
--- One call on a server (MS-CSSP 3.1.5.2): bytes are read, the server takes their request, and its message is encoded.
-use Rattle.std.specs.Prelude.{◌≡◌, ◌≢◌, ◌⊎◌, ℕ, List, Option, None, Some, Result, Ok, Err, true, false}
+-- One call on a server (MS-CSSP 3.1.5.2): bytes are read, the server takes their request, and its
+-- message is encoded.
+use Rattle.std.specs.Prelude.{◌≡◌, ◌≢◌, ◌⊎◌, ℕ, List, Option, None, Some, Result, Ok, Err, true}
+use Rattle.std.specs.Prelude.{false}
 use Rattle.sspi_types.specs.declared.error_kind.ErrorKind.TheVariants as kinds
 use Rattle.sspi_ber.specs.Pieces.{Ended, Invalid}
 use Rattle.sspi_ber.specs.declared.wire_kind.WireKind.{WireKind}
@@ -18,7 +20,8 @@ use Rattle.sspi_credssp.specs.Proxy.{ProxyMeaning}
 use Rattle.sspi_credssp.specs.Ends.{ServerView}
 use Rattle.sspi_credssp.specs.ServerCall.{ServerCall}
 use Rattle.sspi_desk.specs.declared.answer.DeskError.{DeskError}
-use Rattle.sspi_desk.specs.declared.answer.DeskError.TheVariants.{NoSession, Unread, Refused, TooLong, InsufficientMemory}
+use Rattle.sspi_desk.specs.declared.answer.DeskError.TheVariants.{NoSession, Unread, Refused}
+use Rattle.sspi_desk.specs.declared.answer.DeskError.TheVariants.{TooLong, InsufficientMemory}
 use Rattle.sspi_desk.specs.declared.answer.Served.{Served}
 use Rattle.sspi_desk.specs.declared.answer.Served.TheVariants as served
 
@@ -32,7 +35,8 @@ HasFault bytes wire.ReadFault = ⊥
 HasFault bytes wire.WriteFault = ⊥
 HasFault bytes wire.InsufficientMemory = ⊥
 
--- there was no memory to copy the request that the bytes begin with, which is wanted only for its OCTET STRINGs
+-- there was no memory to copy the request that the bytes begin with, which is wanted only for its
+-- OCTET STRINGs
 pub record HasNoRoom (bytes : List ℕ) : Type 0 where
   pub request : TsRequest
   pub count : ℕ
@@ -56,7 +60,8 @@ SpellsAny (Some message) answer = Spells message answer
 
 module _ {C P : Type 0} (c : Meaning ContextSetting C) (p : ProxyMeaning P) where
   -- the bytes begin with a request, which the server took and came to this
-  pub record Takes (old : ServerView C P) (bytes : List ℕ) (result : Result ServerState ServerError) (new : ServerView C P) :
+  pub record Takes (old : ServerView C P) (bytes : List ℕ) (result : Result ServerState ServerError)
+      (new : ServerView C P) :
       Type 0 where
     pub request : TsRequest
     pub count : ℕ
@@ -69,18 +74,24 @@ module _ {C P : Type 0} (c : Meaning ContextSetting C) (p : ProxyMeaning P) wher
   abbrev pub HasNoAnswer : {E : Type 0} → E → Result ServerState ServerError → Type 0
   HasNoAnswer error (Ok (ReplyNeeded reply)) = Spells reply (Err error)
   HasNoAnswer error (Ok (Finished identity)) = ⊥
-  HasNoAnswer error (Err refusal) = (refusal.error.error_type ≡ kinds.InsufficientMemory) ⊎ SpellsAny refusal.ts_request (Err error)
+  HasNoAnswer error (Err refusal) = (refusal.error.error_type ≡ kinds.InsufficientMemory) ⊎
+      SpellsAny refusal.ts_request (Err error)
 
   -- What a server that is alone answers to these bytes, and what it is then.
   abbrev pub IsServed : ServerView C P → List ℕ → Result Served DeskError → ServerView C P → Type 0
   IsServed old bytes (Ok (served.Answer text)) new =
-      (reply : TsRequest) × Takes old bytes (Ok (ReplyNeeded reply)) new × (fits reply ≡ true) × (text ≡ spelled reply)
-  IsServed old bytes (Ok (served.Finished identity)) new = Takes old bytes (Ok (Finished identity)) new
+      (reply : TsRequest) × Takes old bytes (Ok (ReplyNeeded reply)) new × (fits reply ≡ true) ×
+      (text ≡ spelled reply)
+  IsServed old bytes (Ok (served.Finished identity)) new =
+      Takes old bytes (Ok (Finished identity)) new
   IsServed old bytes (Err NoSession) new = ⊥
   IsServed old bytes (Err (Unread kind)) new = HasFault bytes kind × (new ≡ old)
   IsServed old bytes (Err (Refused error text)) new =
-      (request : Option TsRequest) × Takes old bytes (Err (record { ts_request = request; error = error })) new
+      (request : Option TsRequest) × Takes old bytes
+      (Err (record { ts_request = request; error = error })) new
       × (error.error_type ≢ kinds.InsufficientMemory) × SpellsAny {E = DeskError} request (Ok text)
-  IsServed old bytes (Err TooLong) new = (reply : TsRequest) × Takes old bytes (Ok (ReplyNeeded reply)) new × (fits reply ≡ false)
+  IsServed old bytes (Err TooLong) new = (reply : TsRequest) ×
+      Takes old bytes (Ok (ReplyNeeded reply)) new × (fits reply ≡ false)
   IsServed old bytes (Err InsufficientMemory) new = (HasNoRoom bytes × (new ≡ old))
-      ⊎ ((result : Result ServerState ServerError) × Takes old bytes result new × HasNoAnswer InsufficientMemory result)
+      ⊎ ((result : Result ServerState ServerError) × Takes old bytes result new ×
+      HasNoAnswer InsufficientMemory result)

@@ -10,8 +10,10 @@ use Rattle.sspi_desk.specs.Alone.{Alone}
 use Rattle.sspi_desk.specs.Call.{IsServed}
 
 module _ {C P : Type 0} (c : Meaning ContextSetting C) (p : ProxyMeaning P) where
-  -- In one of these calls, which led a server that was `first` to `now`, it checked its client's proof and proved its own key.
-  pub record ProvesIn (first : ServerView C P) (calls : List (List ℕ)) (answers : List (Result Served DeskError)) (now : ServerView C P) :
+  -- In one of these calls, which led a server that was `first` to `now`, it checked its client's
+  -- proof and proved its own key.
+  pub record ProvesIn (first : ServerView C P) (calls : List (List ℕ))
+      (answers : List (Result Served DeskError)) (now : ServerView C P) :
       Type 0 where
     pub early : List (List ℕ)
     pub bytes : List ℕ

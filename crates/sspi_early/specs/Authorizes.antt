@@ -1,5 +1,7 @@
--- When each answer comes behind a delegation: a policy decides on the identity, the link carries the result, and the client reads it.
-use Rattle.std.specs.Prelude.{◌≡◌, ℕ, List, ◌∷◌, Bool, true, false, reverse, Option, None, Some, Result, Ok, Err, IfOk}
+-- When each answer comes behind a delegation: a policy decides on the identity, the link carries
+-- the result, and the client reads it.
+use Rattle.std.specs.Prelude.{◌≡◌, ℕ, List, ◌∷◌, Bool, true, false, reverse, Option, None, Some}
+use Rattle.std.specs.Prelude.{Result, Ok, Err, IfOk}
 use Rattle.sspi_types.specs.Counting.{Counts}
 use Rattle.sspi_ber.specs.declared.wire_kind.WireKind.TheVariants as kinds
 use Rattle.sspi_names.specs.declared.identity.AuthIdentity.{AuthIdentity}
@@ -11,7 +13,8 @@ use Rattle.sspi_tsreq.specs.declared.early.EarlyUserAuthResult.TheVariants.{Succ
 use Rattle.sspi_tsreq.specs.Early.{early_result_text}
 use Rattle.sspi_early.specs.declared.answer.Authorized.{Authorized}
 use Rattle.sspi_early.specs.declared.answer.EarlyError.{EarlyError}
-use Rattle.sspi_early.specs.declared.answer.EarlyError.TheVariants.{Delegate, Policy, LinkFault, Read, InsufficientMemory}
+use Rattle.sspi_early.specs.declared.answer.EarlyError.TheVariants.{Delegate, Policy, LinkFault}
+use Rattle.sspi_early.specs.declared.answer.EarlyError.TheVariants.{Read, InsufficientMemory}
 use Rattle.sspi_early.specs.declared.policy.PolicyError.{PolicyError}
 use Rattle.sspi_early.specs.declared.policy.PolicyError.TheVariants as decisions
 use Rattle.sspi_early.specs.Heard.{Tells, Heard, IsCut, IsNoResult, IsOpen}
@@ -62,21 +65,24 @@ abbrev pub IsHeard : EarlyUserAuthResult → Result Authorized EarlyError → Ty
 IsHeard result (Ok authorized) = authorized.heard ≡ result
 IsHeard result (Err error) = ⊥
 
--- the answer that the entry leaves; and where four bytes came or the delivery ended, nothing more takes memory
+-- the answer that the entry leaves; and where four bytes came or the delivery ended, nothing more
+-- takes memory
 pub record IsOnlyAnswer (e : Carried) (answer : Result Authorized EarlyError) : Type 0 where
   pub heard : (result : EarlyUserAuthResult) → Heard result e → IsHeard result answer
   pub cut : IsCut e → answer ≡ Err (Read kinds.UnexpectedEof)
   pub no_result : IsNoResult e → answer ≡ Err (Read kinds.InvalidData)
 
 -- One entry more is in the log, the last: it tells this result.
-pub record IsCarried (told : EarlyUserAuthResult) (before after : List Carried) (answer : Result Authorized EarlyError) : Type 0 where
+pub record IsCarried (told : EarlyUserAuthResult) (before after : List Carried)
+    (answer : Result Authorized EarlyError) : Type 0 where
   pub entry : Carried
   pub log_is : after ≡ entry ∷ before
   pub tells : Tells told entry
   pub cause : HasCause told entry answer
   pub only : IsOnlyAnswer entry answer
   -- what was delivered as it was sent is heard as it was told
-  pub honest : Delivers (Some entry.sent) entry → IfOk answer (λ authorized. authorized.heard ≡ told)
+  pub honest : Delivers (Some entry.sent) entry →
+      IfOk answer (λ authorized. authorized.heard ≡ told)
 
 -- ---- the answers where it was not
 
@@ -105,17 +111,22 @@ FailsByEdits (Some text) (Err Policy) = ⊥
 FailsByEdits (Some text) (Err (Delegate error)) = ⊥
 
 -- the same of a link that tells its edits; one that does not claims nothing
-abbrev pub FailsAsTold : Option (List Edit) → List Carried → EarlyUserAuthResult → Result Authorized EarlyError → Type 0
+abbrev pub FailsAsTold : Option (List Edit) → List Carried → EarlyUserAuthResult →
+    Result Authorized EarlyError → Type 0
 FailsAsTold None log told answer = Unit {0}
-FailsAsTold (Some edits) log told answer = FailsByEdits (edited edits (sent_texts (reverse log)) (early_result_text told)) answer
+FailsAsTold (Some edits) log told answer =
+    FailsByEdits (edited edits (sent_texts (reverse log)) (early_result_text told)) answer
 
--- What comes of telling this result: the link carried it and the client read it, or the link did not.
-pub data Comes (told : EarlyUserAuthResult) (before after : List Carried) (answer : Result Authorized EarlyError) : Type 0 where
+-- What comes of telling this result: the link carried it and the client read it, or the link did
+-- not.
+pub data Comes (told : EarlyUserAuthResult) (before after : List Carried)
+    (answer : Result Authorized EarlyError) : Type 0 where
   carried : IsCarried told before after answer → Comes told before after answer
   uncarried : after ≡ before → IsUncarried answer → Comes told before after answer
 
 -- what a link did that was to carry this result and to deliver it
-pub record Carries (told : EarlyUserAuthResult) (before after : LinkAt) (answer : Result Authorized EarlyError) : Type 0 where
+pub record Carries (told : EarlyUserAuthResult) (before after : LinkAt)
+    (answer : Result Authorized EarlyError) : Type 0 where
   pub comes : Comes told before.log after.log answer
   pub count : CountsFault before.faults after.faults answer
   pub stays : StaysTold before.edits after.edits before.log after.log
@@ -124,13 +135,16 @@ pub record Carries (told : EarlyUserAuthResult) (before after : LinkAt) (answer 
 -- ---- the whole
 
 -- what comes of a decision; without one nothing is asked of the link
-abbrev pub ComesOf : Result Bool PolicyError → LinkAt → LinkAt → Result Authorized EarlyError → Type 0
+abbrev pub ComesOf : Result Bool PolicyError → LinkAt → LinkAt → Result Authorized EarlyError →
+    Type 0
 ComesOf (Ok admitted) before after answer = Carries (told_of admitted) before after answer
 ComesOf (Err decisions.Failed) before after answer = (answer ≡ Err Policy) × (after ≡ before)
-ComesOf (Err decisions.InsufficientMemory) before after answer = (answer ≡ Err InsufficientMemory) × (after ≡ before)
+ComesOf (Err decisions.InsufficientMemory) before after answer = (answer ≡ Err InsufficientMemory) ×
+    (after ≡ before)
 
 -- The policy was asked once, of this identity, and the link carried what it decided.
-pub record Authorizes {P : Type 0} (p : PolicyMeaning P) (identity : AuthIdentity) (before after : LinkAt) (policy policy2 : P)
+pub record Authorizes {P : Type 0} (p : PolicyMeaning P) (identity : AuthIdentity)
+    (before after : LinkAt) (policy policy2 : P)
     (answer : Result Authorized EarlyError) : Type 0 where
   pub decision : Result Bool PolicyError
   pub decided : HasDecided p policy identity decision policy2

@@ -7,9 +7,11 @@ use Rattle.sspi_early.specs.declared.answer.Early.{Early}
 use Rattle.sspi_early.specs.declared.answer.EarlyError.{EarlyError}
 use Rattle.sspi_early.specs.declared.answer.EarlyError.TheVariants.{Delegate, InsufficientMemory}
 
--- So many messages of the client delegated this identity, and the client heard what the server told; or there was no memory.
+-- So many messages of the client delegated this identity, and the client heard what the server
+-- told; or there was no memory.
 abbrev pub ComesToOkEarly : ℕ → AuthIdentity → Result Early EarlyError → Type 0
-ComesToOkEarly messages identity (Ok early) = (early.delegation.rounds ≡ messages) × (early.delegation.credentials ≡ identity)
+ComesToOkEarly messages identity (Ok early) = (early.delegation.rounds ≡ messages) ×
+    (early.delegation.credentials ≡ identity)
     × (early.heard ≡ early.told)
 ComesToOkEarly messages identity (Err InsufficientMemory) = Unit {0}
 ComesToOkEarly messages identity (Err error) = ⊥
@@ -22,7 +24,8 @@ IsCutShortEarly (Err InsufficientMemory) = Unit {0}
 IsCutShortEarly (Err error) = ⊥
 
 -- The first where the client may make as many messages, and else the second.
-pub record AnswersEarlyIn (messages limit : ℕ) (identity : AuthIdentity) (answer : Result Early EarlyError) : Type 0 where
+pub record AnswersEarlyIn (messages limit : ℕ) (identity : AuthIdentity)
+    (answer : Result Early EarlyError) : Type 0 where
   pub comes : messages ≤ limit → ComesToOkEarly messages identity answer
   pub short : limit < messages → IsCutShortEarly answer
 

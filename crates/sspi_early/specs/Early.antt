@@ -9,24 +9,30 @@ use Rattle.sspi_delegate.specs.Headline.{Around, Parties, Delegates, Accounts, S
 use Rattle.sspi_delegate.specs.Headline.{IsFresh}
 use Rattle.sspi_early.specs.declared.answer.Early.{Early}
 use Rattle.sspi_early.specs.declared.answer.EarlyError.{EarlyError}
-use Rattle.sspi_early.specs.declared.answer.EarlyError.TheVariants.{Delegate, Policy, InsufficientMemory}
+use Rattle.sspi_early.specs.declared.answer.EarlyError.TheVariants.{Delegate, Policy}
+use Rattle.sspi_early.specs.declared.answer.EarlyError.TheVariants.{InsufficientMemory}
 use Rattle.sspi_early.specs.Authorizes.{Authorizes, LinkAt, link_at}
 use Rattle.sspi_early.specs.Policy.{PolicyMeaning}
 
--- what a delegation that came to no end is answered by: its own error, but out of memory is the one of this call
+-- what a delegation that came to no end is answered by: its own error, but out of memory is the one
+-- of this call
 abbrev pub refusal_of : DelegateError → EarlyError
 refusal_of errors.InsufficientMemory = InsufficientMemory
 refusal_of error = Delegate error
 
 -- what comes behind a delegation
-abbrev pub ComesBehind : {Q : Type 0} → PolicyMeaning Q → Delegation → LinkAt → LinkAt → Q → Q → Result Early EarlyError → Type 0
+abbrev pub ComesBehind : {Q : Type 0} → PolicyMeaning Q → Delegation → LinkAt → LinkAt → Q → Q →
+    Result Early EarlyError → Type 0
 ComesBehind p delegation before after policy policy2 (Ok early) = (early.delegation ≡ delegation) ×
-    Authorizes p delegation.credentials before after policy policy2 (Ok (record { told = early.told; heard = early.heard }))
+    Authorizes p delegation.credentials before after policy policy2
+    (Ok (record { told = early.told; heard = early.heard }))
 ComesBehind p delegation before after policy policy2 (Err error) =
     Authorizes p delegation.credentials before after policy policy2 (Err error)
 
--- the same behind a delegation that may have come to no end: then nothing is told. `shows` is what a link shows.
-abbrev pub GoesOn : {L Q : Type 0} → (L → LinkAt) → PolicyMeaning Q → Result Delegation DelegateError → L → L → Q → Q →
+-- the same behind a delegation that may have come to no end: then nothing is told. `shows` is what
+-- a link shows.
+abbrev pub GoesOn : {L Q : Type 0} → (L → LinkAt) → PolicyMeaning Q →
+    Result Delegation DelegateError → L → L → Q → Q →
     Result Early EarlyError → Type 0
 GoesOn shows p (Ok delegation) link link2 policy policy2 result =
     ComesBehind p delegation (shows link) (shows link2) policy policy2 result
@@ -38,15 +44,17 @@ shown_by around link = link_at (around.log link) (around.edits link) (around.lin
 
 module _ {C P L D : Type 0} (c : Meaning ContextSetting C) (around : Around P L D) where
   -- all that `delegate` promises of an exchange
-  pub record IsDelegated (old : Parties C P L D) (limit : ℕ) (result : Result Delegation DelegateError) (new : Parties C P L D)
+  pub record IsDelegated (old : Parties C P L D) (limit : ℕ)
+      (result : Result Delegation DelegateError) (new : Parties C P L D)
       : Type 0 where
     pub delegates : IsFresh old.client old.server → Delegates c around old limit result new
     pub accounts : Accounts c around old limit result new
     pub stays : Stays around old limit result new
 
-  -- A delegation, and what came behind it: the two ends, the KDC and the turns are as the delegation left them, and so is the log of
-  -- the link, but for one entry at most.
-  pub record IsEarly {Q : Type 0} (p : PolicyMeaning Q) (old : Parties C P L D) (limit : ℕ) (policy : Q) (result : Result Early EarlyError)
+  -- A delegation, and what came behind it: the two ends, the KDC and the turns are as the
+  -- delegation left them, and so is the log of the link, but for one entry at most.
+  pub record IsEarly {Q : Type 0} (p : PolicyMeaning Q) (old : Parties C P L D) (limit : ℕ)
+      (policy : Q) (result : Result Early EarlyError)
       (new : Parties C P L D) (policy2 : Q) : Type 0 where
     -- what the delegation came to, and the link as it left it
     pub delegated : Result Delegation DelegateError

@@ -5,7 +5,8 @@ use Rattle.sspi_delegate.specs.declared.carried.Carried.{Carried}
 use Rattle.sspi_tsreq.specs.declared.early.EarlyUserAuthResult.{EarlyUserAuthResult}
 use Rattle.sspi_tsreq.specs.Early.{early_result_text}
 
--- the server's entry that tells this result, of whose delivery no more was taken than a result has bytes
+-- the server's entry that tells this result, of whose delivery no more was taken than a result has
+-- bytes
 pub record Tells (told : EarlyUserAuthResult) (e : Carried) : Type 0 where
   pub from : e.from ≡ Server
   pub sent : e.sent ≡ early_result_text told

@@ -1,5 +1,6 @@
 -- How a result is taken and read.
-use Rattle.std.specs.Prelude.{◌≡◌, ℕ, ◌≤◌, List, [], ◌∷◌, Option, None, Some, Result, Ok, Err, length}
+use Rattle.std.specs.Prelude.{◌≡◌, ℕ, ◌≤◌, List, [], ◌∷◌, Option, None, Some, Result, Ok, Err}
+use Rattle.std.specs.Prelude.{length}
 use Rattle.sspi_tsreq.specs.declared.early.EarlyUserAuthResult.{EarlyUserAuthResult}
 use Rattle.sspi_tsreq.specs.Early.{early_result_text}
 use Rattle.sspi_delegate.specs.declared.carried.Carried.{Carried}
@@ -18,7 +19,8 @@ abbrev pub OfNewest : (Carried → Type 0) → List Carried → Type 0
 OfNewest P [] = ⊥
 OfNewest P (e ∷ log) = P e
 
--- the four bytes that were taken of the newest delivery, or none where it ended before; or the link was asked in vain
+-- the four bytes that were taken of the newest delivery, or none where it ended before; or the link
+-- was asked in vain
 abbrev pub Takes : List Carried → List Carried → Result (Option (List ℕ)) LinkError → Type 0
 Takes old new (Ok (Some bytes)) = Fed old new × OfNewest (λ e. e.delivered ≡ bytes) new
 Takes old new (Ok None) = Fed old new × OfNewest IsCut new
@@ -35,7 +37,8 @@ NeverFailsToDeliver None answer = Unit {0}
 NeverFailsToDeliver (Some edits) answer = answer ≡ Err LinkFault → ⊥
 
 -- the client read the newest delivery, of which nothing was taken before
-pub record Hears (told : EarlyUserAuthResult) (before after : LinkAt) (answer : Result Authorized EarlyError) : Type 0 where
+pub record Hears (told : EarlyUserAuthResult) (before after : LinkAt)
+    (answer : Result Authorized EarlyError) : Type 0 where
   pub fed : Fed before.log after.log
   pub within : OfNewest (λ e. length e.delivered ≤ 4) after.log
   pub cause : OfNewest (λ e. HasCause told e answer) after.log

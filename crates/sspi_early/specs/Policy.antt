@@ -33,7 +33,8 @@ PolicyCause before now (Err Failed) = (before ≤ now) × Rose before now
 PolicyCause before now (Err InsufficientMemory) = before ≤ now
 
 -- one call of a policy: its decision on this identity
-pub record HasDecided {P : Type 0} (p : PolicyMeaning P) (before : P) (identity : AuthIdentity) (decision : Result Bool PolicyError)
+pub record HasDecided {P : Type 0} (p : PolicyMeaning P) (before : P) (identity : AuthIdentity)
+    (decision : Result Bool PolicyError)
     (now : P) : Type 0 where
   pub answered : p.answers before identity decision now
   pub by_names : DecidesByNames (p.names before) identity.username decision
@@ -47,7 +48,8 @@ abbrev pub list_meaning : PolicyMeaning (List Name)
 list_meaning = record {
   names = λ names. Some names;
   faults = λ names. 0;
-  answers = λ names identity decision names2. (decision ≡ Ok (is_listed names identity.username)) × (names2 ≡ names);
+  answers = λ names identity decision names2. (decision ≡ Ok (is_listed names identity.username)) ×
+      (names2 ≡ names);
 }
 
 -- seen as its count of faults, it fails whenever it is asked

@@ -33,7 +33,8 @@ pub enum EarlyError {
     Policy,
     /// The link failed, to carry the result or to deliver it.
     LinkFault,
-    /// What was delivered is no result. `UnexpectedEof` where it ends before its four bytes, and else `InvalidData`.
+    /// What was delivered is no result. `UnexpectedEof` where it ends before its four bytes, and
+    /// else `InvalidData`.
     Read(WireKind),
     /// There was no memory, also for the delegation or for the policy.
     InsufficientMemory,

@@ -14,14 +14,17 @@ use sspi_delegate::{End, Link, LinkError};
 use sspi_names::AuthIdentity;
 use sspi_tsreq::{EARLY_USER_AUTH_RESULT_PDU_SIZE, EarlyUserAuthResult};
 
-/// What a server tells its client behind a delegation: whether the user of this identity, the delegated one, may log on.
+/// What a server tells its client behind a delegation: whether the user of this identity, the
+/// delegated one, may log on.
 ///
-/// The policy is asked once, of this identity. What it decides is given to the link as one message of the server, whose four bytes
-/// the client takes of its delivery, and no more. Takes no memory itself. Refused:
+/// The policy is asked once, of this identity. What it decides is given to the link as one message
+/// of the server, whose four bytes the client takes of its delivery, and no more. Takes no memory
+/// itself. Refused:
 ///
 /// - `Policy`: the policy failed. The link was not asked.
 /// - `LinkFault`: the link failed, to carry the message or to deliver it.
-/// - `Read`: what was delivered is no result, `UnexpectedEof` where it ended before its fourth byte, and else `InvalidData`.
+/// - `Read`: what was delivered is no result, `UnexpectedEof` where it ended before its fourth
+///   byte, and else `InvalidData`.
 /// - `InsufficientMemory`: that of the policy, or of the link.
 ///
 /// Whatever the answer, the log of the link has the message if the link took it.
@@ -30,8 +33,10 @@ pub fn authorize<L: Link, P: Policy>(
     policy: &mut P,
     identity: &AuthIdentity,
 ) -> Result<Authorized, EarlyError>
-    ensures authorizes { Authorizes P.meaning identity.now (link_at (L.log link.old) (L.edits link.old) (L.faults link.old))
-        (link_at (L.log link.new) (L.edits link.new) (L.faults link.new)) policy.old policy.new result }
+    ensures authorizes { Authorizes P.meaning identity.now
+        (link_at (L.log link.old) (L.edits link.old) (L.faults link.old))
+        (link_at (L.log link.new) (L.edits link.new) (L.faults link.new)) policy.old policy.new
+        result }
     ensures untouched { result ≡ Err EarlyError.Policy → link.new ≡ link.old }
 {
     match policy.admits(identity) {
@@ -72,7 +77,8 @@ fn spelled(told: EarlyUserAuthResult) -> [u8; EARLY_USER_AUTH_RESULT_PDU_SIZE]
 
 /// What the client hears of the newest delivery, which tells this result.
 fn hear<L: Link>(link: &mut L, told: EarlyUserAuthResult) -> Result<Authorized, EarlyError>
-    ensures { IsUnread (L.log link.old) → Hears told (link_at (L.log link.old) (L.edits link.old) (L.faults link.old))
+    ensures { IsUnread (L.log link.old) →
+        Hears told (link_at (L.log link.old) (L.edits link.old) (L.faults link.old))
         (link_at (L.log link.new) (L.edits link.new) (L.faults link.new)) result }
 {
     let bytes = match take_result(link) {

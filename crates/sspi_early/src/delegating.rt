@@ -1,7 +1,8 @@
 //! A delegation, and behind it the early user authorization result.
 
 ghost use Rattle.std.specs.Prelude.{◌≡◌, [], Err};
-ghost use Rattle.sspi_completeness.specs.Matching.{AreMatching, IsCalm, NothingDisturbs, messages_in};
+ghost use Rattle.sspi_completeness.specs.Matching.{AreMatching, IsCalm, NothingDisturbs};
+ghost use Rattle.sspi_completeness.specs.Matching.{messages_in};
 ghost use Rattle.sspi_credssp.specs.Exchange.{delegated_as};
 ghost use Rattle.sspi_credssp.specs.Context.{either};
 ghost use Rattle.sspi_delegate.specs.Headline.{around_by, parties};
@@ -20,21 +21,23 @@ use sspi_delegate::{DelegateError, Delegation, Link, Transcript};
 use sspi_mech::{Kdc, Kerberos, Ntlm};
 use std::alloc::Global;
 
-/// A delegation between two ends of the plain mechanisms, and behind it what the server tells its client: whether the user whose
-/// identity was delegated may log on (MS-CSSP 3.1.5; MS-RDPBCGR 2.2.10.2).
+/// A delegation between two ends of the plain mechanisms, and behind it what the server tells its
+/// client: whether the user whose identity was delegated may log on (MS-CSSP 3.1.5; MS-RDPBCGR
+/// 2.2.10.2).
 ///
-/// First comes `delegate`. Where it is Ok, the policy is asked of the delegated identity, and what it decides goes over the link as
-/// `authorize` says. Refused:
+/// First comes `delegate`. Where it is Ok, the policy is asked of the delegated identity, and what
+/// it decides goes over the link as `authorize` says. Refused:
 ///
 /// - `Delegate`: what `delegate` refused. Neither the policy nor the link was asked more.
 /// - `Policy`, `LinkFault`, `Read`: as of `authorize`, after a delegation that was Ok.
 /// - `InsufficientMemory`, that of either.
 ///
-/// Whatever the answer, the ends, the KDC and the transcript are as `delegate` left them, and the log of the link has one entry more
-/// at most. `early` holds of every call, and cites all that `delegate` promises. Matching ends that made no call, whose link disturbs
-/// nothing, neither in the delegation nor behind it, and whose proxy and policy do not fail, come to Ok, and the client hears what the
-/// server told, or there was no memory; where `limit` allows the client fewer messages than they take, the turns are spent, or there
-/// was no memory.
+/// Whatever the answer, the ends, the KDC and the transcript are as `delegate` left them, and the
+/// log of the link has one entry more at most. `early` holds of every call, and cites all that
+/// `delegate` promises. Matching ends that made no call, whose link disturbs nothing, neither in
+/// the delegation nor behind it, and whose proxy and policy do not fail, come to Ok, and the client
+/// hears what the server told, or there was no memory; where `limit` allows the client fewer
+/// messages than they take, the turns are spent, or there was no memory.
 pub fn delegate_early<C: CredentialsProxy, L: Link, D: Kdc, P: Policy>(
     alloc: Global,
     client: &mut CredSspClient<Ntlm, Kerberos>,
@@ -49,26 +52,29 @@ pub fn delegate_early<C: CredentialsProxy, L: Link, D: Kdc, P: Policy>(
         (around_by C.meaning L.log L.edits L.faults D.told D.asked D.faults) P.meaning
         (parties client.old server.old link.old kdc.old []) limit policy.old result
         (parties client.new server.new link.new kdc.new transcript.new.turns) policy.new }
-    ensures matched { (matching : AreMatching C.meaning (D.told kdc.old) (D.asked kdc.old) client.old server.old) →
+    ensures matched { (matching : AreMatching C.meaning (D.told kdc.old) (D.asked kdc.old)
+        client.old server.old) →
         NothingDisturbs (around_by C.meaning L.log L.edits L.faults D.told D.asked D.faults)
         (parties client.old server.old link.old kdc.old [])
         (parties client.new server.new link.new kdc.new transcript.new.turns) →
         IsCalm (P.meaning.faults policy.old) (P.meaning.faults policy.new) →
-        AnswersEarlyIn (messages_in matching) limit (delegated_as client.old.settings.delegation matching.identity) result }
+        AnswersEarlyIn (messages_in matching) limit
+        (delegated_as client.old.settings.delegation matching.identity) result }
 {
     let delegated = delegate_plainly(alloc, client, server, link, kdc, limit, transcript);
     tell_early(link, policy, delegated)
 }
 
-/// What comes behind a delegation that came to this: the second half of `delegate_early`, for a caller that makes the first itself and
-/// wants what it came to, whatever comes behind. Behind one that was refused nothing comes, and the link and the policy stay as they
-/// are.
+/// What comes behind a delegation that came to this: the second half of `delegate_early`, for a
+/// caller that makes the first itself and wants what it came to, whatever comes behind. Behind one
+/// that was refused nothing comes, and the link and the policy stay as they are.
 pub fn tell_early<L: Link, P: Policy>(
     link: &mut L,
     policy: &mut P,
     delegated: Result<Delegation, DelegateError>,
 ) -> Result<Early, EarlyError>
-    ensures goes_on { GoesOn (λ l. link_at (L.log l) (L.edits l) (L.faults l)) P.meaning delegated link.old link.new
+    ensures goes_on { GoesOn (λ l. link_at (L.log l) (L.edits l) (L.faults l)) P.meaning delegated
+        link.old link.new
         policy.old policy.new result }
     ensures untouched { result ≡ Err EarlyError.Policy → link.new ≡ link.old }
 {

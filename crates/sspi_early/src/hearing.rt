@@ -7,13 +7,15 @@ ghost use Rattle.sspi_early.specs.Hearing.{IsResultIn, Takes};
 use sspi_delegate::{Link, LinkError};
 use sspi_tsreq::{EARLY_USER_AUTH_RESULT_PDU_SIZE, EarlyUserAuthResult};
 
-/// The bytes with which the newest delivery begins, as many as a result has and no more; none where it ends before.
+/// The bytes with which the newest delivery begins, as many as a result has and no more; none where
+/// it ends before.
 pub(crate) fn take_result<L: Link>(
     link: &mut L,
 ) -> Result<Option<[u8; EARLY_USER_AUTH_RESULT_PDU_SIZE]>, LinkError>
     ensures takes { IsUnread (L.log link.old) → Takes (L.log link.old) (L.log link.new) result }
     ensures cause { LinkCause (L.faults link.old) (L.faults link.new) result }
-    ensures told { StaysTold (L.edits link.old) (L.edits link.new) (L.log link.old) (L.log link.new) }
+    ensures told { StaysTold (L.edits link.old) (L.edits link.new) (L.log link.old)
+        (L.log link.new) }
     ensures failing { NeverFails (L.edits link.old) (L.faults link.old) (L.faults link.new) result }
 {
     let mut bytes = [0; EARLY_USER_AUTH_RESULT_PDU_SIZE];

@@ -17,24 +17,31 @@ ghost use Rattle.sspi_tsreq.specs.Early.{early_result_text};
 
 use crate::policy::Policy;
 
-/// Over a link that edits nothing a client hears what its server told, if the policy does not fail and there is memory.
+/// Over a link that edits nothing a client hears what its server told, if the policy does not fail
+/// and there is memory.
 #[tactic(auto, using(crate::proofs::Honest::honest_link))]
 pub fn a_link_without_edits_tells_the_decision<P: Policy>()
-    ensures { (identity : AuthIdentity) (before after : LinkAt) (policy policy2 : P) (answer : Result Authorized EarlyError) →
-        Authorizes P.meaning identity before after policy policy2 answer → before.edits ≡ Some [] → FollowsTold before.edits before.log →
+    ensures { (identity : AuthIdentity) (before after : LinkAt) (policy policy2 : P)
+        (answer : Result Authorized EarlyError) →
+        Authorizes P.meaning identity before after policy policy2 answer → before.edits ≡ Some [] →
+        FollowsTold before.edits before.log →
         IsCalm (P.meaning.faults policy) (P.meaning.faults policy2) → IsHonest answer }
 {}
 
-/// What a list of names decides is what the server tells: success exactly where one of them is that of the identity.
+/// What a list of names decides is what the server tells: success exactly where one of them is that
+/// of the identity.
 #[tactic(auto, using(crate::proofs::Honest::told_by_list))]
 pub fn a_list_tells_by_its_names()
-    ensures { (identity : AuthIdentity) (before after : LinkAt) (names names2 : List Name) (authorized : Authorized) →
+    ensures { (identity : AuthIdentity) (before after : LinkAt) (names names2 : List Name)
+        (authorized : Authorized) →
         Authorizes list_meaning identity before after names names2 (Ok authorized) →
         authorized.told ≡ told_of (is_listed names identity.username) }
 {}
 
-/// An Early User Authorization Result PDU has four bytes (MS-RDPBCGR 2.2.10.2), as the declared length says.
+/// An Early User Authorization Result PDU has four bytes (MS-RDPBCGR 2.2.10.2), as the declared
+/// length says.
 pub fn an_early_result_has_four_bytes()
     ensures size { EARLY_USER_AUTH_RESULT_PDU_SIZE ≡ 4 }
-    ensures spelled { (result : EarlyUserAuthResult) → length (early_result_text result) ≡ EARLY_USER_AUTH_RESULT_PDU_SIZE }
+    ensures spelled { (result : EarlyUserAuthResult) →
+        length (early_result_text result) ≡ EARLY_USER_AUTH_RESULT_PDU_SIZE }
 {}

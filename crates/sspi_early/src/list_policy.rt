@@ -8,7 +8,8 @@ use sspi_names::{AuthIdentity, Username};
 use std::alloc::Global;
 use std::marker::Model;
 
-/// A policy by a list of names, which it tells: those who are in it may log on. It never fails and takes no memory.
+/// A policy by a list of names, which it tells: those who are in it may log on. It never fails and
+/// takes no memory.
 #[derive(Drop)]
 pub struct ListPolicy {
     names: Vec<Username>,

@@ -15,7 +15,8 @@ use sspi_types::{
 };
 use std::alloc::Global;
 
-/// One end. A client tells its name and is done with the answer, a server is done at once. A blob is sixteen zeros and the text.
+/// One end. A client tells its name and is done with the answer, a server is done at once. A blob
+/// is sixteen zeros and the text.
 #[derive(Drop)]
 pub struct Hello {
     alloc: Global,
@@ -66,7 +67,8 @@ impl Mechanism for Hello {
     ghost REQUESTS = { 0 };
 
     ghost meaning = { record {
-      made = λ _ m. (m.sealings ≡ 0) × (m.unsealings ≡ 0) × (m.signings ≡ 0) × (m.verifications ≡ 0);
+      made = λ _ m. (m.sealings ≡ 0) × (m.unsealings ≡ 0) × (m.signings ≡ 0) ×
+          (m.verifications ≡ 0);
       unmade = λ _ _. ⊥;
       acquires = λ m _ _ _ m2. m2 ≡ m;
       steps = λ m _ answer m2. (m2 ≡ m) × elim answer as (λ _. Type 0) [
@@ -87,9 +89,19 @@ impl Mechanism for Hello {
       waits = λ _. false;
       left = λ _. 0;
       pairs = λ _. false;
-      counts = λ m. record { sealings = m.sealings; unsealings = m.unsealings; signings = m.signings; verifications = m.verifications };
+      counts = λ m. record {
+        sealings = m.sealings;
+        unsealings = m.unsealings;
+        signings = m.signings;
+        verifications = m.verifications;
+      };
       counted = λ m n.
-          record m { sealings = n.sealings; unsealings = n.unsealings; signings = n.signings; verifications = n.verifications };
+          record m {
+            sealings = n.sealings;
+            unsealings = n.unsealings;
+            signings = n.signings;
+            verifications = n.verifications;
+          };
       seals = λ _ _ _ blob. 16 ≤ length blob;
       opens = λ _ _ blob text. text ≡ drop 16 blob;
       signs = λ _ _ _ _. ⊥;

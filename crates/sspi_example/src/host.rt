@@ -11,7 +11,8 @@ use sspi_tsreq::TsRequest;
 use sspi_types::{Bytes, Error, ErrorKind, Reason};
 use std::alloc::Global;
 
-/// The host's context on one end: two steps, and then a key that both ends have. An NTLM or a Kerberos stands here.
+/// The host's context on one end: two steps, and then a key that both ends have. An NTLM or a
+/// Kerberos stands here.
 #[derive(Drop)]
 pub(crate) struct Context {
     pub(crate) alloc: Global,

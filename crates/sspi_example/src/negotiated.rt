@@ -82,7 +82,8 @@ impl Host {
         handed_offer(self.alloc, offer, &step)?.encode(self.alloc)
     }
 
-    /// A later token, whose MIC is verified: `step` is the envelope of the step that was made with it.
+    /// A later token, whose MIC is verified: `step` is the envelope of the step that was made with
+    /// it.
     fn response(&mut self, response: NegTokenTarg, step: &[u8]) -> Result<Vec<u8>, Error> {
         let list = encode_mech_types(self.alloc, &self.course.list)?;
         let good = match &response.mech_list_mic {

@@ -13,7 +13,8 @@ use sspi_negotiate::{NegotiateConfig, ProtocolConfig};
 use sspi_types::{Error, ErrorKind, Reason, Text};
 use std::alloc::{AllocError, Global};
 
-/// A KDC behind a channel. It tells nothing of its replies, and counts its calls and those that fail.
+/// A KDC behind a channel. It tells nothing of its replies, and counts its calls and those that
+/// fail.
 #[derive(Drop)]
 pub struct RemoteKdc {
     peer: PlainKdc,
@@ -42,7 +43,8 @@ impl Kdc for RemoteKdc {
     }
 }
 
-/// A directory of users, which knows `ann` alone. It tells nothing of its entries, and counts its calls; none of them fails.
+/// A directory of users, which knows `ann` alone. It tells nothing of its entries, and counts its
+/// calls; none of them fails.
 #[derive(Drop)]
 pub struct Directory {
     alloc: Global,

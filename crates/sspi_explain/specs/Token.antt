@@ -174,7 +174,8 @@ init_told page place = do
 unfoldable pub resp_fields_told : Sheet → Spot → Told NegTokenTarg
 resp_fields_told page place = do
   neg_state ← if_next 0xA0 neg_state_field page place
-  mech ← if_next 0xA1 (inner_field 0xA1 0x06 SupportedMech identifier_text) neg_state.page neg_state.place
+  mech ← if_next 0xA1 (inner_field 0xA1 0x06 SupportedMech identifier_text) neg_state.page
+      neg_state.place
   token ← if_next 0xA2 (octets_field 0xA2 ResponseToken) mech.page mech.place
   mic ← if_next 0xA3 (octets_field 0xA3 MechListMic) token.page token.place
   Goes (record {

@@ -267,7 +267,8 @@ fn state_text(alloc: Global, content: &[u8]) -> Result<String, AllocError>
 
 fn tell_supported_mech(page: &mut Page, place: &mut Place<'_>) -> Result<(), Stop>
     ensures { TellsSome page.new place.new result
-        (if_next 0xA1 (inner_field 0xA1 0x06 Field.SupportedMech identifier_text) page.old place.old) }
+        (if_next 0xA1 (inner_field 0xA1 0x06 Field.SupportedMech identifier_text) page.old
+        place.old) }
 {
     if !place.is_next(0xA1) {
         return Ok(());

@@ -10,9 +10,11 @@ IsText text r = IsRequest text r (length text)
 -- the bytes are these requests, one behind the other, and nothing else
 abbrev pub AreRequests : List ℕ → List TsRequest → Type 0
 AreRequests bytes [] = bytes ≡ []
-AreRequests bytes (r ∷ later) = (text : List ℕ) × (rest : List ℕ) × (bytes ≡ text ++ rest) × IsText text r × AreRequests rest later
+AreRequests bytes (r ∷ later) = (text : List ℕ) × (rest : List ℕ) × (bytes ≡ text ++ rest) ×
+    IsText text r × AreRequests rest later
 
 -- read one behind the other, the stream gives these requests first, and this rest is left
 abbrev pub GivesFirst : List ℕ → List TsRequest → List ℕ → Type 0
 GivesFirst stream [] rest = stream ≡ rest
-GivesFirst stream (r ∷ later) rest = (count : ℕ) × IsRequest stream r count × GivesFirst (drop count stream) later rest
+GivesFirst stream (r ∷ later) rest = (count : ℕ) × IsRequest stream r count ×
+    GivesFirst (drop count stream) later rest

@@ -1,10 +1,13 @@
 -- How the header and the content of one request are taken, and how its bytes are read.
-use Rattle.std.specs.Prelude.{◌≡◌, ◌<◌, ◌≤◌, ℕ, List, [], ◌∷◌, ◌++◌, length, Option, None, Some, Result, Ok, Err}
+use Rattle.std.specs.Prelude.{◌≡◌, ◌<◌, ◌≤◌, ℕ, List, [], ◌∷◌, ◌++◌, length, Option, None, Some}
+use Rattle.std.specs.Prelude.{Result, Ok, Err}
 use Rattle.std.specs.Io.KnownBytes.{Consumes, IsAtEnd}
 use Rattle.sspi_ber.specs.Pieces.{Ended, Invalid, header_at}
 use Rattle.sspi_ber.specs.Forms.{IsLength}
 use Rattle.sspi_ber.specs.declared.wire_kind.WireKind.{WireKind}
-use Rattle.sspi_ber.specs.declared.wire_kind.WireKind.TheVariants.{UnexpectedEof, InvalidData, ReadFault, WriteFault, InsufficientMemory}
+use Rattle.sspi_ber.specs.declared.wire_kind.WireKind.TheVariants.{UnexpectedEof, InvalidData}
+use Rattle.sspi_ber.specs.declared.wire_kind.WireKind.TheVariants.{ReadFault, WriteFault}
+use Rattle.sspi_ber.specs.declared.wire_kind.WireKind.TheVariants.{InsufficientMemory}
 use Rattle.sspi_tsreq.specs.declared.request.TsRequest.{TsRequest}
 use Rattle.sspi_tsreq.specs.Reading.{fault}
 use Rattle.sspi_framing.specs.Front.{IsText}
@@ -29,10 +32,13 @@ pub record IsHeaderOf (size : ℕ) (bytes : List ℕ) : Type 0 where
 -- ---- what is taken, by the answer
 
 -- the header, and nothing behind it
-abbrev pub TakesHeader : Option (List ℕ) → Option (List ℕ) → List ℕ → Result (Option ℕ) WireKind → Type 0
-TakesHeader before after header (Ok (Some size)) = Consumes before after header × IsHeaderOf size header
+abbrev pub TakesHeader : Option (List ℕ) → Option (List ℕ) → List ℕ → Result (Option ℕ) WireKind →
+    Type 0
+TakesHeader before after header (Ok (Some size)) = Consumes before after header ×
+    IsHeaderOf size header
 TakesHeader before after header (Ok None) = IsAtEnd after × Consumes before after []
-TakesHeader before after header (Err UnexpectedEof) = IsBad before UnexpectedEof × TakesToFault UnexpectedEof before after
+TakesHeader before after header (Err UnexpectedEof) = IsBad before UnexpectedEof ×
+    TakesToFault UnexpectedEof before after
 TakesHeader before after header (Err InvalidData) = ⊥
 TakesHeader before after header (Err ReadFault) = TakesWanted before after
 TakesHeader before after header (Err WriteFault) = ⊥
@@ -59,7 +65,8 @@ pub record TakesCut (size : ℕ) (before after : Option (List ℕ)) : Type 0 whe
   pub at_end : IsAtEnd after
 
 -- the content
-abbrev pub TakesBody : ℕ → Option (List ℕ) → Option (List ℕ) → List ℕ → List ℕ → Result (Unit {0}) WireKind → Type 0
+abbrev pub TakesBody : ℕ → Option (List ℕ) → Option (List ℕ) → List ℕ → List ℕ →
+    Result (Unit {0}) WireKind → Type 0
 TakesBody size before after old new (Ok done) = TakesBytes size before after old new
 TakesBody size before after old new (Err UnexpectedEof) = TakesCut size before after
 TakesBody size before after old new (Err InvalidData) = ⊥

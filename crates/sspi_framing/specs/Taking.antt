@@ -1,5 +1,6 @@
 -- How much of a stream is taken for one request: its header byte by byte, and then its content.
-use Rattle.std.specs.Prelude.{◌≡◌, ℕ, List, [], ◌∷◌, ◌++◌, length, Option, None, Some, IfSome, Result, Ok, Err}
+use Rattle.std.specs.Prelude.{◌≡◌, ℕ, List, [], ◌∷◌, ◌++◌, length, Option, None, Some, IfSome}
+use Rattle.std.specs.Prelude.{Result, Ok, Err}
 use Rattle.std.specs.Io.KnownBytes.{Consumes, IsAtEnd}
 use Rattle.sspi_ber.specs.Pieces.{Ended, Invalid, element_at}
 use Rattle.sspi_ber.specs.Forms.{IsLength}
@@ -11,8 +12,10 @@ use Rattle.sspi_framing.specs.Front.{IsText}
 
 -- bytes are left, and they begin with no request
 abbrev pub IsBad : Option (List ℕ) → WireKind → Type 0
-IsBad left kinds.UnexpectedEof = IfSome left (λ bytes. (bytes ≡ [] → ⊥) × (fault bytes ≡ Some Ended))
-IsBad left kinds.InvalidData = IfSome left (λ bytes. (bytes ≡ [] → ⊥) × (fault bytes ≡ Some Invalid))
+IsBad left kinds.UnexpectedEof = IfSome left (λ bytes. (bytes ≡ [] → ⊥) ×
+    (fault bytes ≡ Some Ended))
+IsBad left kinds.InvalidData = IfSome left (λ bytes. (bytes ≡ [] → ⊥) ×
+    (fault bytes ≡ Some Invalid))
 IsBad left kinds.ReadFault = ⊥
 IsBad left kinds.WriteFault = ⊥
 IsBad left kinds.InsufficientMemory = ⊥
@@ -26,21 +29,25 @@ pub record IsWhole (bytes : List ℕ) : Type 0 where
   pub parts : bytes ≡ (0x30 ∷ len) ++ body
   pub measured : IsLength len (length body)
 
--- bytes of a header, or of the content that it announces, are missing, and so far the header is not at fault
+-- bytes of a header, or of the content that it announces, are missing, and so far the header is not
+-- at fault
 abbrev pub IsUnfinished : List ℕ → Type 0
 IsUnfinished bytes = element_at 0x30 bytes ≡ Err Ended
 
 -- what stands in front of any of the bytes is unfinished: each was missing when it came
 abbrev pub AreWanted : List ℕ → Type 0
-AreWanted bytes = (front rest : List ℕ) (byte : ℕ) → bytes ≡ front ++ byte ∷ rest → IsUnfinished front
+AreWanted bytes = (front rest : List ℕ) (byte : ℕ) → bytes ≡ front ++ byte ∷ rest →
+    IsUnfinished front
 
--- Bytes of one request were taken: none behind its content, and none behind the byte that puts its header at fault.
+-- Bytes of one request were taken: none behind its content, and none behind the byte that puts its
+-- header at fault.
 pub record TakesWanted (before after : Option (List ℕ)) : Type 0 where
   pub text : List ℕ
   pub taken : Consumes before after text
   pub wanted : AreWanted text
 
--- The bytes show the fault: they are unfinished only where the source is at its end, and at `InvalidData` they are whole.
+-- The bytes show the fault: they are unfinished only where the source is at its end, and at
+-- `InvalidData` they are whole.
 abbrev pub ShowsFault : List ℕ → Option (List ℕ) → WireKind → Type 0
 ShowsFault text after kinds.UnexpectedEof = IsUnfinished text → IsAtEnd after
 ShowsFault text after kinds.InvalidData = IsWhole text
@@ -56,21 +63,26 @@ pub record TakesToFault (kind : WireKind) (before after : Option (List ℕ)) : T
 -- ---- what is taken, by the answer
 
 -- the bytes of one request: header and content
-abbrev pub TakesRequest : {X : Type 0} → (X → List ℕ) → Option (List ℕ) → Option (List ℕ) → Result (Option X) WireKind → Type 0
+abbrev pub TakesRequest : {X : Type 0} → (X → List ℕ) → Option (List ℕ) → Option (List ℕ) →
+    Result (Option X) WireKind → Type 0
 TakesRequest view before after (Ok (Some x)) = Consumes before after (view x) × IsWhole (view x)
 TakesRequest view before after (Ok None) = IsAtEnd after × Consumes before after []
-TakesRequest view before after (Err kinds.UnexpectedEof) = IsBad before kinds.UnexpectedEof × TakesToFault kinds.UnexpectedEof before after
+TakesRequest view before after (Err kinds.UnexpectedEof) = IsBad before kinds.UnexpectedEof ×
+    TakesToFault kinds.UnexpectedEof before after
 TakesRequest view before after (Err kinds.InvalidData) = ⊥
 TakesRequest view before after (Err kinds.ReadFault) = TakesWanted before after
 TakesRequest view before after (Err kinds.WriteFault) = ⊥
 TakesRequest view before after (Err kinds.InsufficientMemory) = TakesWanted before after
 
 -- one request, read
-abbrev pub GivesNext : Option (List ℕ) → Option (List ℕ) → Result (Option TsRequest) WireKind → Type 0
+abbrev pub GivesNext : Option (List ℕ) → Option (List ℕ) → Result (Option TsRequest) WireKind →
+    Type 0
 GivesNext before after (Ok (Some r)) = (text : List ℕ) × IsText text r × Consumes before after text
 GivesNext before after (Ok None) = IsAtEnd after × Consumes before after []
-GivesNext before after (Err kinds.UnexpectedEof) = IsBad before kinds.UnexpectedEof × TakesToFault kinds.UnexpectedEof before after
-GivesNext before after (Err kinds.InvalidData) = IsBad before kinds.InvalidData × TakesToFault kinds.InvalidData before after
+GivesNext before after (Err kinds.UnexpectedEof) = IsBad before kinds.UnexpectedEof ×
+    TakesToFault kinds.UnexpectedEof before after
+GivesNext before after (Err kinds.InvalidData) = IsBad before kinds.InvalidData ×
+    TakesToFault kinds.InvalidData before after
 GivesNext before after (Err kinds.ReadFault) = TakesWanted before after
 GivesNext before after (Err kinds.WriteFault) = ⊥
 GivesNext before after (Err kinds.InsufficientMemory) = TakesWanted before after

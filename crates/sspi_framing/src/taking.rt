@@ -12,7 +12,8 @@ const PIECE_LENGTH: usize = 2048;
 
 /// So many bytes more, in pieces, so that memory is taken only for what came.
 fn take_body<S: Source>(source: &mut S, bytes: &mut Vec<u8>, size: usize) -> Result<(), WireKind>
-    ensures takes { TakesBody size (S.left source.old) (S.left source.new) bytes.old.items bytes.new.items result }
+    ensures takes { TakesBody size (S.left source.old) (S.left source.new) bytes.old.items
+        bytes.new.items result }
     ensures cause { CopyCause (S.faults source.old) (S.faults source.new) result }
 {
     let mut piece = [0u8; PIECE_LENGTH];
@@ -29,10 +30,12 @@ fn take_body<S: Source>(source: &mut S, bytes: &mut Vec<u8>, size: usize) -> Res
     Ok(())
 }
 
-/// The bytes of the next request, as its header bounds them, and no byte behind them; `None` where the source is at its end.
-/// `UnexpectedEof` where the header is at fault or the source ends too early.
+/// The bytes of the next request, as its header bounds them, and no byte behind them; `None` where
+/// the source is at its end. `UnexpectedEof` where the header is at fault or the source ends too
+/// early.
 pub fn take_request<S: Source>(alloc: Global, source: &mut S) -> Result<Option<Vec<u8>>, WireKind>
-    ensures takes { TakesRequest (λ bytes. bytes.items) (S.left source.old) (S.left source.new) result }
+    ensures takes { TakesRequest (λ bytes. bytes.items) (S.left source.old) (S.left source.new)
+        result }
     ensures cause { CopyCause (S.faults source.old) (S.faults source.new) result }
 {
     let mut bytes = Vec::new(alloc);

@@ -2,7 +2,9 @@
 use Rattle.std.specs.Prelude.{Result, Ok, Err}
 use Rattle.sspi_gate.specs.declared.answer.GateError.{GateError}
 use Rattle.sspi_gate.specs.declared.answer.GateFault.{GateFault}
-use Rattle.sspi_gate.specs.declared.answer.GateFault.TheVariants.{Bad, Version, ReadFault, WriteFault, TurnsSpent, InsufficientMemory}
+use Rattle.sspi_gate.specs.declared.answer.GateFault.TheVariants.{Bad, Version, ReadFault}
+use Rattle.sspi_gate.specs.declared.answer.GateFault.TheVariants.{WriteFault, TurnsSpent}
+use Rattle.sspi_gate.specs.declared.answer.GateFault.TheVariants.{InsufficientMemory}
 use Rattle.sspi_gate.specs.declared.answer.Relayed.{Relayed}
 
 abbrev pub IsOfRequests : GateFault → Type 0

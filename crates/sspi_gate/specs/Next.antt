@@ -6,7 +6,9 @@ use Rattle.sspi_credssp.specs.declared.turn.End.{End}
 use Rattle.sspi_credssp.specs.declared.turn.End.TheVariants.{Client, Server}
 use Rattle.sspi_tsreq.specs.declared.request.TsRequest.{TsRequest}
 use Rattle.sspi_gate.specs.declared.answer.GateFault.{GateFault}
-use Rattle.sspi_gate.specs.declared.answer.GateFault.TheVariants.{Bad, Version, ReadFault, WriteFault, TurnsSpent, InsufficientMemory}
+use Rattle.sspi_gate.specs.declared.answer.GateFault.TheVariants.{Bad, Version, ReadFault}
+use Rattle.sspi_gate.specs.declared.answer.GateFault.TheVariants.{WriteFault, TurnsSpent}
+use Rattle.sspi_gate.specs.declared.answer.GateFault.TheVariants.{InsufficientMemory}
 use Rattle.sspi_framing.specs.Front.{IsText}
 use Rattle.sspi_framing.specs.Taking.{IsBad, TakesToFault, TakesWanted}
 use Rattle.sspi_gate.specs.Front.{MaySend}
@@ -50,14 +52,19 @@ pub record WritesFront (first : Option ℕ) (before after : Way) : Type 0 where
   pub reading : after.read_faults ≡ before.read_faults
   pub writing : before.write_faults ≤ after.write_faults
 
--- The next request of this end, whose first version is this one if it has sent any, was not handed on.
+-- The next request of this end, whose first version is this one if it has sent any, was not handed
+-- on.
 abbrev pub Fails : End → Option ℕ → Way → Way → GateFault → Type 0
 Fails end first before after (Bad who kind) =
-    (who ≡ end) × IsBad before.left kind × TakesToFault kind before.left after.left × TakesWell before after
+    (who ≡ end) × IsBad before.left kind × TakesToFault kind before.left after.left ×
+    TakesWell before after
 Fails end first before after (Version who) = (who ≡ end) × TakesOtherVersion first before after
-Fails end first before after (ReadFault who) = (who ≡ end) × Rose before.read_faults after.read_faults × TakesOnly before after
+Fails end first before after (ReadFault who) = (who ≡ end) ×
+    Rose before.read_faults after.read_faults × TakesOnly before after
 Fails end first before after (WriteFault who) =
-    (who ≡ other_end end) × Rose before.write_faults after.write_faults × WritesFront first before after
+    (who ≡ other_end end) × Rose before.write_faults after.write_faults ×
+    WritesFront first before after
 Fails end first before after TurnsSpent = ⊥
 Fails end first before after InsufficientMemory =
-    TakesWell before after ⊎ ((after.write_faults ≡ before.write_faults) × WritesFront first before after)
+    TakesWell before after ⊎ ((after.write_faults ≡ before.write_faults) ×
+    WritesFront first before after)

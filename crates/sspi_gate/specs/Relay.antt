@@ -1,5 +1,7 @@
--- What a relay did, and when each of its answers comes (MS-CSSP 3.1.5: the ends send in turn, the client first).
-use Rattle.std.specs.Prelude.{◌≡◌, ◌<◌, ◌≤◌, ◌+◌, ℕ, List, [], ◌∷◌, ◌++◌, length, Some, Result, Ok, Err}
+-- What a relay did, and when each of its answers comes (MS-CSSP 3.1.5: the ends send in turn, the
+-- client first).
+use Rattle.std.specs.Prelude.{◌≡◌, ◌<◌, ◌≤◌, ◌+◌, ℕ, List, [], ◌∷◌, ◌++◌, length, Some, Result, Ok}
+use Rattle.std.specs.Prelude.{Err}
 use Rattle.std.specs.Io.KnownBytes.{IsAtEnd}
 use Rattle.sspi_types.specs.declared.nstatus.NStatusCode.{NStatusCode}
 use Rattle.sspi_credssp.specs.declared.turn.End.{End}
@@ -9,7 +11,9 @@ use Rattle.sspi_gate.specs.declared.answer.Close.{Close}
 use Rattle.sspi_gate.specs.declared.answer.Close.TheVariants.{Ended, Refused}
 use Rattle.sspi_gate.specs.declared.answer.GateError.{GateError}
 use Rattle.sspi_gate.specs.declared.answer.GateFault.{GateFault}
-use Rattle.sspi_gate.specs.declared.answer.GateFault.TheVariants.{Bad, Version, ReadFault, WriteFault, TurnsSpent, InsufficientMemory}
+use Rattle.sspi_gate.specs.declared.answer.GateFault.TheVariants.{Bad, Version, ReadFault}
+use Rattle.sspi_gate.specs.declared.answer.GateFault.TheVariants.{WriteFault, TurnsSpent}
+use Rattle.sspi_gate.specs.declared.answer.GateFault.TheVariants.{InsufficientMemory}
 use Rattle.sspi_gate.specs.declared.answer.Relayed.{Relayed}
 use Rattle.sspi_gate.specs.Front.{AreCalm, HaveOneVersion, first_version, refusal}
 use Rattle.sspi_gate.specs.Next.{Fails}
@@ -22,7 +26,8 @@ of Server of_client of_server = of_server
 
 -- ---- what was handed on
 
--- The client's requests went to the server and the server's to the client, and each end kept to its first version.
+-- The client's requests went to the server and the server's to the client, and each end kept to its
+-- first version.
 pub record Passed (up down up_now down_now : Way) (sent answered : List TsRequest) : Type 0 where
   pub from_client : HandsOn up up_now sent
   pub from_server : HandsOn down down_now answered
@@ -31,12 +36,14 @@ pub record Passed (up down up_now down_now : Way) (sent answered : List TsReques
 
 -- ---- the state of a relay once these requests were handed on
 
--- Whose request comes next: the client's, if the server has answered them all, and otherwise the server's.
+-- Whose request comes next: the client's, if the server has answered them all, and otherwise the
+-- server's.
 abbrev pub IsDue : End → ℕ → ℕ → Type 0
 IsDue Client sent answered = sent ≡ answered
 IsDue Server sent answered = sent ≡ answered + 1
 
--- No answer refused, fewer than `limit` requests were answered, and the next one is due from this end.
+-- No answer refused, fewer than `limit` requests were answered, and the next one is due from this
+-- end.
 pub record GoesOn (limit : ℕ) (end : End) (sent answered : List TsRequest) : Type 0 where
   pub due : IsDue end (length sent) (length answered)
   pub within : length answered < limit
@@ -49,29 +56,34 @@ pub record IsSpent (limit : ℕ) (sent answered : List TsRequest) : Type 0 where
   pub calm : AreCalm answered
 
 -- the last request is an answer of the server, which refuses by this code as no earlier one did
-pub record IsRefused (limit : ℕ) (code : NStatusCode) (sent answered : List TsRequest) : Type 0 where
-  pub earlier : List TsRequest
-  pub last : TsRequest
-  pub parts : answered ≡ earlier ++ last ∷ []
-  pub calm : AreCalm earlier
-  pub refused : refusal last ≡ Some code
-  pub all_answered : length sent ≡ length answered
-  pub within : length answered ≤ limit
+pub record IsRefused (limit : ℕ) (code : NStatusCode) (sent answered : List TsRequest) : Type 0
+  where
+    pub earlier : List TsRequest
+    pub last : TsRequest
+    pub parts : answered ≡ earlier ++ last ∷ []
+    pub calm : AreCalm earlier
+    pub refused : refusal last ≡ Some code
+    pub all_answered : length sent ≡ length answered
+    pub within : length answered ≤ limit
 
 -- The next request was due from an end and was not handed on; nothing came of the other way.
-pub record IsBroken (limit : ℕ) (sent answered : List TsRequest) (up down up_after down_after : Way) (why : GateFault) : Type 0 where
+pub record IsBroken (limit : ℕ) (sent answered : List TsRequest) (up down up_after down_after : Way)
+    (why : GateFault) : Type 0 where
   pub end : End
   pub goes_on : GoesOn limit end sent answered
-  pub fails : Fails end (first_version (of end sent answered)) (of end up down) (of end up_after down_after) why
+  pub fails : Fails end (first_version (of end sent answered)) (of end up down)
+      (of end up_after down_after) why
   pub other : of end down_after up_after ≡ of end down up
 
 -- ---- the answers
 
 abbrev pub Closes : ℕ → List TsRequest → List TsRequest → Way → Way → Close → Type 0
-Closes limit sent answered up down (Ended end) = GoesOn limit end sent answered × IsAtEnd (of end up down).left
+Closes limit sent answered up down (Ended end) = GoesOn limit end sent answered ×
+    IsAtEnd (of end up down).left
 Closes limit sent answered up down (Refused code) = IsRefused limit code sent answered
 
-abbrev pub GivesUp : ℕ → List TsRequest → List TsRequest → Way → Way → Way → Way → GateFault → Type 0
+abbrev pub GivesUp : ℕ → List TsRequest → List TsRequest → Way → Way → Way → Way → GateFault →
+    Type 0
 GivesUp limit sent answered up down up_after down_after (Bad end kind) =
     IsBroken limit sent answered up down up_after down_after (Bad end kind)
 GivesUp limit sent answered up down up_after down_after (Version end) =
@@ -86,15 +98,19 @@ GivesUp limit sent answered up down up_after down_after InsufficientMemory =
     IsBroken limit sent answered up down up_after down_after InsufficientMemory
 
 -- why a relay stopped that came so far, and what it had done besides
-abbrev pub Stops : ℕ → List TsRequest → List TsRequest → Way → Way → Way → Way → Result Relayed GateError → Type 0
+abbrev pub Stops : ℕ → List TsRequest → List TsRequest → Way → Way → Way → Way →
+    Result Relayed GateError → Type 0
 Stops limit sent answered up down up_after down_after (Ok relayed) =
-    (relayed.passed ≡ length sent + length answered) × Closes limit sent answered up down relayed.how
+    (relayed.passed ≡ length sent + length answered) ×
+    Closes limit sent answered up down relayed.how
     × (up_after ≡ up) × (down_after ≡ down)
 Stops limit sent answered up down up_after down_after (Err error) =
-    (error.passed ≡ length sent + length answered) × GivesUp limit sent answered up down up_after down_after error.why
+    (error.passed ≡ length sent + length answered) ×
+    GivesUp limit sent answered up down up_after down_after error.why
 
 -- A whole relay of at most `limit` turns: `up` leads from the client to the server, `down` back.
-pub record IsRelay (limit : ℕ) (up down up_after down_after : Way) (answer : Result Relayed GateError) : Type 0 where
+pub record IsRelay (limit : ℕ) (up down up_after down_after : Way)
+    (answer : Result Relayed GateError) : Type 0 where
   pub sent : List TsRequest
   pub answered : List TsRequest
   pub up_last : Way

@@ -1,4 +1,5 @@
--- One direction of a relay: a source that requests are taken from, and a sink that their bytes are written to.
+-- One direction of a relay: a source that requests are taken from, and a sink that their bytes are
+-- written to.
 use Rattle.std.specs.Prelude.{◌≡◌, ℕ, List, Option}
 use Rattle.std.specs.Io.KnownBytes.{Appends, Consumes}
 use Rattle.sspi_tsreq.specs.declared.request.TsRequest.{TsRequest}
@@ -11,9 +12,15 @@ pub record Way : Type 0 where
   pub written : Option (List ℕ)
   pub write_faults : ℕ
 
-abbrev pub way : {S W : Type 0} → (S → Option (List ℕ)) → (S → ℕ) → (W → Option (List ℕ)) → (W → ℕ) → S → W → Way
+abbrev pub way : {S W : Type 0} → (S → Option (List ℕ)) → (S → ℕ) → (W → Option (List ℕ)) →
+    (W → ℕ) → S → W → Way
 way left read_faults written write_faults source sink =
-    record { left = left source; read_faults = read_faults source; written = written sink; write_faults = write_faults sink }
+    record {
+      left = left source;
+      read_faults = read_faults source;
+      written = written sink;
+      write_faults = write_faults sink;
+    }
 
 -- These requests and no byte more were taken, and written as their bytes came.
 pub record HandsOn (before after : Way) (requests : List TsRequest) : Type 0 where

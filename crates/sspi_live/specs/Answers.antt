@@ -1,6 +1,7 @@
--- When each answer of an end over a channel comes, and what the channel has carried then. The turns are those of this end, the newest
--- first; `before` is the channel before the first of them.
-use Rattle.std.specs.Prelude.{◌≡◌, ◌≢◌, ℕ, ◌<◌, ◌⊎◌, true, false, List, [], ◌∷◌, ◌++◌, length, Some, Result, Ok, Err}
+-- When each answer of an end over a channel comes, and what the channel has carried then. The turns
+-- are those of this end, the newest first; `before` is the channel before the first of them.
+use Rattle.std.specs.Prelude.{◌≡◌, ◌≢◌, ℕ, ◌<◌, ◌⊎◌, true, false, List, [], ◌∷◌, ◌++◌, length, Some}
+use Rattle.std.specs.Prelude.{Result, Ok, Err}
 use Rattle.std.specs.Io.KnownBytes.{Keeps}
 use Rattle.sspi_types.specs.declared.error_kind.ErrorKind.{ErrorKind}
 use Rattle.sspi_types.specs.declared.error_kind.ErrorKind.TheVariants as kinds
@@ -50,16 +51,20 @@ IsOwn Client (t ∷ past) d = Unit {0}
 IsOwn Server past d = Unit {0}
 
 -- The next turn is due on this request, which was read.
-pub record IsDue (end : End) (turns : List Turn) (before now : Channel) (d : TsRequest) : Type 0 where
-  pub going : AllGoOn turns
-  pub unended : GoesOnBehind end turns
-  pub own : IsOwn end turns d
-  pub carried : Carries before now (received_by end turns ++ read_for end turns d) (messages_in turns)
+pub record IsDue (end : End) (turns : List Turn) (before now : Channel) (d : TsRequest) : Type 0
+  where
+    pub going : AllGoOn turns
+    pub unended : GoesOnBehind end turns
+    pub own : IsOwn end turns d
+    pub carried : Carries before now (received_by end turns ++ read_for end turns d)
+        (messages_in turns)
 
 -- ---- why an end stops
 
--- A request is to be read for the next turn, and none was, for this reason. Nothing is written then.
-pub record FailsToRead (end : End) (limit : ℕ) (error : DelegateError) (turns : List Turn) (before after : Channel) : Type 0 where
+-- A request is to be read for the next turn, and none was, for this reason. Nothing is written
+-- then.
+pub record FailsToRead (end : End) (limit : ℕ) (error : DelegateError) (turns : List Turn)
+    (before after : Channel) : Type 0 where
   pub now : Channel
   pub so_far : SoFar end turns before now
   pub within : length turns < limit
@@ -69,18 +74,21 @@ pub record FailsToRead (end : End) (limit : ℕ) (error : DelegateError) (turns 
   pub writing : after.write_faults ≡ now.write_faults
 
 -- Writing the newest turn's message came to this. Nothing is read then.
-pub record WritesMessage (end : End) (turns : List Turn) (before after : Channel) (result : Result (Unit {0}) DelegateError) : Type 0 where
+pub record WritesMessage (end : End) (turns : List Turn) (before after : Channel)
+    (result : Result (Unit {0}) DelegateError) : Type 0 where
   pub now : Channel
   pub turned : IsTurned end turns before now
   pub message : TsRequest
   pub newest : newest_message turns ≡ Some message
-  pub writes : Writes end message now.written after.written now.write_faults after.write_faults result
+  pub writes : Writes end message now.written after.written now.write_faults after.write_faults
+      result
   pub left : Keeps now.left after.left
   pub reading : after.read_faults ≡ now.read_faults
 
 -- The newest turn went on, and its message was not written, for this reason.
 abbrev pub FailsToWrite : End → DelegateError → List Turn → Channel → Channel → Type 0
-FailsToWrite end error turns before after = AllGoOn turns × WritesMessage end turns before after (Err error)
+FailsToWrite end error turns before after = AllGoOn turns ×
+    WritesMessage end turns before after (Err error)
 
 -- what came of telling a client was no out of memory
 abbrev pub HadMemory : Result (Unit {0}) DelegateError → Type 0
@@ -88,38 +96,53 @@ HadMemory (Ok done) = Unit {0}
 HadMemory (Err errors.InsufficientMemory) = ⊥
 HadMemory (Err error) = Unit {0}
 
--- The newest turn was refused with this kind. A server's client was told: all of that was written, or it does not fit, or the sink
--- failed, and its count of faults rose. No one else is told.
+-- The newest turn was refused with this kind. A server's client was told: all of that was written,
+-- or it does not fit, or the sink failed, and its count of faults rose. No one else is told.
 abbrev pub Refuses : End → ErrorKind → List Turn → Channel → Channel → Type 0
-Refuses Client kind turns before after = NewestIs Client (IsClientRefusal kind) turns × IsTurned Client turns before after
+Refuses Client kind turns before after = NewestIs Client (IsClientRefusal kind) turns ×
+    IsTurned Client turns before after
 Refuses Server kind turns before after = NewestIs Server (IsServerRefusal kind) turns
-    × (result : Result (Unit {0}) DelegateError) × HadMemory result × WritesMessage Server turns before after result
+    × (result : Result (Unit {0}) DelegateError) × HadMemory result ×
+    WritesMessage Server turns before after result
 
--- a server refused its newest turn with this kind, and there was no memory for what tells its client
+-- a server refused its newest turn with this kind, and there was no memory for what tells its
+-- client
 abbrev pub RefusesUntold : End → ErrorKind → List Turn → Channel → Channel → Type 0
 RefusesUntold Client kind turns before after = ⊥
 RefusesUntold Server kind turns before after =
-    NewestIs Server (IsServerRefusal kind) turns × WritesMessage Server turns before after (Err errors.InsufficientMemory)
+    NewestIs Server (IsServerRefusal kind) turns ×
+    WritesMessage Server turns before after (Err errors.InsufficientMemory)
 
 -- where there was no memory
 pub data Lacks (end : End) (limit : ℕ) (turns : List Turn) (before after : Channel) : Type 0 where
-  for_a_request : FailsToRead end limit errors.InsufficientMemory turns before after → Lacks end limit turns before after
-  for_a_turn : (d : TsRequest) → length turns < limit → IsDue end turns before after d → Lacks end limit turns before after
-  for_a_message : FailsToWrite end errors.InsufficientMemory turns before after → Lacks end limit turns before after
-  of_the_end : Refuses end kinds.InsufficientMemory turns before after → Lacks end limit turns before after
-  for_a_refusal : (kind : ErrorKind) → RefusesUntold end kind turns before after → Lacks end limit turns before after
+  for_a_request : FailsToRead end limit errors.InsufficientMemory turns before after →
+      Lacks end limit turns before after
+  for_a_turn : (d : TsRequest) → length turns < limit → IsDue end turns before after d →
+      Lacks end limit turns before after
+  for_a_message : FailsToWrite end errors.InsufficientMemory turns before after →
+      Lacks end limit turns before after
+  of_the_end : Refuses end kinds.InsufficientMemory turns before after →
+      Lacks end limit turns before after
+  for_a_refusal : (kind : ErrorKind) → RefusesUntold end kind turns before after →
+      Lacks end limit turns before after
 
 -- what each error shows; limit: how many turns this end may make
 abbrev pub Stops : End → ℕ → DelegateError → List Turn → Channel → Channel → Type 0
 Stops end limit (errors.Client error) turns before after =
-    (end ≡ Client) × (error.error_type ≢ kinds.InsufficientMemory) × Refuses Client error.error_type turns before after
+    (end ≡ Client) × (error.error_type ≢ kinds.InsufficientMemory) ×
+    Refuses Client error.error_type turns before after
 Stops end limit (errors.Server error) turns before after =
-    (end ≡ Server) × (error.error_type ≢ kinds.InsufficientMemory) × Refuses Server error.error_type turns before after
-Stops end limit (errors.Read to kind) turns before after = FailsToRead end limit (errors.Read to kind) turns before after
-Stops end limit (errors.Write from) turns before after = FailsToWrite end (errors.Write from) turns before after
+    (end ≡ Server) × (error.error_type ≢ kinds.InsufficientMemory) ×
+    Refuses Server error.error_type turns before after
+Stops end limit (errors.Read to kind) turns before after =
+    FailsToRead end limit (errors.Read to kind) turns before after
+Stops end limit (errors.Write from) turns before after =
+    FailsToWrite end (errors.Write from) turns before after
 Stops end limit errors.LinkFault turns before after =
-    FailsToRead end limit errors.LinkFault turns before after ⊎ FailsToWrite end errors.LinkFault turns before after
-Stops end limit errors.TurnsSpent turns before after = (length turns ≡ limit) × SoFar end turns before after
+    FailsToRead end limit errors.LinkFault turns before after ⊎
+    FailsToWrite end errors.LinkFault turns before after
+Stops end limit errors.TurnsSpent turns before after = (length turns ≡ limit) ×
+    SoFar end turns before after
 Stops end limit errors.InsufficientMemory turns before after = Lacks end limit turns before after
 
 -- ---- the answers
@@ -127,7 +150,8 @@ Stops end limit errors.InsufficientMemory turns before after = Lacks end limit t
 -- a server: nothing is written for the turn that opened the credentials
 abbrev pub Serves : ℕ → Channel → Channel → Result Delegation DelegateError → List Turn → Type 0
 Serves limit before after (Ok delegation) turns =
-    (delegation.rounds ≡ length turns) × NewestIs Server IsFinished turns × IsTurned Server turns before after
+    (delegation.rounds ≡ length turns) × NewestIs Server IsFinished turns ×
+    IsTurned Server turns before after
 Serves limit before after (Err error) turns = Stops Server limit error turns before after
 
 -- The last message was written, behind those of all turns before.
@@ -139,5 +163,6 @@ pub record IsDelegated (turns : List Turn) (before after : Channel) : Type 0 whe
 
 -- a client, which answers the number of its turns
 abbrev pub Connects : ℕ → Channel → Channel → Result ℕ DelegateError → List Turn → Type 0
-Connects limit before after (Ok rounds) turns = (rounds ≡ length turns) × IsDelegated turns before after
+Connects limit before after (Ok rounds) turns = (rounds ≡ length turns) ×
+    IsDelegated turns before after
 Connects limit before after (Err error) turns = Stops Client limit error turns before after

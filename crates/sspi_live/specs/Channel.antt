@@ -1,4 +1,5 @@
--- The channel of one end: a source that its peer's requests are taken from, and a sink that its own messages are written to.
+-- The channel of one end: a source that its peer's requests are taken from, and a sink that its own
+-- messages are written to.
 use Rattle.std.specs.Prelude.{◌≡◌, ℕ, true, List, [], ◌∷◌, ◌++◌, Option, All}
 use Rattle.std.specs.Io.KnownBytes.{Appends, Consumes}
 use Rattle.sspi_tsreq.specs.declared.request.TsRequest.{TsRequest}
@@ -12,16 +13,23 @@ pub record Channel : Type 0 where
   pub written : Option (List ℕ)
   pub write_faults : ℕ
 
-abbrev pub channel : {S W : Type 0} → (S → Option (List ℕ)) → (S → ℕ) → (W → Option (List ℕ)) → (W → ℕ) → S → W → Channel
+abbrev pub channel : {S W : Type 0} → (S → Option (List ℕ)) → (S → ℕ) → (W → Option (List ℕ)) →
+    (W → ℕ) → S → W → Channel
 channel left read_faults written write_faults source sink =
-    record { left = left source; read_faults = read_faults source; written = written sink; write_faults = write_faults sink }
+    record {
+      left = left source;
+      read_faults = read_faults source;
+      written = written sink;
+      write_faults = write_faults sink;
+    }
 
 -- the encodings of these messages, one behind the other
 abbrev pub encodings : List TsRequest → List ℕ
 encodings [] = []
 encodings (m ∷ later) = spelled m ++ encodings later
 
--- These requests and no byte more were taken, the encodings of these messages and no byte more were written, and nothing failed.
+-- These requests and no byte more were taken, the encodings of these messages and no byte more were
+-- written, and nothing failed.
 pub record Carries (before after : Channel) (received sent : List TsRequest) : Type 0 where
   pub front : List ℕ
   pub requests_are : AreRequests front received

@@ -10,7 +10,8 @@ use Rattle.sspi_delegate.specs.declared.answer.DelegateError.TheVariants as erro
 use Rattle.sspi_delegate.specs.Chain.{ClientChain, ClientChainLeft, ClientStage, KdcCalls}
 use Rattle.sspi_delegate.specs.History.{ClientHistory, ClientStops}
 
-module _ {C D : Type 0} (c : Meaning ContextSetting C) (k : KdcCalls D) (due : TsRequest → Type 0) (first : ClientView C) (kdc : D) where
+module _ {C D : Type 0} (c : Meaning ContextSetting C) (k : KdcCalls D) (due : TsRequest →
+    Type 0) (first : ClientView C) (kdc : D) where
   -- the calls by which it made its turns, and the one that it refused at last
   abbrev pub ConnectPast : Result ℕ DelegateError → List Turn → ClientView C → D → Type 0
   ConnectPast (Ok rounds) turns now kdc2 = ClientHistory c k first kdc turns now kdc2
@@ -19,5 +20,6 @@ module _ {C D : Type 0} (c : Meaning ContextSetting C) (k : KdcCalls D) (due : T
   -- the stage that the chain of its turns leads to
   abbrev pub ConnectChained : Result ℕ DelegateError → List Turn → ClientStage C D → Type 0
   ConnectChained (Ok rounds) turns now = ClientChain c k first kdc turns now
-  ConnectChained (Err errors.InsufficientMemory) turns now = ClientChainLeft c k first due kdc turns now
+  ConnectChained (Err errors.InsufficientMemory) turns now =
+      ClientChainLeft c k first due kdc turns now
   ConnectChained (Err error) turns now = ClientChain c k first kdc turns now

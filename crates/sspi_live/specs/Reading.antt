@@ -11,17 +11,25 @@ use Rattle.sspi_framing.specs.Taking.{IsBad, TakesToFault, TakesWanted}
 use Rattle.sspi_delegate.specs.declared.answer.DelegateError.{DelegateError}
 use Rattle.sspi_delegate.specs.declared.answer.DelegateError.TheVariants as errors
 
--- nothing is left, or what is left begins with no request; and no byte was taken behind those that show it
+-- nothing is left, or what is left begins with no request; and no byte was taken behind those that
+-- show it
 abbrev pub HasNone : Option (List ℕ) → Option (List ℕ) → WireKind → Type 0
 HasNone before after kind =
-    ((kind ≡ kinds.UnexpectedEof) × IsAtEnd after × Consumes before after []) ⊎ (IsBad before kind × TakesToFault kind before after)
+    ((kind ≡ kinds.UnexpectedEof) × IsAtEnd after × Consumes before after []) ⊎
+    (IsBad before kind × TakesToFault kind before after)
 
--- A request and no byte behind it was taken by this end, or why none was; the counts of the source's faults are those before and now.
-abbrev pub Reads : End → Option (List ℕ) → Option (List ℕ) → ℕ → ℕ → Result TsRequest DelegateError → Type 0
-Reads to left rest before now (Ok d) = ((text : List ℕ) × IsText text d × Consumes left rest text) × (now ≡ before)
-Reads to left rest before now (Err (errors.Read end kind)) = (end ≡ to) × HasNone left rest kind × (now ≡ before)
-Reads to left rest before now (Err errors.LinkFault) = TakesWanted left rest × (before ≤ now) × Rose before now
-Reads to left rest before now (Err errors.InsufficientMemory) = TakesWanted left rest × (now ≡ before)
+-- A request and no byte behind it was taken by this end, or why none was; the counts of the
+-- source's faults are those before and now.
+abbrev pub Reads : End → Option (List ℕ) → Option (List ℕ) → ℕ → ℕ →
+    Result TsRequest DelegateError → Type 0
+Reads to left rest before now (Ok d) = ((text : List ℕ) × IsText text d × Consumes left rest text) ×
+    (now ≡ before)
+Reads to left rest before now (Err (errors.Read end kind)) = (end ≡ to) × HasNone left rest kind ×
+    (now ≡ before)
+Reads to left rest before now (Err errors.LinkFault) = TakesWanted left rest × (before ≤ now) ×
+    Rose before now
+Reads to left rest before now (Err errors.InsufficientMemory) = TakesWanted left rest ×
+    (now ≡ before)
 Reads to left rest before now (Err (errors.Client error)) = ⊥
 Reads to left rest before now (Err (errors.Server error)) = ⊥
 Reads to left rest before now (Err (errors.Write end)) = ⊥

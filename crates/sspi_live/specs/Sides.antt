@@ -1,4 +1,5 @@
--- Which requests the turns of one end were given, and which messages they made. The turns are the newest first.
+-- Which requests the turns of one end were given, and which messages they made. The turns are the
+-- newest first.
 use Rattle.std.specs.Prelude.{◌≡◌, List, [], ◌∷◌, ◌++◌, Option, None, Some}
 use Rattle.sspi_tsreq.specs.declared.request.TsRequest.{TsRequest}
 use Rattle.sspi_tsreq.specs.Grammar.{first_request}

@@ -8,13 +8,18 @@ use Rattle.sspi_credssp.specs.declared.turn.End.{End}
 use Rattle.sspi_delegate.specs.declared.answer.DelegateError.{DelegateError}
 use Rattle.sspi_delegate.specs.declared.answer.DelegateError.TheVariants as errors
 
--- The encoding of a message of this end was written, or why not all of it was; the counts of the sink's faults are those before and now.
-abbrev pub Writes : End → TsRequest → Option (List ℕ) → Option (List ℕ) → ℕ → ℕ → Result (Unit {0}) DelegateError → Type 0
-Writes from m old new before now (Ok done) = (fits m ≡ true) × Appends old new (spelled m) × (now ≡ before)
-Writes from m old new before now (Err (errors.Write end)) = (end ≡ from) × (fits m ≡ false) × Keeps old new × (now ≡ before)
+-- The encoding of a message of this end was written, or why not all of it was; the counts of the
+-- sink's faults are those before and now.
+abbrev pub Writes : End → TsRequest → Option (List ℕ) → Option (List ℕ) → ℕ → ℕ →
+    Result (Unit {0}) DelegateError → Type 0
+Writes from m old new before now (Ok done) = (fits m ≡ true) × Appends old new (spelled m) ×
+    (now ≡ before)
+Writes from m old new before now (Err (errors.Write end)) = (end ≡ from) × (fits m ≡ false) ×
+    Keeps old new × (now ≡ before)
 Writes from m old new before now (Err errors.LinkFault) =
     (fits m ≡ true) × WroteFront old new (spelled m) × (before ≤ now) × Rose before now
-Writes from m old new before now (Err errors.InsufficientMemory) = (fits m ≡ true) × WroteFront old new (spelled m) × (now ≡ before)
+Writes from m old new before now (Err errors.InsufficientMemory) = (fits m ≡ true) ×
+    WroteFront old new (spelled m) × (now ≡ before)
 Writes from m old new before now (Err (errors.Client error)) = ⊥
 Writes from m old new before now (Err (errors.Server error)) = ⊥
 Writes from m old new before now (Err (errors.Read end kind)) = ⊥

@@ -23,30 +23,35 @@ use sspi_mech::{Kdc, Mechanism};
 use sspi_tsreq::TsRequest;
 use std::alloc::Global;
 
-/// Delegates the client's credentials over a channel (MS-CSSP 3.1.5): writes its messages and reads what the server answers, for
-/// at most `limit` turns of the client.
+/// Delegates the client's credentials over a channel (MS-CSSP 3.1.5): writes its messages and reads
+/// what the server answers, for at most `limit` turns of the client.
 ///
-/// The first turn takes a default request; each other one takes the next request of `source`, and no byte behind it: what follows
-/// on the channel belongs to the next protocol. The message of a turn is written to `sink`, in one piece, before the next request
-/// is read. Where the client's context asks a KDC, `kdc` is asked and the turn goes on with its reply; a call that fails goes on
-/// as `Reply::Failed`.
+/// The first turn takes a default request; each other one takes the next request of `source`, and
+/// no byte behind it: what follows on the channel belongs to the next protocol. The message of a
+/// turn is written to `sink`, in one piece, before the next request is read. Where the client's
+/// context asks a KDC, `kdc` is asked and the turn goes on with its reply; a call that fails goes
+/// on as `Reply::Failed`.
 ///
-/// Ok comes once the last message was written, which has the credentials, and gives how many turns the client made. What the
-/// server makes of that message is not known then. Refused:
+/// Ok comes once the last message was written, which has the credentials, and gives how many turns
+/// the client made. What the server makes of that message is not known then. Refused:
 ///
 /// - `Client`: the client refused its turn, with this error. Nothing tells the server.
-/// - `Read`, of the client: what came is no request. The kind is `UnexpectedEof` where the source ended, also in front of a
-///   request, or a header is at fault, and else `InvalidData`.
-/// - `Write`, of the client: its message has a content past `sspi_ber::MAX_CONTENT`, 1048576 octets. None of it was written.
-/// - `LinkFault`: the source or the sink failed. Of a message that was due a prefix was written, never all of it.
-/// - `TurnsSpent`: the client made `limit` turns, and the message of each was written, but not the last one of a delegation; at
-///   once where `limit` is 0.
-/// - `InsufficientMemory`, that of the client or of the KDC among it; a prefix of a message that was due may have been written.
+/// - `Read`, of the client: what came is no request. The kind is `UnexpectedEof` where the source
+///   ended, also in front of a request, or a header is at fault, and else `InvalidData`.
+/// - `Write`, of the client: its message has a content past `sspi_ber::MAX_CONTENT`, 1048576
+///   octets. None of it was written.
+/// - `LinkFault`: the source or the sink failed. Of a message that was due a prefix was written,
+///   never all of it.
+/// - `TurnsSpent`: the client made `limit` turns, and the message of each was written, but not the
+///   last one of a delegation; at once where `limit` is 0.
+/// - `InsufficientMemory`, that of the client or of the KDC among it; a prefix of a message that
+///   was due may have been written.
 ///
-/// `Server` does not come: where the server tells of its refusal, the client refuses its turn. The transcript lets go of the
-/// turns that it held before. Whatever the answer, it then has each turn that was made, a refused one too, and the client is as
-/// its last turn left it. Where there was no memory for a reply of the KDC, the client waits for it in one further turn, on the
-/// request that was due, which has no record.
+/// `Server` does not come: where the server tells of its refusal, the client refuses its turn. The
+/// transcript lets go of the turns that it held before. Whatever the answer, it then has each turn
+/// that was made, a refused one too, and the client is as its last turn left it. Where there was no
+/// memory for a reply of the KDC, the client waits for it in one further turn, on the request that
+/// was due, which has no record.
 pub fn connect<N: Mechanism, K: Mechanism, D: Kdc, S: Source, W: Sink>(
     alloc: Global,
     client: &mut CredSspClient<N, K>,
@@ -58,17 +63,22 @@ pub fn connect<N: Mechanism, K: Mechanism, D: Kdc, S: Source, W: Sink>(
 ) -> Result<u32, DelegateError>
     // What the channel carried, and when each answer comes.
     ensures answer { Connects limit (channel S.left S.faults W.written W.faults source.old sink.old)
-        (channel S.left S.faults W.written W.faults source.new sink.new) result transcript.new.turns }
+        (channel S.left S.faults W.written W.faults source.new sink.new) result
+        transcript.new.turns }
     ensures within { length transcript.new.turns ≤ limit }
     // What the client did.
     ensures whose { AreOf End.Client transcript.new.turns × BeginsItself transcript.new.turns }
-    ensures history { ConnectPast (either N.REQUESTS N.meaning K.meaning) (kdc_calls D.told D.asked D.faults)
-        (IsDue End.Client transcript.new.turns (channel S.left S.faults W.written W.faults source.old sink.old)
+    ensures history { ConnectPast (either N.REQUESTS N.meaning K.meaning)
+        (kdc_calls D.told D.asked D.faults)
+        (IsDue End.Client transcript.new.turns
+        (channel S.left S.faults W.written W.faults source.old sink.old)
         (channel S.left S.faults W.written W.faults source.new sink.new))
         client.old kdc.old result transcript.new.turns client.new kdc.new }
-    ensures fresh { IsFreshClient client.old → ConnectedFresh (either N.REQUESTS N.meaning K.meaning)
+    ensures fresh { IsFreshClient client.old →
+        ConnectedFresh (either N.REQUESTS N.meaning K.meaning)
         (kdc_calls D.told D.asked D.faults)
-        (IsDue End.Client transcript.new.turns (channel S.left S.faults W.written W.faults source.old sink.old)
+        (IsDue End.Client transcript.new.turns
+        (channel S.left S.faults W.written W.faults source.old sink.old)
         (channel S.left S.faults W.written W.faults source.new sink.new))
         client.old kdc.old result transcript.new.turns client.new kdc.new }
     ensures kdc { KdcStays D.told D.faults kdc.old kdc.new }
@@ -82,7 +92,8 @@ pub fn connect<N: Mechanism, K: Mechanism, D: Kdc, S: Source, W: Sink>(
     Err(DelegateError::TurnsSpent)
 }
 
-/// A turn of the client on the request that is due; whether its message was the last one of a delegation.
+/// A turn of the client on the request that is due; whether its message was the last one of a
+/// delegation.
 fn connect_turn<N: Mechanism, K: Mechanism, D: Kdc, S: Source, W: Sink>(
     alloc: Global,
     client: &mut CredSspClient<N, K>,
@@ -92,18 +103,24 @@ fn connect_turn<N: Mechanism, K: Mechanism, D: Kdc, S: Source, W: Sink>(
     transcript: &mut Transcript,
 ) -> Result<bool, DelegateError>
     ensures step { (first : Channel) (limit : ℕ) →
-        SoFar End.Client transcript.old.turns first (channel S.left S.faults W.written W.faults source.old sink.old) →
+        SoFar End.Client transcript.old.turns first
+        (channel S.left S.faults W.written W.faults source.old sink.old) →
         length transcript.old.turns < limit →
-        ConnectStep limit first (channel S.left S.faults W.written W.faults source.new sink.new) result transcript.new.turns }
+        ConnectStep limit first (channel S.left S.faults W.written W.faults source.new sink.new)
+        result transcript.new.turns }
     ensures count { OnOk result (length transcript.new.turns ≡ length transcript.old.turns + 1) }
     ensures within { length transcript.new.turns ≤ length transcript.old.turns + 1 }
     ensures whose { AreOf End.Client transcript.old.turns → BeginsItself transcript.old.turns →
         AreOf End.Client transcript.new.turns × BeginsItself transcript.new.turns }
-    ensures history { let c = either N.REQUESTS N.meaning K.meaning in let k = kdc_calls D.told D.asked D.faults in
-        (first : Channel) (begun : ClientView (SspiContext N K)) (kdc_begun : D) → AreOf End.Client transcript.old.turns →
-        SoFar End.Client transcript.old.turns first (channel S.left S.faults W.written W.faults source.old sink.old) →
+    ensures history { let c = either N.REQUESTS N.meaning K.meaning in let k =
+        kdc_calls D.told D.asked D.faults in
+        (first : Channel) (begun : ClientView (SspiContext N K)) (kdc_begun : D) →
+        AreOf End.Client transcript.old.turns →
+        SoFar End.Client transcript.old.turns first
+        (channel S.left S.faults W.written W.faults source.old sink.old) →
         ClientHistory c k begun kdc_begun transcript.old.turns client.old kdc.old →
-        ConnectStepPast c k (IsDue End.Client transcript.new.turns first (channel S.left S.faults W.written W.faults source.new sink.new))
+        ConnectStepPast c k (IsDue End.Client transcript.new.turns first
+        (channel S.left S.faults W.written W.faults source.new sink.new))
         begun kdc_begun result transcript.new.turns client.new kdc.new }
     ensures kdc { KdcStays D.told D.faults kdc.old kdc.new }
 {
@@ -124,7 +141,8 @@ fn due_request<S: Source>(
     source: &mut S,
     transcript: &Transcript,
 ) -> Result<TsRequest, DelegateError>
-    ensures { ReadsDue End.Client transcript.now.turns (S.left source.old) (S.left source.new) (S.faults source.old)
+    ensures { ReadsDue End.Client transcript.now.turns (S.left source.old) (S.left source.new)
+        (S.faults source.old)
         (S.faults source.new) result }
 {
     match transcript.newest() {

@@ -15,7 +15,8 @@ pub(crate) fn read_request<S: Source>(
     source: &mut S,
     to: End,
 ) -> Result<TsRequest, DelegateError>
-    ensures { Reads to (S.left source.old) (S.left source.new) (S.faults source.old) (S.faults source.new) result }
+    ensures { Reads to (S.left source.old) (S.left source.new) (S.faults source.old)
+        (S.faults source.new) result }
 {
     match next_request(alloc, source) {
         Ok(Some(request)) => Ok(request),

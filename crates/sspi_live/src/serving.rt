@@ -22,27 +22,34 @@ use sspi_mech::Mechanism;
 use sspi_names::AuthIdentity;
 use std::alloc::Global;
 
-/// Takes the client's credentials over a channel (MS-CSSP 3.1.5): reads its requests and writes what the server answers, for at
-/// most `limit` turns of the server.
+/// Takes the client's credentials over a channel (MS-CSSP 3.1.5): reads its requests and writes
+/// what the server answers, for at most `limit` turns of the server.
 ///
-/// Each turn takes the next request of `source`, and no byte behind it: what follows on the channel belongs to the next
-/// protocol. Its answer is written to `sink`, in one piece, before the next request is read.
+/// Each turn takes the next request of `source`, and no byte behind it: what follows on the channel
+/// belongs to the next protocol. Its answer is written to `sink`, in one piece, before the next
+/// request is read.
 ///
-/// Ok gives the identity that the server opened, and how many turns it made; nothing is written for the last one. Refused:
+/// Ok gives the identity that the server opened, and how many turns it made; nothing is written for
+/// the last one. Refused:
 ///
-/// - `Server`: the server refused its turn, with this error. What tells its client was written whole, unless it does not fit or
-///   the sink failed, whose count of faults rose; that changes no answer.
-/// - `Read`, of the server: what came is no request. The kind is `UnexpectedEof` where the source ended, also in front of a
-///   request, or a header is at fault, and else `InvalidData`.
-/// - `Write`, of the server: its message has a content past `sspi_ber::MAX_CONTENT`, 1048576 octets. None of it was written.
-/// - `LinkFault`: the source or the sink failed. Of a message that was due a prefix was written, never all of it.
-/// - `TurnsSpent`: the server made `limit` turns, each was answered, and none of them ended the exchange; at once where `limit`
-///   is 0. Nothing more is then read.
-/// - `InsufficientMemory`, that of the server among it; a prefix of a message that was due may have been written. It comes too
-///   where there was no memory for what tells the client of a refusal: that turn is then the newest of the transcript.
+/// - `Server`: the server refused its turn, with this error. What tells its client was written
+///   whole, unless it does not fit or the sink failed, whose count of faults rose; that changes no
+///   answer.
+/// - `Read`, of the server: what came is no request. The kind is `UnexpectedEof` where the source
+///   ended, also in front of a request, or a header is at fault, and else `InvalidData`.
+/// - `Write`, of the server: its message has a content past `sspi_ber::MAX_CONTENT`, 1048576
+///   octets. None of it was written.
+/// - `LinkFault`: the source or the sink failed. Of a message that was due a prefix was written,
+///   never all of it.
+/// - `TurnsSpent`: the server made `limit` turns, each was answered, and none of them ended the
+///   exchange; at once where `limit` is 0. Nothing more is then read.
+/// - `InsufficientMemory`, that of the server among it; a prefix of a message that was due may have
+///   been written. It comes too where there was no memory for what tells the client of a refusal:
+///   that turn is then the newest of the transcript.
 ///
-/// `Client` does not come. The transcript lets go of the turns that it held before. Whatever the answer, it then has each turn
-/// that was made, a refused one too, and the server is as its last turn left it.
+/// `Client` does not come. The transcript lets go of the turns that it held before. Whatever the
+/// answer, it then has each turn that was made, a refused one too, and the server is as its last
+/// turn left it.
 pub fn serve<N: Mechanism, K: Mechanism, C: CredentialsProxy, S: Source, W: Sink>(
     alloc: Global,
     server: &mut CredSspServer<N, K, C>,
@@ -53,12 +60,15 @@ pub fn serve<N: Mechanism, K: Mechanism, C: CredentialsProxy, S: Source, W: Sink
 ) -> Result<Delegation, DelegateError>
     // What the channel carried, and when each answer comes.
     ensures answer { Serves limit (channel S.left S.faults W.written W.faults source.old sink.old)
-        (channel S.left S.faults W.written W.faults source.new sink.new) result transcript.new.turns }
+        (channel S.left S.faults W.written W.faults source.new sink.new) result
+        transcript.new.turns }
     ensures within { length transcript.new.turns ≤ limit }
     // What the server did.
     ensures whose { AreOf End.Server transcript.new.turns }
-    ensures history { ServerPast (either N.REQUESTS N.meaning K.meaning) C.meaning server.old result transcript.new.turns server.new }
-    ensures fresh { IsFreshServer server.old → ServedFresh (either N.REQUESTS N.meaning K.meaning) C.meaning server.old result
+    ensures history { ServerPast (either N.REQUESTS N.meaning K.meaning) C.meaning server.old result
+        transcript.new.turns server.new }
+    ensures fresh { IsFreshServer server.old →
+        ServedFresh (either N.REQUESTS N.meaning K.meaning) C.meaning server.old result
         transcript.new.turns server.new }
     ensures proxy { ProxyStays C.meaning server.old.proxy server.new.proxy }
 {
@@ -83,14 +93,18 @@ fn serve_turn<N: Mechanism, K: Mechanism, C: CredentialsProxy, S: Source, W: Sin
     transcript: &mut Transcript,
 ) -> Result<Option<AuthIdentity>, DelegateError>
     ensures step { (first : Channel) (limit : ℕ) →
-        SoFar End.Server transcript.old.turns first (channel S.left S.faults W.written W.faults source.old sink.old) →
+        SoFar End.Server transcript.old.turns first
+        (channel S.left S.faults W.written W.faults source.old sink.old) →
         length transcript.old.turns < limit →
-        ServeStep limit first (channel S.left S.faults W.written W.faults source.new sink.new) result transcript.new.turns }
+        ServeStep limit first (channel S.left S.faults W.written W.faults source.new sink.new)
+        result transcript.new.turns }
     ensures count { OnOk result (length transcript.new.turns ≡ length transcript.old.turns + 1) }
     ensures within { length transcript.new.turns ≤ length transcript.old.turns + 1 }
     ensures whose { AreOf End.Server transcript.old.turns → AreOf End.Server transcript.new.turns }
-    ensures history { let c = either N.REQUESTS N.meaning K.meaning in (first : ServerView (SspiContext N K) C) →
-        AreOf End.Server transcript.old.turns → ServerHistory c C.meaning first transcript.old.turns server.old →
+    ensures history { let c = either N.REQUESTS N.meaning K.meaning
+        in (first : ServerView (SspiContext N K) C) →
+        AreOf End.Server transcript.old.turns →
+        ServerHistory c C.meaning first transcript.old.turns server.old →
         ServerHalfPast c C.meaning first result transcript.new.turns server.new }
     ensures proxy { ProxyStays C.meaning server.old.proxy server.new.proxy }
 {

@@ -14,7 +14,8 @@ use std::alloc::Global;
 
 /// Writes the message in one piece, for which it takes memory before a byte is written.
 fn write_encoded<W: Sink>(alloc: Global, sink: &mut W, message: &TsRequest) -> Result<(), WireKind>
-    ensures wrote { WritesIf (fits message.now) W.written sink.old sink.new result (spelled message.now) }
+    ensures wrote { WritesIf (fits message.now) W.written sink.old sink.new result
+        (spelled message.now) }
     ensures cause { WriteCause (W.faults sink.old) (W.faults sink.new) result }
 {
     let text = message.encode(alloc)?;
@@ -28,7 +29,8 @@ fn write_message<W: Sink>(
     from: End,
     message: &TsRequest,
 ) -> Result<(), DelegateError>
-    ensures { Writes from message.now (W.written sink.old) (W.written sink.new) (W.faults sink.old) (W.faults sink.new) result }
+    ensures { Writes from message.now (W.written sink.old) (W.written sink.new) (W.faults sink.old)
+        (W.faults sink.new) result }
 {
     match write_encoded(alloc, sink, message) {
         Ok(()) => Ok(()),
@@ -45,7 +47,8 @@ pub(crate) fn write_newest<W: Sink>(
     from: End,
     transcript: &Transcript,
 ) -> Result<(), DelegateError>
-    ensures { WritesNewest from (newest_message transcript.now.turns) (W.written sink.old) (W.written sink.new)
+    ensures { WritesNewest from (newest_message transcript.now.turns) (W.written sink.old)
+        (W.written sink.new)
         (W.faults sink.old) (W.faults sink.new) result }
 {
     match transcript.newest() {

@@ -1,5 +1,5 @@
-//! What two ends agree on that ran over channels, whoever carried between them. Each law is the contract of a call that does
-//! nothing.
+//! What two ends agree on that ran over channels, whoever carried between them. Each law is the
+//! contract of a call that does nothing.
 #![tactic(auto)]
 
 ghost use Rattle.std.specs.Prelude.{◌≡◌, ℕ, List, Result, length};
@@ -10,7 +10,8 @@ ghost use Rattle.sspi_credssp.specs.Ends.{ClientView, IsFreshServer, ServerView}
 ghost use Rattle.sspi_delegate.specs.declared.answer.Delegation.{Delegation};
 ghost use Rattle.sspi_delegate.specs.declared.answer.DelegateError.{DelegateError};
 ghost use Rattle.sspi_delegate.specs.History.{ServerPast};
-ghost use Rattle.sspi_delegate.specs.Turns.{ClientRan, client_end, client_turns, server_end, server_turns};
+ghost use Rattle.sspi_delegate.specs.Turns.{ClientRan, client_end, client_turns, server_end};
+ghost use Rattle.sspi_delegate.specs.Turns.{server_turns};
 ghost use Rattle.sspi_live.specs.Answers.{Serves};
 ghost use Rattle.sspi_live.specs.Channel.{Channel};
 ghost use Rattle.sspi_live.specs.Fresh.{ServedFresh};
@@ -20,17 +21,20 @@ ghost use Rattle.sspi_play.specs.Agreement.{AgreesIfFaithful};
 use sspi_credssp::CredentialsProxy;
 use sspi_mech::Mechanism;
 
-/// `serve` of a fresh server and `connect` of a fresh client, of the turns of both in whatever order they were made: if the
-/// mechanism is faithful in these turns, the ends agree on key and nonce, and the identity that `serve` answers is the one that
-/// this client sealed. The clauses `answer`, `history` and `fresh` of both calls are the premises, and that the nonce of a client has
-/// 32 bytes.
+/// `serve` of a fresh server and `connect` of a fresh client, of the turns of both in whatever
+/// order they were made: if the mechanism is faithful in these turns, the ends agree on key and
+/// nonce, and the identity that `serve` answers is the one that this client sealed. The clauses
+/// `answer`, `history` and `fresh` of both calls are the premises, and that the nonce of a client
+/// has 32 bytes.
 pub fn two_ends_agree<N: Mechanism, K: Mechanism, C: CredentialsProxy>()
     ensures { let c = either N.REQUESTS N.meaning K.meaning in
         (server server2 : ServerView (SspiContext N K) C) (limit : ℕ) (before after : Channel) →
-        (answer : Result Delegation DelegateError) (client client2 : ClientView (SspiContext N K)) (turns : List Turn) →
+        (answer : Result Delegation DelegateError) (client client2 : ClientView (SspiContext N K))
+        (turns : List Turn) →
         IsFreshServer server → Serves limit before after answer (server_turns turns) →
         ServerPast c C.meaning server answer (server_turns turns) server2 →
-        ServedFresh c C.meaning server answer (server_turns turns) server2 → ClientRan c client client2 (client_turns turns) →
+        ServedFresh c C.meaning server answer (server_turns turns) server2 →
+        ClientRan c client client2 (client_turns turns) →
         length client.settings.nonce ≡ 32 →
         AgreesIfFaithful c (client_end client2) (server_end server2) turns (identity_of answer) }
 {}

@@ -19,8 +19,10 @@ kind_or_memory (Some kind) = kind
 abbrev pub IsCause : Option ErrorKind → ErrorKind → Type 0
 IsCause cause kind = kind ≡ kind_or_memory cause
 
--- a call is refused with this kind: a kind with which the context refuses it, or out of memory where the context permits it
-pub record IsRefusedAs (Permitted : Type 0) (Refused : ErrorKind → Type 0) (kind : ErrorKind) : Type 0 where
+-- a call is refused with this kind: a kind with which the context refuses it, or out of memory
+-- where the context permits it
+pub record IsRefusedAs (Permitted : Type 0) (Refused : ErrorKind → Type 0) (kind : ErrorKind) : Type
+    0 where
   pub cause : kind ≢ InsufficientMemory → Refused kind
   pub memory : kind ≡ InsufficientMemory → Permitted
 
@@ -32,4 +34,5 @@ GivesExactly (Err refusal) expected = expected ≡ Err refusal.error_type
 -- the answer is the one that there is, value or kind; out of memory may come in its place
 abbrev pub Gives : {X : Type 0} → Result X Refusal → Result X ErrorKind → Type 0
 Gives (Ok x) expected = expected ≡ Ok x
-Gives (Err refusal) expected = refusal.error_type ≢ InsufficientMemory → expected ≡ Err refusal.error_type
+Gives (Err refusal) expected = refusal.error_type ≢ InsufficientMemory →
+    expected ≡ Err refusal.error_type

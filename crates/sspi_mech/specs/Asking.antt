@@ -13,10 +13,12 @@ AskCause before now (Ok x) = before ≤ now
 AskCause before now (Err errors.Failed) = (before ≤ now) × (counted_on before ≤ now)
 AskCause before now (Err errors.InsufficientMemory) = before ≤ now
 
--- where the replies are told, by the number of the call, the answer is the one that is told: a call fails exactly where it
--- is told to, and no other call is counted as a fault
-abbrev pub IsTold : {A : Type 0} → Option (ℕ → NetworkRequest → Reply) → ℕ → NetworkRequest → ℕ → ℕ → Result (Vec ℕ A) KdcError → Type 0
+-- where the replies are told, by the number of the call, the answer is the one that is told: a call
+-- fails exactly where it is told to, and no other call is counted as a fault
+abbrev pub IsTold : {A : Type 0} → Option (ℕ → NetworkRequest → Reply) → ℕ → NetworkRequest → ℕ →
+    ℕ → Result (Vec ℕ A) KdcError → Type 0
 IsTold None call request before now answer = Unit {0}
-IsTold (Some told) call request before now (Ok reply) = (told call request ≡ replies.Answered reply.items) × (now ≡ before)
+IsTold (Some told) call request before now (Ok reply) =
+    (told call request ≡ replies.Answered reply.items) × (now ≡ before)
 IsTold (Some told) call request before now (Err errors.Failed) = told call request ≡ replies.Failed
 IsTold (Some told) call request before now (Err errors.InsufficientMemory) = now ≡ before

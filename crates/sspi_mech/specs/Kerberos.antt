@@ -11,37 +11,51 @@ use Rattle.sspi_names.specs.declared.credentials.Credentials.{Credentials}
 use Rattle.sspi_names.specs.declared.credentials.CredentialsBuffers.{CredentialsBuffers}
 use Rattle.sspi_names.specs.declared.kdc_table.KdcEntry.{KdcEntry}
 use Rattle.sspi_mech.specs.declared.kerberos.stage.Stage.{Stage}
-use Rattle.sspi_mech.specs.declared.kerberos.stage.Stage.TheVariants.{Unused, PairingAsked, TicketAsked, LogonAsked, SessionAsked}
-use Rattle.sspi_mech.specs.declared.kerberos.stage.Stage.TheVariants.{SessionSent, Ended, TicketSent, Accepted}
+use Rattle.sspi_mech.specs.declared.kerberos.stage.Stage.TheVariants.{Unused, PairingAsked}
+use Rattle.sspi_mech.specs.declared.kerberos.stage.Stage.TheVariants.{TicketAsked, LogonAsked}
+use Rattle.sspi_mech.specs.declared.kerberos.stage.Stage.TheVariants.{SessionAsked}
+use Rattle.sspi_mech.specs.declared.kerberos.stage.Stage.TheVariants.{SessionSent, Ended}
+use Rattle.sspi_mech.specs.declared.kerberos.stage.Stage.TheVariants.{TicketSent, Accepted}
 use Rattle.sspi_mech.specs.declared.step.Answer.{Answer}
 use Rattle.sspi_mech.specs.declared.step.Answer.TheVariants as answers
 use Rattle.sspi_mech.specs.declared.step.Progressing.TheVariants.{Done, Suspended}
 use Rattle.sspi_mech.specs.declared.step.Reply.{Reply}
 use Rattle.sspi_mech.specs.declared.step.Step.{Step}
-use Rattle.sspi_mech.specs.Calls.{StepArgs, AcceptArgs, Call, ToAcquire, ToName, ToIdentify, ToComplete, ToSeal, ToUnseal, ToSign}
+use Rattle.sspi_mech.specs.Calls.{StepArgs, AcceptArgs, Call, ToAcquire, ToName, ToIdentify}
+use Rattle.sspi_mech.specs.Calls.{ToComplete, ToSeal, ToUnseal, ToSign}
 use Rattle.sspi_mech.specs.Calls.{ToVerify, ToDescribe, ToShowKey}
 use Rattle.sspi_mech.specs.Meaning.{Meaning}
 use Rattle.sspi_mech.specs.KerberosLogon.{acquired}
-use Rattle.sspi_mech.specs.KerberosStage.{KerberosState, own_direction, peer_direction, name_at, waits_at, left_at, pairs_at}
-use Rattle.sspi_mech.specs.KerberosSteps.{Outcome, Moves, Steps, client_step, resumed_step, server_step}
+use Rattle.sspi_mech.specs.KerberosStage.{KerberosState, own_direction, peer_direction, name_at}
+use Rattle.sspi_mech.specs.KerberosStage.{waits_at, left_at, pairs_at}
+use Rattle.sspi_mech.specs.KerberosSteps.{Outcome, Moves, Steps, client_step, resumed_step}
+use Rattle.sspi_mech.specs.KerberosSteps.{server_step}
 use Rattle.sspi_mech.specs.Ntlm.{absence}
-use Rattle.sspi_mech.specs.Protection.{SealsBy, OpensBy, SignsBy, VerifiesBy, making_refusal, unseal_refusal, verify_refusal}
+use Rattle.sspi_mech.specs.Protection.{SealsBy, OpensBy, SignsBy, VerifiesBy, making_refusal}
+use Rattle.sspi_mech.specs.Protection.{unseal_refusal, verify_refusal}
 use Rattle.sspi_mech.specs.Protection.{counts_of, recounted, no_protection}
 use Rattle.sspi_mech.specs.Settings.{Setting, OfNtlm, OfKerberos, OfKerberosServer}
 
 -- an object that has made no step, with these KDCs and this ticket
 abbrev pub kerberos_with : Option (List ℕ) → List KdcEntry → Option (List ℕ) → KerberosState
 kerberos_with url kdcs ticket =
-    record { realms = record { kdc_url = url; kdcs = kdcs }; ticket = ticket; stage = Unused; protection = no_protection }
+    record {
+      realms = record { kdc_url = url; kdcs = kdcs };
+      ticket = ticket;
+      stage = Unused;
+      protection = no_protection;
+    }
 
 -- a made object: what its configuration has, and nothing where that is one of NTLM
 abbrev pub kerberos_of : Setting → KerberosState
 kerberos_of (OfNtlm config) = kerberos_with None [] None
 kerberos_of (OfKerberos config) = kerberos_with config.kdc_url config.kdcs None
-kerberos_of (OfKerberosServer config server) = kerberos_with config.kdc_url config.kdcs server.ticket
+kerberos_of (OfKerberosServer config server) =
+    kerberos_with config.kdc_url config.kdcs server.ticket
 
 -- the credentials serve, and the object stays as it is
-abbrev pub KerberosAcquires : KerberosState → CredentialUse → Option Credentials → Option CredentialsBuffers → KerberosState → Type 0
+abbrev pub KerberosAcquires : KerberosState → CredentialUse → Option Credentials →
+    Option CredentialsBuffers → KerberosState → Type 0
 KerberosAcquires m use_of auth_data given m2 = (acquired use_of auth_data ≡ Ok given) × (m2 ≡ m)
 
 abbrev pub Answers : Outcome → KerberosState → Answer → KerberosState → Type 0
@@ -50,7 +64,8 @@ Answers outcome m (answers.Ask request) m2 = Moves outcome m (Ok (Suspended requ
 Answers outcome m (answers.Refused error) m2 = Moves outcome m (Err error) m2
 
 abbrev pub KerberosSteps : KerberosState → StepArgs → Answer → KerberosState → Type 0
-KerberosSteps m args answer m2 = Answers (client_step m.stage m args.handle args.requirements args.input) m answer m2
+KerberosSteps m args answer m2 = Answers (client_step m.stage m args.handle args.requirements
+    args.input) m answer m2
 
 abbrev pub KerberosResumes : KerberosState → Reply → Answer → KerberosState → Type 0
 KerberosResumes m reply answer m2 = Answers (resumed_step m.stage m reply) m answer m2
@@ -84,9 +99,11 @@ kerberos_refusal m ToName = absence (name_at m.stage)
 kerberos_refusal m (ToIdentify identities) = result_err (identified m identities)
 kerberos_refusal m ToComplete = absence m.protection.key
 kerberos_refusal m (ToSeal text) = making_refusal m.protection.key m.protection.sealings
-kerberos_refusal m (ToUnseal blob) = unseal_refusal m.protection.key (peer_direction m.stage) m.protection.unsealings blob
+kerberos_refusal m (ToUnseal blob) = unseal_refusal m.protection.key (peer_direction m.stage)
+    m.protection.unsealings blob
 kerberos_refusal m (ToSign text) = making_refusal m.protection.key m.protection.signings
-kerberos_refusal m (ToVerify mic text) = verify_refusal m.protection.key (peer_direction m.stage) m.protection.verifications mic text
+kerberos_refusal m (ToVerify mic text) = verify_refusal m.protection.key (peer_direction m.stage)
+    m.protection.verifications mic text
 kerberos_refusal m ToDescribe = None
 kerberos_refusal m ToShowKey = absence m.protection.key
 

@@ -1,10 +1,14 @@
 -- Who a client of plain Kerberos is, and which KDC it asks.
-use Rattle.std.specs.Prelude.{◌≡◌, ◌⊎◌, ℕ, List, length, take, codes, nat_lt, Option, None, Some, Result, Ok, Err, if◌then◌else◌}
+use Rattle.std.specs.Prelude.{◌≡◌, ◌⊎◌, ℕ, List, length, take, codes, nat_lt, Option, None, Some}
+use Rattle.std.specs.Prelude.{Result, Ok, Err, if◌then◌else◌}
 use Rattle.std.specs.Str.{bytes_eq}
 use Rattle.sspi_types.specs.declared.credential_use.CredentialUse.{CredentialUse}
-use Rattle.sspi_types.specs.declared.credential_use.CredentialUse.TheVariants.{Inbound, Outbound, Both, Default}
+use Rattle.sspi_types.specs.declared.credential_use.CredentialUse.TheVariants.{Inbound, Outbound}
+use Rattle.sspi_types.specs.declared.credential_use.CredentialUse.TheVariants.{Both, Default}
 use Rattle.sspi_types.specs.declared.error_kind.ErrorKind.{ErrorKind}
-use Rattle.sspi_types.specs.declared.error_kind.ErrorKind.TheVariants.{UnknownCredentials, NoCredentials, NoAuthenticatingAuthority}
+use Rattle.sspi_types.specs.declared.error_kind.ErrorKind.TheVariants.{UnknownCredentials}
+use Rattle.sspi_types.specs.declared.error_kind.ErrorKind.TheVariants.{NoCredentials}
+use Rattle.sspi_types.specs.declared.error_kind.ErrorKind.TheVariants.{NoAuthenticatingAuthority}
 use Rattle.sspi_types.specs.declared.error_kind.ErrorKind.TheVariants.{InternalError}
 use Rattle.sspi_names.specs.Identity.{credentials_buffers_of}
 use Rattle.sspi_names.specs.Kdcs.{url_of}
@@ -21,7 +25,8 @@ use Rattle.sspi_mech.specs.declared.kerberos.logon.Logon.{Logon}
 use Rattle.sspi_mech.specs.declared.kerberos.realms.Realms.{Realms}
 
 -- all credentials serve, a keytab too; those for a client must be there
-abbrev pub acquired : CredentialUse → Option Credentials → Result (Option CredentialsBuffers) ErrorKind
+abbrev pub acquired : CredentialUse → Option Credentials →
+    Result (Option CredentialsBuffers) ErrorKind
 acquired use_of (Some credentials) = Ok (Some (credentials_buffers_of credentials))
 acquired Inbound None = Ok None
 acquired Outbound None = Err NoCredentials
@@ -35,7 +40,8 @@ name_or (Some name) = Ok name
 -- the name in the credentials of a handle
 abbrev pub name_in : Option CredentialsBuffers → Result Name ErrorKind
 name_in None = Err NoCredentials
-name_in (Some (buffers.AuthIdentity identity)) = name_or (new_name (text_of identity.user) (text_of identity.domain))
+name_in (Some (buffers.AuthIdentity identity)) =
+    name_or (new_name (text_of identity.user) (text_of identity.domain))
 name_in (Some (buffers.Keytab identity)) = Ok identity.username
 
 -- ---- the KDC
@@ -77,7 +83,8 @@ logon_as realms (Err kind) = Err kind
 abbrev pub logon_of : Realms → Option CredentialsBuffers → Result Logon ErrorKind
 logon_of realms handle = logon_as realms (name_in handle)
 
--- what is found out of a name once it was copied out of the credentials: that it has no KDC, or is too long
+-- what is found out of a name once it was copied out of the credentials: that it has no KDC, or is
+-- too long
 abbrev pub IsLate : ErrorKind → Type 0
 IsLate kind = (kind ≡ NoAuthenticatingAuthority) ⊎ (kind ≡ InternalError)
 

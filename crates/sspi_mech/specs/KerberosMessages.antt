@@ -1,5 +1,5 @@
--- The messages of plain Kerberos. They are this project's own, after the roles of RFC 4120 (AS, TGS and AP exchanges) and of
--- user-to-user authentication, where a server sends its ticket before.
+-- The messages of plain Kerberos. They are this project's own, after the roles of RFC 4120 (AS, TGS
+-- and AP exchanges) and of user-to-user authentication, where a server sends its ticket before.
 use Rattle.std.specs.Prelude.{ℕ, Bool, List, [], ◌∷◌, ◌++◌, codes, Option}
 use Rattle.std.specs.Str.{bytes_eq}
 use Rattle.sha2.specs.Sha256.{sha256}

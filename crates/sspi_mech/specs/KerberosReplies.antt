@@ -1,5 +1,6 @@
 -- What a KDC's reply means.
-use Rattle.std.specs.Prelude.{◌==◌, ℕ, List, [], ◌∷◌, codes, Option, None, Some, Result, Ok, Err, if◌then◌else◌}
+use Rattle.std.specs.Prelude.{◌==◌, ℕ, List, [], ◌∷◌, codes, Option, None, Some, Result, Ok, Err}
+use Rattle.std.specs.Prelude.{if◌then◌else◌}
 use Rattle.sspi_types.specs.declared.error_kind.ErrorKind.{ErrorKind}
 use Rattle.sspi_types.specs.declared.error_kind.ErrorKind.TheVariants as kinds
 use Rattle.sspi_mech.specs.declared.step.Reply.{Reply}
@@ -16,7 +17,8 @@ kind_of_code code =
     else if code == 5 then kinds.LogonDenied
     else kinds.InvalidToken
 
--- an error has a code and nothing else; all that is neither an error nor the reply that was asked for is malformed
+-- an error has a code and nothing else; all that is neither an error nor the reply that was asked
+-- for is malformed
 abbrev pub kind_in : Option (List ℕ) → ErrorKind
 kind_in None = kinds.InvalidToken
 kind_in (Some []) = kinds.InvalidToken
@@ -29,7 +31,8 @@ granted_or (Some key) kind = Ok key
 
 -- the key in a reply that begins with these letters, or why there is none
 abbrev pub granted : List ℕ → Reply → Result (List ℕ) ErrorKind
-granted letters (Answered reply) = granted_or (read_block letters reply) (kind_in (after_letters (codes "KE") reply))
+granted letters (Answered reply) = granted_or (read_block letters reply)
+    (kind_in (after_letters (codes "KE") reply))
 granted letters Failed = Err kinds.NoAuthenticatingAuthority
 
 -- the key that a KDC gives a name, and the one that it gives for that and a ticket

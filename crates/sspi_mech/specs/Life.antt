@@ -1,5 +1,5 @@
--- What may have befallen an object of a mechanism since it was made, in any order of its calls, and how many questions to a
--- KDC came of it. Calls that leave the object as it was have no line.
+-- What may have befallen an object of a mechanism since it was made, in any order of its calls, and
+-- how many questions to a KDC came of it. Calls that leave the object as it was have no line.
 use Rattle.std.specs.Prelude.{ℕ, ◌+◌, List, Option, Result}
 use Rattle.sspi_types.specs.declared.credential_use.CredentialUse.{CredentialUse}
 use Rattle.sspi_types.specs.declared.error.Error.{Error}
@@ -20,10 +20,15 @@ questions_in (Refused error) = 0
 module _ {S M : Type 0} (it : Meaning S M) where
   pub data HasLived : M → ℕ → Type 0 where
     made : (s : S) (m : M) → it.made s m → HasLived m 0
-    acquired : (m m2 : M) (n : ℕ) (u : CredentialUse) (d : Option Credentials) (b : Option CredentialsBuffers) →
+    acquired : (m m2 : M) (n : ℕ) (u : CredentialUse) (d : Option Credentials)
+        (b : Option CredentialsBuffers) →
         HasLived m n → it.acquires m u d b m2 → HasLived m2 n
-    stepped : (m m2 : M) (n : ℕ) (a : StepArgs) (r : Answer) → HasLived m n → it.steps m a r m2 → HasLived m2 (n + questions_in r)
-    resumed : (m m2 : M) (n : ℕ) (b : Reply) (r : Answer) → HasLived m n → it.resumes m b r m2 → HasLived m2 (n + questions_in r)
-    accepted : (m m2 : M) (n : ℕ) (a : AcceptArgs) (r : Result Step Error) → HasLived m n → it.accepts m a r m2 → HasLived m2 n
-    identified : (m m2 : M) (n : ℕ) (ids : List Credentials) → HasLived m n → it.identifies m ids m2 → HasLived m2 n
+    stepped : (m m2 : M) (n : ℕ) (a : StepArgs) (r : Answer) → HasLived m n → it.steps m a r m2 →
+        HasLived m2 (n + questions_in r)
+    resumed : (m m2 : M) (n : ℕ) (b : Reply) (r : Answer) → HasLived m n → it.resumes m b r m2 →
+        HasLived m2 (n + questions_in r)
+    accepted : (m m2 : M) (n : ℕ) (a : AcceptArgs) (r : Result Step Error) → HasLived m n →
+        it.accepts m a r m2 → HasLived m2 n
+    identified : (m m2 : M) (n : ℕ) (ids : List Credentials) → HasLived m n →
+        it.identifies m ids m2 → HasLived m2 n
     counted : (m : M) (n : ℕ) (counts : Counts) → HasLived m n → HasLived (it.counted m counts) n

@@ -13,8 +13,8 @@ use Rattle.sspi_mech.specs.declared.step.Reply.{Reply}
 use Rattle.sspi_mech.specs.declared.step.Step.{Step}
 use Rattle.sspi_mech.specs.Calls.{StepArgs, AcceptArgs, Counts, Call}
 
--- What a security context C means, which is made of an S: a mechanism, or what chooses among mechanisms.
--- A relation between two states takes the state before and the state after.
+-- What a security context C means, which is made of an S: a mechanism, or what chooses among
+-- mechanisms. A relation between two states takes the state before and the state after.
 pub record Meaning (S C : Type 0) : Type 1 where
   -- what making answers: the context, or the kind of a refusal other than out of memory
   pub made : S → C → Type 0
@@ -45,8 +45,9 @@ pub record Meaning (S C : Type 0) : Type 1 where
   pub opens : C → ℕ → List ℕ → List ℕ → Type 0
   pub signs : C → ℕ → List ℕ → List ℕ → Type 0
   pub verifies : C → ℕ → List ℕ → List ℕ → Type 0
-  -- what holds where completing or a call on a message answers Ok, beside what is said of its answer, and where opening a
-  -- blob or taking identities is out of memory; the kinds with which a call may refuse, other than out of memory
+  -- what holds where completing or a call on a message answers Ok, beside what is said of its
+  -- answer, and where opening a blob or taking identities is out of memory; the kinds with which a
+  -- call may refuse, other than out of memory
   pub permits : C → Call → Type 0
   pub refuses : C → Call → ErrorKind → Type 0
   -- the entry of the package, and the sizes that its users must know

@@ -1,10 +1,12 @@
 -- Messages that begin with two letters, and those that carry a name.
-use Rattle.std.specs.Prelude.{ℕ, ◌+◌, ◌*◌, ◌/◌, ◌%◌, ◌==◌, List, [], ◌∷◌, ◌++◌, take, drop, length, Option, None, Some, if◌then◌else◌}
+use Rattle.std.specs.Prelude.{ℕ, ◌+◌, ◌*◌, ◌/◌, ◌%◌, ◌==◌, List, [], ◌∷◌, ◌++◌, take, drop, length}
+use Rattle.std.specs.Prelude.{Option, None, Some, if◌then◌else◌}
 use Rattle.std.specs.Str.{bytes_eq}
 
 -- what follows two letters, or none where the message begins otherwise
 abbrev pub after_letters : List ℕ → List ℕ → Option (List ℕ)
-after_letters letters message = if bytes_eq (take 2 message) letters then Some (drop 2 message) else None
+after_letters letters message = if bytes_eq (take 2 message) letters then Some (drop 2 message)
+    else None
 
 -- 32 bytes and no more
 abbrev pub block_in : Option (List ℕ) → Option (List ℕ)
@@ -29,7 +31,8 @@ pub record Named : Type 0 where
   pub body : List ℕ
 
 abbrev pub named_at : ℕ → List ℕ → Option Named
-named_at n rest = if length rest == n + 32 then Some (record { name = take n rest; body = drop n rest }) else None
+named_at n rest = if length rest == n + 32
+    then Some (record { name = take n rest; body = drop n rest }) else None
 
 abbrev pub named_in : Option (List ℕ) → Option Named
 named_in None = None

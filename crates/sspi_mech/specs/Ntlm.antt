@@ -1,5 +1,6 @@
 -- What plain NTLM means.
-use Rattle.std.specs.Prelude.{◌≡◌, ℕ, List, replicate, false, Option, None, Some, is_some, Result, Ok, Err}
+use Rattle.std.specs.Prelude.{◌≡◌, ℕ, List, replicate, false, Option, None, Some, is_some, Result}
+use Rattle.std.specs.Prelude.{Ok, Err}
 use Rattle.std.specs.Result.{result_err}
 use Rattle.sspi_types.specs.declared.context.ContextSizes.{ContextSizes}
 use Rattle.sspi_types.specs.declared.credential_use.CredentialUse.{CredentialUse}
@@ -15,14 +16,16 @@ use Rattle.sspi_mech.specs.declared.step.Answer.{Answer}
 use Rattle.sspi_mech.specs.declared.step.Answer.TheVariants.{Done, Ask, Refused}
 use Rattle.sspi_mech.specs.declared.step.Reply.{Reply}
 use Rattle.sspi_mech.specs.declared.step.Step.{Step}
-use Rattle.sspi_mech.specs.Calls.{StepArgs, AcceptArgs, Call, ToAcquire, ToName, ToIdentify, ToComplete, ToSeal, ToUnseal, ToSign}
+use Rattle.sspi_mech.specs.Calls.{StepArgs, AcceptArgs, Call, ToAcquire, ToName, ToIdentify}
+use Rattle.sspi_mech.specs.Calls.{ToComplete, ToSeal, ToUnseal, ToSign}
 use Rattle.sspi_mech.specs.Calls.{ToVerify, ToDescribe, ToShowKey}
 use Rattle.sspi_mech.specs.Meaning.{Meaning}
 use Rattle.sspi_mech.specs.NtlmAcquire.{acquired}
 use Rattle.sspi_mech.specs.NtlmIdentities.{identified}
 use Rattle.sspi_mech.specs.NtlmStage.{NtlmState, own_direction, peer_direction, name_at}
 use Rattle.sspi_mech.specs.NtlmSteps.{Steps, client_step, server_step}
-use Rattle.sspi_mech.specs.Protection.{SealsBy, OpensBy, SignsBy, VerifiesBy, making_refusal, unseal_refusal, verify_refusal}
+use Rattle.sspi_mech.specs.Protection.{SealsBy, OpensBy, SignsBy, VerifiesBy, making_refusal}
+use Rattle.sspi_mech.specs.Protection.{unseal_refusal, verify_refusal}
 use Rattle.sspi_mech.specs.Protection.{counts_of, recounted, no_protection}
 use Rattle.sspi_mech.specs.Settings.{Setting, OfNtlm, OfKerberos, OfKerberosServer}
 
@@ -30,7 +33,8 @@ use Rattle.sspi_mech.specs.Settings.{Setting, OfNtlm, OfKerberos, OfKerberosServ
 abbrev pub ntlm_with : List ℕ → NtlmState
 ntlm_with challenge = record { challenge = challenge; stage = Unused; protection = no_protection }
 
--- a made object: the challenge is that of its configuration, and zeros where that is one of Kerberos
+-- a made object: the challenge is that of its configuration, and zeros where that is one of
+-- Kerberos
 abbrev pub ntlm_of : NtlmConfig → NtlmState
 ntlm_of config = ntlm_with config.challenge
 
@@ -40,14 +44,17 @@ NtlmMade (OfKerberos config) m = m ≡ ntlm_with (replicate 8 0)
 NtlmMade (OfKerberosServer config server) m = m ≡ ntlm_with (replicate 8 0)
 
 -- the credentials serve, and the object stays as it is
-abbrev pub NtlmAcquires : NtlmState → CredentialUse → Option Credentials → Option CredentialsBuffers → NtlmState → Type 0
+abbrev pub NtlmAcquires : NtlmState → CredentialUse → Option Credentials →
+    Option CredentialsBuffers → NtlmState → Type 0
 NtlmAcquires m use_of auth_data given m2 = (acquired use_of auth_data ≡ Ok given) × (m2 ≡ m)
 
 -- a step answers at once, and is never resumed
 abbrev pub NtlmSteps : NtlmState → StepArgs → Answer → NtlmState → Type 0
-NtlmSteps m args (Done step) m2 = Steps (client_step m.stage m args.handle args.input) m (Ok step) m2
+NtlmSteps m args (Done step) m2 = Steps (client_step m.stage m args.handle args.input) m (Ok step)
+    m2
 NtlmSteps m args (Ask request) m2 = ⊥
-NtlmSteps m args (Refused error) m2 = Steps (client_step m.stage m args.handle args.input) m (Err error) m2
+NtlmSteps m args (Refused error) m2 = Steps (client_step m.stage m args.handle args.input) m
+    (Err error) m2
 
 abbrev pub NtlmResumes : NtlmState → Reply → Answer → NtlmState → Type 0
 NtlmResumes m reply (Done step) m2 = ⊥
@@ -69,9 +76,11 @@ ntlm_refusal m ToName = absence (name_at m.stage)
 ntlm_refusal m (ToIdentify identities) = result_err (identified m identities)
 ntlm_refusal m ToComplete = absence m.protection.key
 ntlm_refusal m (ToSeal text) = making_refusal m.protection.key m.protection.sealings
-ntlm_refusal m (ToUnseal blob) = unseal_refusal m.protection.key (peer_direction m.stage) m.protection.unsealings blob
+ntlm_refusal m (ToUnseal blob) = unseal_refusal m.protection.key (peer_direction m.stage)
+    m.protection.unsealings blob
 ntlm_refusal m (ToSign text) = making_refusal m.protection.key m.protection.signings
-ntlm_refusal m (ToVerify mic text) = verify_refusal m.protection.key (peer_direction m.stage) m.protection.verifications mic text
+ntlm_refusal m (ToVerify mic text) = verify_refusal m.protection.key (peer_direction m.stage)
+    m.protection.verifications mic text
 ntlm_refusal m ToDescribe = None
 ntlm_refusal m ToShowKey = absence m.protection.key
 

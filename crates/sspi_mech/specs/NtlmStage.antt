@@ -2,7 +2,9 @@
 use Rattle.std.specs.Prelude.{ℕ, List, Option, None, Some}
 use Rattle.sspi_names.specs.Name.{Name}
 use Rattle.sspi_mech.specs.declared.ntlm.stage.Stage.{Stage}
-use Rattle.sspi_mech.specs.declared.ntlm.stage.Stage.TheVariants.{Unused, NegotiateSent, AuthenticateSent, ChallengeSent, Claimed}
+use Rattle.sspi_mech.specs.declared.ntlm.stage.Stage.TheVariants.{Unused, NegotiateSent}
+use Rattle.sspi_mech.specs.declared.ntlm.stage.Stage.TheVariants.{AuthenticateSent, ChallengeSent}
+use Rattle.sspi_mech.specs.declared.ntlm.stage.Stage.TheVariants.{Claimed}
 use Rattle.sspi_mech.specs.declared.protection.Direction.{Direction}
 use Rattle.sspi_mech.specs.declared.protection.Direction.TheVariants.{FromClient, FromServer}
 use Rattle.sspi_mech.specs.declared.protection.Protection.{Protection}

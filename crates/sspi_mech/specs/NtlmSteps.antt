@@ -1,9 +1,13 @@
 -- The steps of plain NTLM: for each stage, what is done with the input, or the kind of the refusal.
-use Rattle.std.specs.Prelude.{◌≡◌, ◌≢◌, ℕ, Bool, true, false, List, [], length, nat_lt, Option, None, Some, Result, Ok, Err, if◌then◌else◌}
+use Rattle.std.specs.Prelude.{◌≡◌, ◌≢◌, ℕ, Bool, true, false, List, [], length, nat_lt, Option}
+use Rattle.std.specs.Prelude.{None, Some, Result, Ok, Err, if◌then◌else◌}
 use Rattle.sspi_types.specs.declared.error.Error.{Error}
 use Rattle.sspi_types.specs.declared.error_kind.ErrorKind.{ErrorKind}
-use Rattle.sspi_types.specs.declared.error_kind.ErrorKind.TheVariants.{InvalidToken, UnknownCredentials, NoCredentials, OutOfSequence}
-use Rattle.sspi_types.specs.declared.error_kind.ErrorKind.TheVariants.{InternalError, InsufficientMemory}
+use Rattle.sspi_types.specs.declared.error_kind.ErrorKind.TheVariants.{InvalidToken}
+use Rattle.sspi_types.specs.declared.error_kind.ErrorKind.TheVariants.{UnknownCredentials}
+use Rattle.sspi_types.specs.declared.error_kind.ErrorKind.TheVariants.{NoCredentials, OutOfSequence}
+use Rattle.sspi_types.specs.declared.error_kind.ErrorKind.TheVariants.{InternalError}
+use Rattle.sspi_types.specs.declared.error_kind.ErrorKind.TheVariants.{InsufficientMemory}
 use Rattle.sspi_types.specs.declared.security_status.SecurityStatus.TheVariants as status
 use Rattle.sspi_names.specs.Name.{Name, inner_of, new_name}
 use Rattle.sspi_names.specs.Utf16.{text_of}
@@ -12,10 +16,13 @@ use Rattle.sspi_names.specs.declared.credentials.CredentialsBuffers.TheVariants 
 use Rattle.sspi_mech.specs.declared.ntlm.login.Login.{Login}
 use Rattle.sspi_mech.specs.declared.ntlm.stage.Claim.{Claim}
 use Rattle.sspi_mech.specs.declared.ntlm.stage.Stage.{Stage}
-use Rattle.sspi_mech.specs.declared.ntlm.stage.Stage.TheVariants.{Unused, NegotiateSent, AuthenticateSent, ChallengeSent, Claimed}
+use Rattle.sspi_mech.specs.declared.ntlm.stage.Stage.TheVariants.{Unused, NegotiateSent}
+use Rattle.sspi_mech.specs.declared.ntlm.stage.Stage.TheVariants.{AuthenticateSent, ChallengeSent}
+use Rattle.sspi_mech.specs.declared.ntlm.stage.Stage.TheVariants.{Claimed}
 use Rattle.sspi_mech.specs.declared.step.Step.{Step}
 use Rattle.sspi_mech.specs.NtlmClaims.{claim_of}
-use Rattle.sspi_mech.specs.NtlmMessages.{proof_of, key_of, negotiate_message, challenge_message, authenticate_message, is_negotiate}
+use Rattle.sspi_mech.specs.NtlmMessages.{proof_of, key_of, negotiate_message, challenge_message}
+use Rattle.sspi_mech.specs.NtlmMessages.{authenticate_message, is_negotiate}
 use Rattle.sspi_mech.specs.NtlmMessages.{read_challenge}
 use Rattle.sspi_mech.specs.NtlmStage.{NtlmState}
 
@@ -29,16 +36,19 @@ pub data Outcome : Type 0 where
 abbrev pub login_by : Option Name → List ℕ → Result Login ErrorKind
 login_by None password = Err UnknownCredentials
 login_by (Some name) password =
-    if nat_lt 65535 (length (inner_of name)) then Err InternalError else Ok (record { name = name; password = password })
+    if nat_lt 65535 (length (inner_of name)) then Err InternalError
+    else Ok (record { name = name; password = password })
 
 abbrev pub login_of : Option CredentialsBuffers → Result Login ErrorKind
 login_of None = Err NoCredentials
 login_of (Some (buffers.Keytab identity)) = Err UnknownCredentials
 login_of (Some (buffers.AuthIdentity identity)) =
-    login_by (new_name (text_of identity.user) (text_of identity.domain)) (text_of identity.password.value)
+    login_by (new_name (text_of identity.user) (text_of identity.domain))
+    (text_of identity.password.value)
 
 abbrev pub negotiates : NtlmState → Outcome
-negotiates m = Goes (record m { stage = NegotiateSent }) (record { status = status.ContinueNeeded; output = negotiate_message })
+negotiates m = Goes (record m { stage = NegotiateSent })
+    (record { status = status.ContinueNeeded; output = negotiate_message })
 
 -- the proof of a password for a challenge, under the name as text
 abbrev pub authenticated : NtlmState → List ℕ → Login → List ℕ → Outcome
@@ -47,7 +57,11 @@ authenticated m challenge login name =
       stage = AuthenticateSent login.name;
       protection = record m.protection { key = Some (key_of challenge name login.password) };
     })
-    (record { status = status.Ok; output = authenticate_message name (proof_of challenge name login.password) })
+    (record {
+      status = status.Ok;
+      output = authenticate_message name
+          (proof_of challenge name login.password);
+    })
 
 abbrev pub authenticates_as : NtlmState → List ℕ → Result Login ErrorKind → Outcome
 authenticates_as m challenge (Ok login) = authenticated m challenge login (inner_of login.name)
@@ -69,10 +83,12 @@ client_step (Claimed claim) m handle input = Stops OutOfSequence
 abbrev pub challenges : NtlmState → Bool → Outcome
 challenges m false = Stops InvalidToken
 challenges m true =
-    Goes (record m { stage = ChallengeSent }) (record { status = status.ContinueNeeded; output = challenge_message m.challenge })
+    Goes (record m { stage = ChallengeSent })
+    (record { status = status.ContinueNeeded; output = challenge_message m.challenge })
 
 abbrev pub claims : NtlmState → Result Claim ErrorKind → Outcome
-claims m (Ok claim) = Goes (record m { stage = Claimed claim }) (record { status = status.CompleteNeeded; output = [] })
+claims m (Ok claim) = Goes (record m { stage = Claimed claim })
+    (record { status = status.CompleteNeeded; output = [] })
 claims m (Err kind) = Stops kind
 
 abbrev pub server_step : Stage → NtlmState → List ℕ → Outcome
@@ -84,7 +100,8 @@ server_step (Claimed claim) m input = Stops OutOfSequence
 
 -- ---- what a call that makes a step answers
 
--- where memory may be wanting: the step would be made, or be refused for too long a name, which is measured once it was copied
+-- where memory may be wanting: the step would be made, or be refused for too long a name, which is
+-- measured once it was copied
 abbrev pub MayWant : Outcome → Type 0
 MayWant (Goes m step) = Unit {0}
 MayWant (Stops kind) = kind ≡ InternalError

@@ -1,5 +1,6 @@
 -- What a plain KDC replies.
-use Rattle.std.specs.Prelude.{◌==◌, ℕ, Bool, List, [], ◌∷◌, ◌++◌, codes, length, Option, None, Some, if◌then◌else◌}
+use Rattle.std.specs.Prelude.{◌==◌, ℕ, Bool, List, [], ◌∷◌, ◌++◌, codes, length, Option, None, Some}
+use Rattle.std.specs.Prelude.{if◌then◌else◌}
 use Rattle.std.specs.List.{list_any, slice_get}
 use Rattle.std.specs.Str.{bytes_eq}
 use Rattle.sha2.specs.Sha256.{sha256}
@@ -11,7 +12,8 @@ use Rattle.sspi_mech.specs.declared.step.Reply.TheVariants.{Answered, Failed}
 use Rattle.sspi_mech.specs.KerberosMessages.{as_reply, tgs_reply, kdc_error}
 use Rattle.sspi_mech.specs.Named.{after_letters}
 
--- a KDC: whom it knows, what rules its calls in order, and the counts of its calls and of those that failed
+-- a KDC: whom it knows, what rules its calls in order, and the counts of its calls and of those
+-- that failed
 pub record PlainKdcState : Type 0 where
   pub users : List (List ℕ)
   pub script : List Scripted

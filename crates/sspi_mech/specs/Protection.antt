@@ -1,11 +1,15 @@
--- How the plain mechanisms protect messages: a tag of 16 bytes over the key, who made the message, its number and its text.
-use Rattle.std.specs.Prelude.{◌≡◌, ℕ, ◌-◌, ◌^◌, ◌≤◌, ◌==◌, List, [], ◌∷◌, ◌++◌, take, drop, length, codes, nat_lt, Option, None, Some}
+-- How the plain mechanisms protect messages: a tag of 16 bytes over the key, who made the message,
+-- its number and its text.
+use Rattle.std.specs.Prelude.{◌≡◌, ℕ, ◌-◌, ◌^◌, ◌≤◌, ◌==◌, List, [], ◌∷◌, ◌++◌, take, drop, length}
+use Rattle.std.specs.Prelude.{codes, nat_lt, Option, None, Some}
 use Rattle.std.specs.Prelude.{if◌then◌else◌}
 use Rattle.std.specs.Int.{w64, to_le_bytes}
 use Rattle.std.specs.Str.{bytes_eq}
 use Rattle.sha2.specs.Sha256.{sha256}
 use Rattle.sspi_types.specs.declared.error_kind.ErrorKind.{ErrorKind}
-use Rattle.sspi_types.specs.declared.error_kind.ErrorKind.TheVariants.{OutOfSequence, ContextExpired, InvalidToken, MessageAltered}
+use Rattle.sspi_types.specs.declared.error_kind.ErrorKind.TheVariants.{OutOfSequence}
+use Rattle.sspi_types.specs.declared.error_kind.ErrorKind.TheVariants.{ContextExpired, InvalidToken}
+use Rattle.sspi_types.specs.declared.error_kind.ErrorKind.TheVariants.{MessageAltered}
 use Rattle.sspi_mech.specs.declared.protection.Direction.{Direction}
 use Rattle.sspi_mech.specs.declared.protection.Direction.TheVariants.{FromClient, FromServer}
 use Rattle.sspi_mech.specs.declared.protection.Protection.{Protection}
@@ -31,7 +35,8 @@ seal_tag = tag_of seal_label
 unfoldable pub mic_of : List ℕ → Direction → ℕ → List ℕ → List ℕ
 mic_of = tag_of mic_label
 
--- the n-th message by this key, if there is one: text and blob, blob and text, text and MIC, MIC and text
+-- the n-th message by this key, if there is one: text and blob, blob and text, text and MIC, MIC
+-- and text
 abbrev pub SealsBy : Option (List ℕ) → Direction → ℕ → List ℕ → List ℕ → Type 0
 SealsBy None direction n text blob = ⊥
 SealsBy (Some key) direction n text blob = blob ≡ seal_tag key direction n text ++ text
@@ -62,19 +67,31 @@ unseal_refusal None direction n blob = Some OutOfSequence
 unseal_refusal (Some key) direction n blob =
     unless_spent n (if nat_lt (length blob) 16
     then Some InvalidToken
-    else if bytes_eq (take 16 blob) (seal_tag key direction n (drop 16 blob)) then None else Some MessageAltered)
+    else if bytes_eq (take 16 blob) (seal_tag key direction n (drop 16 blob)) then None
+    else Some MessageAltered)
 
 abbrev pub verify_refusal : Option (List ℕ) → Direction → ℕ → List ℕ → List ℕ → Option ErrorKind
 verify_refusal None direction n mic text = Some OutOfSequence
 verify_refusal (Some key) direction n mic text =
-    unless_spent n (if bytes_eq mic (mic_of key direction n text) then None else Some MessageAltered)
+    unless_spent n (if bytes_eq mic (mic_of key direction n text) then None
+    else Some MessageAltered)
 
 abbrev pub counts_of : Protection → Counts
-counts_of p = record { sealings = p.sealings; unsealings = p.unsealings; signings = p.signings; verifications = p.verifications }
+counts_of p = record {
+  sealings = p.sealings;
+  unsealings = p.unsealings;
+  signings = p.signings;
+  verifications = p.verifications;
+}
 
 -- the same key with other counts
 abbrev pub recounted : Protection → Counts → Protection
-recounted p n = record p { sealings = n.sealings; unsealings = n.unsealings; signings = n.signings; verifications = n.verifications }
+recounted p n = record p {
+  sealings = n.sealings;
+  unsealings = n.unsealings;
+  signings = n.signings;
+  verifications = n.verifications;
+}
 
 abbrev pub no_protection : Protection
 no_protection = record { key = None; sealings = 0; unsealings = 0; signings = 0; verifications = 0 }

@@ -5,7 +5,11 @@ use Rattle.sspi_mech.specs.declared.refusal.Refusal.{Refusal}
 
 -- the error that a refusal is to a caller: it has no NTSTATUS code
 abbrev pub error_of : Refusal → Error
-error_of refusal = record { error_type = refusal.error_type; description = refusal.description; nstatus = None }
+error_of refusal = record {
+  error_type = refusal.error_type;
+  description = refusal.description;
+  nstatus = None;
+}
 
 -- what an error says but for its code
 abbrev pub refusal_of : Error → Refusal

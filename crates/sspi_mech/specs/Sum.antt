@@ -25,10 +25,14 @@ module _ {S T A B : Type 0} (n : Meaning S A) (k : Meaning T B) where
     unmade = in_hand n.unmade k.unmade;
     acquires = λ m use_ asked buffers m2. Both (λ x x2. n.acquires x use_ asked buffers x2)
         (λ y y2. k.acquires y use_ asked buffers y2) m m2;
-    steps = λ m args answer m2. Both (λ x x2. n.steps x args answer x2) (λ y y2. k.steps y args answer y2) m m2;
-    resumes = λ m reply answer m2. Both (λ x x2. n.resumes x reply answer x2) (λ y y2. k.resumes y reply answer y2) m m2;
-    accepts = λ m args answer m2. Both (λ x x2. n.accepts x args answer x2) (λ y y2. k.accepts y args answer y2) m m2;
-    identifies = λ m identities m2. Both (λ x x2. n.identifies x identities x2) (λ y y2. k.identifies y identities y2) m m2;
+    steps = λ m args answer m2. Both (λ x x2. n.steps x args answer x2)
+        (λ y y2. k.steps y args answer y2) m m2;
+    resumes = λ m reply answer m2. Both (λ x x2. n.resumes x reply answer x2)
+        (λ y y2. k.resumes y reply answer y2) m m2;
+    accepts = λ m args answer m2. Both (λ x x2. n.accepts x args answer x2)
+        (λ y y2. k.accepts y args answer y2) m m2;
+    identifies = λ m identities m2. Both (λ x x2. n.identifies x identities x2)
+        (λ y y2. k.identifies y identities y2) m m2;
     names = in_hand n.names k.names;
     keyed = in_hand n.keyed k.keyed;
     session_key = in_hand n.session_key k.session_key;
@@ -53,14 +57,16 @@ taken some (ToIdentify identities) = ToIdentify (some identities)
 taken some call = call
 
 -- the same, where of the identities that are handed in only some reach it
-abbrev pub taking : {S C : Type 0} → (List Credentials → List Credentials) → Meaning S C → Meaning S C
+abbrev pub taking : {S C : Type 0} → (List Credentials → List Credentials) → Meaning S C →
+    Meaning S C
 taking some c = record c {
   identifies = λ m identities m2. c.identifies m (some identities) m2;
   permits = λ m call. c.permits m (taken some call);
   refuses = λ m call kind. c.refuses m (taken some call) kind;
 }
 
--- the same under other types: it is made of an R, whose S is what parts gives, and its state is a C, whose D is what view gives
+-- the same under other types: it is made of an R, whose S is what parts gives, and its state is a
+-- C, whose D is what view gives
 abbrev pub seen : {R S C D : Type 0} → (R → S) → (C → D) → (D → C) → Meaning S D → Meaning R C
 seen parts view back c = record {
   made = λ s m. c.made (parts s) (view m);

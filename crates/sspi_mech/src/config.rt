@@ -29,7 +29,10 @@ pub struct NtlmConfig {
 impl NtlmConfig {
     /// A configuration whose challenge is eight zero bytes.
     pub fn new(client_computer_name: Text) -> NtlmConfig
-        ensures { result ≡ record { client_computer_name = Some client_computer_name; challenge = replicate 8 0 } }
+        ensures { result ≡ record {
+          client_computer_name = Some client_computer_name;
+          challenge = replicate 8 0;
+        } }
     {
         NtlmConfig {
             client_computer_name: Some(client_computer_name),

@@ -38,17 +38,19 @@ pub trait Kdc {
     // The reply to each request by the number of the call, from 0, where the object tells it.
     ghost told: { Self → Option (ℕ → NetworkRequest → Reply) };
 
-    // How many calls were made, and how many of them failed. Each stays at `u64::MAX` once it is there.
+    // How many calls were made, and how many of them failed. Each stays at `u64::MAX` once it is
+    // there.
     ghost asked: { Self → ℕ };
 
     ghost faults: { Self → ℕ };
 
-    /// Sends the request and waits for the reply. A call that answers `Failed` has raised the count of faults, but for one
-    /// that found it as high as it goes.
+    /// Sends the request and waits for the reply. A call that answers `Failed` has raised the count
+    /// of faults, but for one that found it as high as it goes.
     fn ask(&mut self, request: &NetworkRequest) -> Result<Vec<u8>, KdcError>
         ensures told { told self.new ≡ told self.old }
         ensures asked { asked self.new ≡ counted_on (asked self.old) }
-        ensures reply { IsTold (told self.old) (asked self.old) request.now (faults self.old) (faults self.new) result }
+        ensures reply { IsTold (told self.old) (asked self.old) request.now (faults self.old)
+            (faults self.new) result }
         ensures cause { AskCause (faults self.old) (faults self.new) result };
 }
 

@@ -39,27 +39,32 @@ use sspi_types::{
 use std::alloc::Global;
 use std::marker::Model;
 
-/// Plain Kerberos: a KDC gives the client a session key, which it sends to the server; the server shows that it has it.
+/// Plain Kerberos: a KDC gives the client a session key, which it sends to the server; the server
+/// shows that it has it.
 ///
-/// Each step of a client that asks for a key takes the name from its credentials. With `USE_SESSION_KEY` a client asks its
-/// KDC for a first key, then the server for its ticket, and with both the KDC for the session key (user-to-user). Without,
-/// it asks the KDC twice in its first step, and sends zeros in place of a ticket. A request goes to the `kdc_url` of the
+/// Each step of a client that asks for a key takes the name from its credentials. With
+/// `USE_SESSION_KEY` a client asks its KDC for a first key, then the server for its ticket, and
+/// with both the KDC for the session key (user-to-user). Without, it asks the KDC twice in its
+/// first step, and sends zeros in place of a ticket. A request goes to the `kdc_url` of the
 /// configuration, else to the KDC of the realm that is the domain of the name.
 ///
-/// A server without a ticket in its configuration takes a session key alone; one with a ticket sends it where it is asked
-/// first. `set_identities` changes nothing, and takes any list that is not empty.
+/// A server without a ticket in its configuration takes a session key alone; one with a ticket
+/// sends it where it is asked first. `set_identities` changes nothing, and takes any list that is
+/// not empty.
 ///
 /// Refusals, of which the first that holds is answered:
-/// - OutOfSequence: a step of the other role, after the end, or while the KDC is waited for; `resume` while it is not; what
-///   needs the key or the name before it is there; `set_identities` but on a server that has the session key.
+/// - OutOfSequence: a step of the other role, after the end, or while the KDC is waited for;
+///   `resume` while it is not; what needs the key or the name before it is there; `set_identities`
+///   but on a server that has the session key.
 /// - ContextExpired: a message whose count is `u64::MAX`.
-/// - InvalidToken: a message of another form, also one with bytes after it, and a question for the ticket where there is none;
-///   a reply of the KDC that is neither the one asked for nor an error of a known code; a name that is not UTF-8; a sealed
-///   text under 16 bytes.
+/// - InvalidToken: a message of another form, also one with bytes after it, and a question for the
+///   ticket where there is none; a reply of the KDC that is neither the one asked for nor an error
+///   of a known code; a name that is not UTF-8; a sealed text under 16 bytes.
 /// - UnknownCredentials: a name that mixes the two forms of names; the KDC's code 4.
-/// - NoCredentials: outbound `acquire`, and a client's step that asks for a key, without credentials; an empty list.
-/// - NoAuthenticatingAuthority: no KDC for the name, one that could not be asked, or its code 2; this stands before
-///   InternalError: a name past 65535 bytes.
+/// - NoCredentials: outbound `acquire`, and a client's step that asks for a key, without
+///   credentials; an empty list.
+/// - NoAuthenticatingAuthority: no KDC for the name, one that could not be asked, or its code 2;
+///   this stands before InternalError: a name past 65535 bytes.
 /// - TimeSkew, CertificateUnknown, LogonDenied: the KDC's codes 1, 3 and 5.
 /// - MessageAltered: another tag or MIC. MutualAuthFailed: the server showed another key.
 #[derive(Drop)]
@@ -76,8 +81,12 @@ impl Model for Kerberos {
 
     ghost Value = { KerberosState };
 
-    ghost view = { λ kerberos. record
-        { realms = kerberos.realms; ticket = kerberos.ticket; stage = kerberos.stage; protection = kerberos.protection } };
+    ghost view = { λ kerberos. record {
+      realms = kerberos.realms;
+      ticket = kerberos.ticket;
+      stage = kerberos.stage;
+      protection = kerberos.protection;
+    } };
 }
 
 impl Kerberos {
@@ -87,9 +96,11 @@ impl Kerberos {
     ghost use Rattle.sspi_mech.specs.KerberosLogon.{logon_of};
     ghost use Rattle.sspi_mech.specs.KerberosMessages.{read_ticket};
     ghost use Rattle.sspi_mech.specs.KerberosReplies.{first_key_in};
-    ghost use Rattle.sspi_mech.specs.KerberosSteps.{Moves, Steps, client_step, resumed_step, server_step};
+    ghost use Rattle.sspi_mech.specs.KerberosSteps.{Moves, Steps, client_step, resumed_step};
+    ghost use Rattle.sspi_mech.specs.KerberosSteps.{server_step};
     ghost use Rattle.sspi_mech.specs.Answered.{answered};
-    ghost use Rattle.sspi_mech.specs.KerberosSteps.{begins, takes_ticket, pairs, admits, sends_ticket, arrival_of};
+    ghost use Rattle.sspi_mech.specs.KerberosSteps.{begins, takes_ticket, pairs, admits};
+    ghost use Rattle.sspi_mech.specs.KerberosSteps.{sends_ticket, arrival_of};
 
     /// An object of this configuration that has made no step.
     fn with(
@@ -97,7 +108,8 @@ impl Kerberos {
         config: &KerberosConfig,
         ticket: Option<[u8; 32]>,
     ) -> Result<Kerberos, Error>
-        ensures made { IfOk result (λ it. it ≡ kerberos_with config.now.kdc_url config.now.kdcs ticket) }
+        ensures made { IfOk result (λ it. it ≡ kerberos_with config.now.kdc_url config.now.kdcs
+            ticket) }
         ensures err { IfErr result (λ error. error ≡ memory_error) }
     {
         let kdc_url = match &config.kdc_url {
@@ -120,7 +132,8 @@ impl Kerberos {
         flags: ClientRequestFlags,
         input: &[u8],
     ) -> Result<Progressing, Refusal>
-        ensures { Moves (client_step self.old.stage self.old (option_copied handle.entry) flags input.now)
+        ensures { Moves (client_step self.old.stage self.old (option_copied handle.entry) flags
+            input.now)
             self.old (answered result) self.new }
     {
         match &self.stage {
@@ -153,7 +166,8 @@ impl Kerberos {
         pairing: bool,
     ) -> Result<Progressing, Refusal>
         requires { self.now.stage ≡ Stage.Unused }
-        ensures { Moves (begins self.old pairing (logon_of self.old.realms (option_copied handle.entry)))
+        ensures { Moves (begins self.old pairing
+            (logon_of self.old.realms (option_copied handle.entry)))
             self.old (answered result) self.new }
     {
         let logon = logon_of(self.alloc, &self.realms, handle)?;
@@ -175,7 +189,8 @@ impl Kerberos {
         input: &[u8],
     ) -> Result<Progressing, Refusal>
         requires { self.now.stage ≡ Stage.TicketAsked key.now }
-        ensures { Moves (takes_ticket self.old key.now (read_ticket input.now) (option_copied handle.entry))
+        ensures { Moves (takes_ticket self.old key.now (read_ticket input.now)
+            (option_copied handle.entry))
             self.old (answered result) self.new }
     {
         let Some(ticket) = read_ticket(input) else {
@@ -189,7 +204,8 @@ impl Kerberos {
     }
 
     fn resumed_step(&mut self, reply: &Reply) -> Result<Progressing, Refusal>
-        ensures { Moves (resumed_step self.old.stage self.old reply.now) self.old (answered result) self.new }
+        ensures { Moves (resumed_step self.old.stage self.old reply.now) self.old (answered result)
+            self.new }
     {
         match &self.stage {
             Stage::PairingAsked => self.pair(reply),
@@ -218,7 +234,8 @@ impl Kerberos {
 
     /// Asks the server for its ticket.
     fn pair(&mut self, reply: &Reply) -> Result<Progressing, Refusal>
-        ensures { Moves (pairs self.old (first_key_in reply.now)) self.old (answered result) self.new }
+        ensures { Moves (pairs self.old (first_key_in reply.now)) self.old (answered result)
+            self.new }
     {
         let key = first_key_in(reply)?;
         let output = Vec::from_slice(self.alloc, TICKET_REQUEST)?;
@@ -227,7 +244,8 @@ impl Kerberos {
     }
 
     fn server_step(&mut self, input: &[u8]) -> Result<Step, Refusal>
-        ensures { Steps (server_step self.old.stage self.old input.now) self.old (answered result) self.new }
+        ensures { Steps (server_step self.old.stage self.old input.now) self.old (answered result)
+            self.new }
     {
         match &self.stage {
             Stage::Unused => {
@@ -249,7 +267,8 @@ impl Kerberos {
     }
 
     fn send_ticket(&mut self) -> Result<Step, Refusal>
-        ensures { Steps (sends_ticket self.old self.old.ticket) self.old (answered result) self.new }
+        ensures { Steps (sends_ticket self.old self.old.ticket) self.old (answered result)
+            self.new }
     {
         let Some(ticket) = &self.ticket else {
             return Err(Refusal::malformed());
@@ -264,7 +283,8 @@ impl Kerberos {
 
     /// Takes the session key, and shows that it is there.
     fn admit(&mut self, user_to_user: bool, input: &[u8]) -> Result<Step, Refusal>
-        ensures { Steps (admits self.old user_to_user (arrival_of input.now)) self.old (answered result) self.new }
+        ensures { Steps (admits self.old user_to_user (arrival_of input.now)) self.old
+            (answered result) self.new }
     {
         let arrival = arrival_of(self.alloc, input)?;
         let output = ap_reply(self.alloc, &arrival.key)?;
@@ -302,7 +322,10 @@ fn check_shown(key: &[u8; 32], input: &[u8]) -> Result<(), Refusal>
 
 /// A step that goes on once the peer answered this token.
 fn going(output: Vec<u8>) -> Progressing
-    ensures { result ≡ progress.Done (record { status = SecurityStatus.ContinueNeeded; output = output.items }) }
+    ensures { result ≡ progress.Done (record {
+      status = SecurityStatus.ContinueNeeded;
+      output = output.items;
+    }) }
 {
     Progressing::Done(Step {
         status: SecurityStatus::ContinueNeeded,

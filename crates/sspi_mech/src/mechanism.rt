@@ -1,9 +1,12 @@
 //! The trait `Mechanism`, with its laws.
 
-ghost use Rattle.std.specs.Prelude.{◌≡◌, ◌≢◌, ◌<◌, Some, IsTrue, IfOk, IfErr, OnOk, OnErr, option_copied};
+ghost use Rattle.std.specs.Prelude.{◌≡◌, ◌≢◌, ◌<◌, Some, IsTrue, IfOk, IfErr, OnOk, OnErr};
+ghost use Rattle.std.specs.Prelude.{option_copied};
 ghost use Rattle.sspi_types.specs.Errors.{memory_error};
-ghost use Rattle.sspi_mech.specs.Calls.{step_args, accept_args, no_counts, one_sealing, one_unsealing, one_signing, one_verification};
-ghost use Rattle.sspi_mech.specs.Calls.{ToAcquire, ToName, ToIdentify, ToComplete, ToSeal, ToUnseal, ToSign, ToVerify, ToDescribe};
+ghost use Rattle.sspi_mech.specs.Calls.{step_args, accept_args, no_counts, one_sealing};
+ghost use Rattle.sspi_mech.specs.Calls.{one_unsealing, one_signing, one_verification};
+ghost use Rattle.sspi_mech.specs.Calls.{ToAcquire, ToName, ToIdentify, ToComplete, ToSeal};
+ghost use Rattle.sspi_mech.specs.Calls.{ToUnseal, ToSign, ToVerify, ToDescribe};
 ghost use Rattle.sspi_mech.specs.Calls.{ToShowKey};
 ghost use Rattle.sspi_mech.specs.Context.{IsContext};
 ghost use Rattle.sspi_mech.specs.Laws.{IsMechanism};
@@ -21,12 +24,13 @@ use sspi_types::{
 };
 use std::alloc::Global;
 
-/// A security mechanism: one end of one authentication, and the protection of messages once it has a key.
+/// A security mechanism: one end of one authentication, and the protection of messages once it has
+/// a key.
 ///
-/// Every call that can refuse, but `verify`, may answer `InsufficientMemory`: `unseal` and `set_identities` only where nothing
-/// else refuses them. A refused call leaves the object as it was, and
-/// no refusal has an NTSTATUS code. `meaning` says what each call does, in the words of `specs/Meaning.antt`;
-/// `specs/Laws.antt` has what holds of every mechanism.
+/// Every call that can refuse, but `verify`, may answer `InsufficientMemory`: `unseal` and
+/// `set_identities` only where nothing else refuses them. A refused call leaves the object as it
+/// was, and no refusal has an NTSTATUS code. `meaning` says what each call does, in the words of
+/// `specs/Meaning.antt`; `specs/Laws.antt` has what holds of every mechanism.
 pub trait Mechanism: Sized + Drop {
     /// At most how often one object asks a KDC, whatever its calls (`laws::object_asks_at_most`).
     const REQUESTS: u32;
@@ -43,7 +47,8 @@ pub trait Mechanism: Sized + Drop {
         ensures fresh { IfOk result (λ it. meaning.counts it ≡ no_counts) }
         ensures err { IfErr result (λ error. error ≡ memory_error) };
 
-    /// The buffers for the handle of these credentials (AcquireCredentialsHandle); none where none are given.
+    /// The buffers for the handle of these credentials (AcquireCredentialsHandle); none where none
+    /// are given.
     fn acquire(
         &mut self,
         credential_use: CredentialUse,
@@ -58,7 +63,8 @@ pub trait Mechanism: Sized + Drop {
         ensures err { OnErr result (self.new ≡ self.old) }
         ensures codeless { IfErr result (λ error. error.nstatus ≡ None) }
         ensures cause { IfErr result (λ error. error.error_type ≢ ErrorKind.InsufficientMemory →
-            meaning.refuses self.old (ToAcquire credential_use (option_copied auth_data.entry)) error.error_type) };
+            meaning.refuses self.old (ToAcquire credential_use (option_copied auth_data.entry))
+            error.error_type) };
 
     /// A client's step (InitializeSecurityContext).
     fn initialize(&mut self, args: &InitializeSecurityContext<'_>) -> Answer
@@ -66,7 +72,8 @@ pub trait Mechanism: Sized + Drop {
         ensures err { OnRefused result (self.new ≡ self.old) }
         ensures codeless { IfRefused result (λ error. error.nstatus ≡ None) };
 
-    /// Goes on with the step that asked, once it is known what came of its request. Refused, it still waits.
+    /// Goes on with the step that asked, once it is known what came of its request. Refused, it
+    /// still waits.
     fn resume(&mut self, reply: &Reply) -> Answer
         ensures step { meaning.resumes self.old reply.now result self.new }
         ensures falls { OnAsk result (meaning.left self.new < meaning.left self.old) }
@@ -105,7 +112,8 @@ pub trait Mechanism: Sized + Drop {
         ensures cause { IfErr result (λ error. error.error_type ≢ ErrorKind.InsufficientMemory →
             meaning.refuses self.now ToName error.error_type) };
 
-    /// Tells a server which identities its peer may have. Out of memory never stands for a refusal of them.
+    /// Tells a server which identities its peer may have. Out of memory never stands for a refusal
+    /// of them.
     fn set_identities(&mut self, identities: &[Credentials]) -> Result<(), Error>
         // What `Ok` holds.
         ensures identified { OnOk result (meaning.identifies self.old identities.now self.new) }
@@ -114,15 +122,19 @@ pub trait Mechanism: Sized + Drop {
         // What a refusal says, and what it leaves.
         ensures err { OnErr result (self.new ≡ self.old) }
         ensures codeless { IfErr result (λ error. error.nstatus ≡ None) }
-        ensures cause { IfErr result (λ error. IsRefusedAs (meaning.permits self.old (ToIdentify identities.now))
+        ensures cause { IfErr result (λ error. IsRefusedAs
+            (meaning.permits self.old (ToIdentify identities.now))
             (meaning.refuses self.old (ToIdentify identities.now)) error.error_type) };
 
     /// Seals a text for the peer (EncryptMessage).
     fn seal(&mut self, text: &[u8]) -> Result<Vec<u8>, Error>
         // What `Ok` holds.
-        ensures blob { IfOk result (λ blob. meaning.seals self.new (meaning.counts self.old).sealings text.now blob.items) }
-        ensures ok { OnOk result (self.new ≡ meaning.counted self.old (one_sealing (meaning.counts self.old))) }
-        ensures count { OnOk result (meaning.counts self.new ≡ one_sealing (meaning.counts self.old)) }
+        ensures blob { IfOk result (λ blob. meaning.seals self.new
+            (meaning.counts self.old).sealings text.now blob.items) }
+        ensures ok { OnOk result (self.new ≡ meaning.counted self.old
+            (one_sealing (meaning.counts self.old))) }
+        ensures count { OnOk result (meaning.counts self.new ≡ one_sealing
+            (meaning.counts self.old)) }
         ensures permitted { OnOk result (meaning.permits self.old (ToSeal text.now)) }
         // What a refusal says, and what it leaves.
         ensures err { OnErr result (self.new ≡ self.old) }
@@ -130,25 +142,33 @@ pub trait Mechanism: Sized + Drop {
         ensures cause { IfErr result (λ error. error.error_type ≢ ErrorKind.InsufficientMemory →
             meaning.refuses self.old (ToSeal text.now) error.error_type) };
 
-    /// Opens what the peer sealed (DecryptMessage). Out of memory never stands for the refusal of an altered blob.
+    /// Opens what the peer sealed (DecryptMessage). Out of memory never stands for the refusal of
+    /// an altered blob.
     fn unseal(&mut self, blob: &[u8]) -> Result<Vec<u8>, Error>
         // What `Ok` holds.
-        ensures text { IfOk result (λ text. meaning.opens self.new (meaning.counts self.old).unsealings blob.now text.items) }
-        ensures ok { OnOk result (self.new ≡ meaning.counted self.old (one_unsealing (meaning.counts self.old))) }
-        ensures count { OnOk result (meaning.counts self.new ≡ one_unsealing (meaning.counts self.old)) }
+        ensures text { IfOk result (λ text. meaning.opens self.new
+            (meaning.counts self.old).unsealings blob.now text.items) }
+        ensures ok { OnOk result (self.new ≡ meaning.counted self.old
+            (one_unsealing (meaning.counts self.old))) }
+        ensures count { OnOk result (meaning.counts self.new ≡ one_unsealing
+            (meaning.counts self.old)) }
         ensures permitted { OnOk result (meaning.permits self.old (ToUnseal blob.now)) }
         // What a refusal says, and what it leaves.
         ensures err { OnErr result (self.new ≡ self.old) }
         ensures codeless { IfErr result (λ error. error.nstatus ≡ None) }
-        ensures cause { IfErr result (λ error. IsRefusedAs (meaning.permits self.old (ToUnseal blob.now))
+        ensures cause { IfErr result (λ error. IsRefusedAs
+            (meaning.permits self.old (ToUnseal blob.now))
             (meaning.refuses self.old (ToUnseal blob.now)) error.error_type) };
 
     /// The MIC of a text for the peer (MakeSignature).
     fn sign(&mut self, text: &[u8]) -> Result<Vec<u8>, Error>
         // What `Ok` holds.
-        ensures mic { IfOk result (λ mic. meaning.signs self.new (meaning.counts self.old).signings text.now mic.items) }
-        ensures ok { OnOk result (self.new ≡ meaning.counted self.old (one_signing (meaning.counts self.old))) }
-        ensures count { OnOk result (meaning.counts self.new ≡ one_signing (meaning.counts self.old)) }
+        ensures mic { IfOk result (λ mic. meaning.signs self.new (meaning.counts self.old).signings
+            text.now mic.items) }
+        ensures ok { OnOk result (self.new ≡ meaning.counted self.old
+            (one_signing (meaning.counts self.old))) }
+        ensures count { OnOk result (meaning.counts self.new ≡ one_signing
+            (meaning.counts self.old)) }
         ensures permitted { OnOk result (meaning.permits self.old (ToSign text.now)) }
         // What a refusal says, and what it leaves.
         ensures err { OnErr result (self.new ≡ self.old) }
@@ -156,17 +176,22 @@ pub trait Mechanism: Sized + Drop {
         ensures cause { IfErr result (λ error. error.error_type ≢ ErrorKind.InsufficientMemory →
             meaning.refuses self.old (ToSign text.now) error.error_type) };
 
-    /// Checks the MIC that the peer made of a text (VerifySignature). Takes no memory: each refusal is one of the mechanism itself.
+    /// Checks the MIC that the peer made of a text (VerifySignature). Takes no memory: each refusal
+    /// is one of the mechanism itself.
     fn verify(&mut self, mic: &[u8], text: &[u8]) -> Result<(), Error>
         // What `Ok` holds.
-        ensures mic { OnOk result (meaning.verifies self.new (meaning.counts self.old).verifications mic.now text.now) }
-        ensures ok { OnOk result (self.new ≡ meaning.counted self.old (one_verification (meaning.counts self.old))) }
-        ensures count { OnOk result (meaning.counts self.new ≡ one_verification (meaning.counts self.old)) }
+        ensures mic { OnOk result (meaning.verifies self.new (meaning.counts self.old).verifications
+            mic.now text.now) }
+        ensures ok { OnOk result (self.new ≡ meaning.counted self.old
+            (one_verification (meaning.counts self.old))) }
+        ensures count { OnOk result (meaning.counts self.new ≡ one_verification
+            (meaning.counts self.old)) }
         ensures permitted { OnOk result (meaning.permits self.old (ToVerify mic.now text.now)) }
         // What a refusal says, and what it leaves.
         ensures err { OnErr result (self.new ≡ self.old) }
         ensures codeless { IfErr result (λ error. error.nstatus ≡ None) }
-        ensures cause { IfErr result (λ error. meaning.refuses self.old (ToVerify mic.now text.now) error.error_type) };
+        ensures cause { IfErr result (λ error. meaning.refuses self.old (ToVerify mic.now text.now)
+            error.error_type) };
 
     /// Whether this is a server that authenticates user-to-user.
     fn user_to_user(&self) -> bool
@@ -185,7 +210,8 @@ pub trait Mechanism: Sized + Drop {
 
     /// The session key.
     fn session_key(&self) -> Result<SessionKeys, Error>
-        ensures key { IfOk result (λ keys. meaning.session_key self.now ≡ Some keys.session_key.value) }
+        ensures key { IfOk result (λ keys. meaning.session_key self.now ≡ Some
+            keys.session_key.value) }
         ensures codeless { IfErr result (λ error. error.nstatus ≡ None) }
         ensures cause { IfErr result (λ error. error.error_type ≢ ErrorKind.InsufficientMemory →
             meaning.refuses self.now ToShowKey error.error_type) };

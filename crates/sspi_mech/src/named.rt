@@ -1,5 +1,6 @@
 //! Messages that begin with two letters, and those that carry a name.
-ghost use Rattle.std.specs.Prelude.{◌≡◌, ◌<◌, ◌^◌, ◌++◌, length, option_map, option_copied, if◌then◌else◌, IfOk, Some, None};
+ghost use Rattle.std.specs.Prelude.{◌≡◌, ◌<◌, ◌^◌, ◌++◌, length, option_map, option_copied};
+ghost use Rattle.std.specs.Prelude.{if◌then◌else◌, IfOk, Some, None};
 ghost use Rattle.std.specs.Str.{is_utf8};
 ghost use Rattle.sspi_mech.specs.Named.{after_letters, read_block, named_message, read_named};
 
@@ -61,7 +62,8 @@ pub(crate) fn read_named<'a>(
     letters: &[u8; 2],
     message: &'a [u8],
 ) -> Option<(&'a [u8], &'a [u8; 32])>
-    ensures { option_map (λ read. record { name = read.0.now; body = read.1.now }) result ≡ read_named letters.now message.now }
+    ensures { option_map (λ read. record { name = read.0.now; body = read.1.now })
+        result ≡ read_named letters.now message.now }
 {
     let body = after_letters(letters, message)?;
     let [low, high, rest @ ..] = body else {

@@ -33,19 +33,22 @@ use std::marker::Model;
 
 /// Plain NTLM: three messages, a challenge, and a proof and a key over the password.
 ///
-/// A client sends its first message, takes the challenge, and sends its name with the proof. A server sends the challenge
-/// of its configuration (zeros where it is made of one of Kerberos), takes the name and the proof, and has a key once
-/// `set_identities` found whose proof it is; that may be called again.
+/// A client sends its first message, takes the challenge, and sends its name with the proof. A
+/// server sends the challenge of its configuration (zeros where it is made of one of Kerberos),
+/// takes the name and the proof, and has a key once `set_identities` found whose proof it is; that
+/// may be called again.
 ///
 /// Refusals, of which the first that holds is answered:
-/// - OutOfSequence: a step of the other role or after the end; `resume`; what needs the key or the name before it is
-///   there; `set_identities` but on a server that has the client's last message.
+/// - OutOfSequence: a step of the other role or after the end; `resume`; what needs the key or the
+///   name before it is there; `set_identities` but on a server that has the client's last message.
 /// - ContextExpired: a message whose count is `u64::MAX`.
-/// - InvalidToken: a message of another form, also one with bytes after it; a name that is not UTF-8; a sealed text
-///   under 16 bytes.
+/// - InvalidToken: a message of another form, also one with bytes after it; a name that is not
+///   UTF-8; a sealed text under 16 bytes.
 /// - UnknownCredentials: a keytab; a name that mixes the two forms of names.
-/// - NoCredentials: outbound `acquire`, and the client's last step, without credentials; a list without a password.
-/// - MessageAltered: another tag or MIC. LogonDenied: no password gives the proof. InternalError: a name past 65535 bytes.
+/// - NoCredentials: outbound `acquire`, and the client's last step, without credentials; a list
+///   without a password.
+/// - MessageAltered: another tag or MIC. LogonDenied: no password gives the proof. InternalError: a
+///   name past 65535 bytes.
 #[derive(Drop)]
 pub struct Ntlm {
     alloc: Global,
@@ -59,11 +62,16 @@ impl Model for Ntlm {
 
     ghost Value = { NtlmState };
 
-    ghost view = { λ ntlm. record { challenge = ntlm.challenge; stage = ntlm.stage; protection = ntlm.protection } };
+    ghost view = { λ ntlm. record {
+      challenge = ntlm.challenge;
+      stage = ntlm.stage;
+      protection = ntlm.protection;
+    } };
 }
 
 impl Ntlm {
-    ghost use Rattle.sspi_mech.specs.NtlmSteps.{Steps, client_step, server_step, negotiates, authenticates, challenges, claims};
+    ghost use Rattle.sspi_mech.specs.NtlmSteps.{Steps, client_step, server_step, negotiates};
+    ghost use Rattle.sspi_mech.specs.NtlmSteps.{authenticates, challenges, claims};
     ghost use Rattle.sspi_mech.specs.NtlmMessages.{is_negotiate, read_challenge};
     ghost use Rattle.sspi_mech.specs.NtlmClaims.{claim_of};
     ghost use Rattle.sspi_mech.specs.Answered.{answered};
@@ -73,7 +81,8 @@ impl Ntlm {
         handle: Option<&CredentialsBuffers>,
         input: &[u8],
     ) -> Result<Step, Refusal>
-        ensures { Steps (client_step self.old.stage self.old (option_copied handle.entry) input.now) self.old (answered result)
+        ensures { Steps (client_step self.old.stage self.old (option_copied handle.entry) input.now)
+            self.old (answered result)
             self.new }
     {
         match &self.stage {
@@ -101,7 +110,8 @@ impl Ntlm {
         handle: Option<&CredentialsBuffers>,
         input: &[u8],
     ) -> Result<Step, Refusal>
-        ensures { Steps (authenticates self.old (read_challenge input.now) (option_copied handle.entry)) self.old (answered result)
+        ensures { Steps (authenticates self.old (read_challenge input.now)
+            (option_copied handle.entry)) self.old (answered result)
             self.new }
     {
         let Some(challenge) = read_challenge(input) else {
@@ -122,7 +132,8 @@ impl Ntlm {
     }
 
     fn server_step(&mut self, input: &[u8]) -> Result<Step, Refusal>
-        ensures { Steps (server_step self.old.stage self.old input.now) self.old (answered result) self.new }
+        ensures { Steps (server_step self.old.stage self.old input.now) self.old (answered result)
+            self.new }
     {
         match &self.stage {
             Stage::Unused => self.challenge(input),
@@ -134,7 +145,8 @@ impl Ntlm {
     }
 
     fn challenge(&mut self, input: &[u8]) -> Result<Step, Refusal>
-        ensures { Steps (challenges self.old (is_negotiate input.now)) self.old (answered result) self.new }
+        ensures { Steps (challenges self.old (is_negotiate input.now)) self.old (answered result)
+            self.new }
     {
         if !is_negotiate(input) {
             return Err(Refusal::malformed());

@@ -4,7 +4,8 @@ ghost use Rattle.std.specs.Prelude.{◌≡◌, ◌++◌, IfOk, option_copied};
 ghost use Rattle.std.specs.List.{slice_get};
 ghost use Rattle.sha2.specs.Sha256.{sha256};
 ghost use Rattle.sspi_mech.specs.KerberosMessages.{kdc_error};
-ghost use Rattle.sspi_mech.specs.PlainKdc.{first_key, session_key, knows, first_reply, session_reply, usual_reply};
+ghost use Rattle.sspi_mech.specs.PlainKdc.{first_key, session_key, knows, first_reply};
+ghost use Rattle.sspi_mech.specs.PlainKdc.{session_reply, usual_reply};
 
 use crate::kdc::{Kdc, KdcError};
 use crate::kerberos::messages::{
@@ -37,8 +38,9 @@ pub enum Scripted {
     Fail,
 }
 
-/// A KDC that tells its replies: a first key to each name of its users, and a session key to each first key with a ticket.
-/// The script rules its calls in order, from the first; calls past its end are `Usual`. Names are compared byte by byte.
+/// A KDC that tells its replies: a first key to each name of its users, and a session key to each
+/// first key with a ticket. The script rules its calls in order, from the first; calls past its end
+/// are `Usual`. Names are compared byte by byte.
 #[derive(Drop)]
 pub struct PlainKdc {
     alloc: Global,
@@ -53,13 +55,23 @@ impl Model for PlainKdc {
 
     ghost Value = { PlainKdcState };
 
-    ghost view = { λ kdc. record { users = kdc.users.items; script = kdc.script.items; asked = kdc.asked; faults = kdc.faults } };
+    ghost view = { λ kdc. record {
+      users = kdc.users.items;
+      script = kdc.script.items;
+      asked = kdc.asked;
+      faults = kdc.faults;
+    } };
 }
 
 impl PlainKdc {
     /// A KDC that was not asked yet.
     pub fn new(alloc: Global, users: Vec<Text>, script: Vec<Scripted>) -> PlainKdc
-        ensures { result ≡ record { users = users.items; script = script.items; asked = 0; faults = 0 } }
+        ensures { result ≡ record {
+          users = users.items;
+          script = script.items;
+          asked = 0;
+          faults = 0;
+        } }
     {
         PlainKdc {
             alloc,

@@ -1,8 +1,11 @@
 //! How the plain mechanisms tag messages and MICs, by direction and number.
 
-ghost use Rattle.std.specs.Prelude.{◌≡◌, ◌+◌, ◌-◌, ◌^◌, ◌==◌, false, true, None, Some, IfOk, OnOk, OnErr, IfErr};
-ghost use Rattle.sspi_mech.specs.Protection.{direction_byte, tag_of, seal_tag, mic_of, SealsBy, OpensBy, SignsBy, VerifiesBy};
-ghost use Rattle.sspi_mech.specs.Protection.{making_refusal, unseal_refusal, verify_refusal, no_protection};
+ghost use Rattle.std.specs.Prelude.{◌≡◌, ◌+◌, ◌-◌, ◌^◌, ◌==◌, false, true, None, Some, IfOk, OnOk};
+ghost use Rattle.std.specs.Prelude.{OnErr, IfErr};
+ghost use Rattle.sspi_mech.specs.Protection.{direction_byte, tag_of, seal_tag, mic_of, SealsBy};
+ghost use Rattle.sspi_mech.specs.Protection.{OpensBy, SignsBy, VerifiesBy};
+ghost use Rattle.sspi_mech.specs.Protection.{making_refusal, unseal_refusal, verify_refusal};
+ghost use Rattle.sspi_mech.specs.Protection.{no_protection};
 ghost use Rattle.sspi_mech.specs.Answered.{IsCause, IsRefusedAs};
 
 use crate::refusal::Refusal;
@@ -32,7 +35,8 @@ impl Direction {
     }
 }
 
-/// The key of an object, once there is one, and how many messages of each kind were made and taken by it.
+/// The key of an object, once there is one, and how many messages of each kind were made and taken
+/// by it.
 #[derive(Clone, Copy)]
 pub struct Protection {
     key: Option<[u8; 32]>,
@@ -65,7 +69,8 @@ impl Protection {
     /// The key; OutOfSequence before there is one.
     pub fn key(&self) -> Result<&[u8; 32], Refusal>
         ensures ok { IfOk result (λ key. self.now.key ≡ Some key.now) }
-        ensures err { IfErr result (λ error. (self.now.key ≡ None) × (error.error_type ≡ ErrorKind.OutOfSequence)) }
+        ensures err { IfErr result (λ error. (self.now.key ≡ None) ×
+            (error.error_type ≡ ErrorKind.OutOfSequence)) }
     {
         match &self.key {
             Some(key) => Ok(key),
@@ -81,12 +86,14 @@ impl Protection {
         text: &[u8],
     ) -> Result<Vec<u8>, Refusal>
         // What `Ok` holds.
-        ensures blob { IfOk result (λ blob. SealsBy self.new.key direction self.old.sealings text.now blob.items) }
+        ensures blob { IfOk result (λ blob. SealsBy self.new.key direction self.old.sealings
+            text.now blob.items) }
         ensures ok { OnOk result (self.new ≡ record self.old { sealings = self.old.sealings + 1 }) }
         ensures permitted { OnOk result (making_refusal self.old.key self.old.sealings ≡ None) }
         // What a refusal says, and what it leaves.
         ensures err { OnErr result (self.new ≡ self.old) }
-        ensures cause { IfErr result (λ error. IsCause (making_refusal self.old.key self.old.sealings) error.error_type) }
+        ensures cause { IfErr result (λ error. IsCause
+            (making_refusal self.old.key self.old.sealings) error.error_type) }
     {
         let key = self.key()?;
         let count = next(self.sealings)?;
@@ -106,15 +113,21 @@ impl Protection {
         blob: &[u8],
     ) -> Result<Vec<u8>, Refusal>
         // What `Ok` holds.
-        ensures text { IfOk result (λ text. OpensBy self.new.key direction self.old.unsealings blob.now text.items) }
-        ensures ok { OnOk result (self.new ≡ record self.old { unsealings = self.old.unsealings + 1 }) }
-        ensures permitted { OnOk result (unseal_refusal self.old.key direction self.old.unsealings blob.now ≡ None) }
+        ensures text { IfOk result (λ text. OpensBy self.new.key direction self.old.unsealings
+            blob.now text.items) }
+        ensures ok { OnOk result
+            (self.new ≡ record self.old { unsealings = self.old.unsealings + 1 }) }
+        ensures permitted { OnOk result (unseal_refusal self.old.key direction self.old.unsealings
+            blob.now ≡ None) }
         // What a refusal says, and what it leaves.
         ensures err { OnErr result (self.new ≡ self.old) }
-        ensures cause { IfErr result (λ error. IsCause (unseal_refusal self.old.key direction self.old.unsealings blob.now)
+        ensures cause { IfErr result (λ error. IsCause
+            (unseal_refusal self.old.key direction self.old.unsealings blob.now)
             error.error_type) }
-        ensures told { IfErr result (λ error. IsRefusedAs (unseal_refusal self.old.key direction self.old.unsealings blob.now ≡ None)
-            (λ kind. unseal_refusal self.old.key direction self.old.unsealings blob.now ≡ Some kind) error.error_type) }
+        ensures told { IfErr result (λ error. IsRefusedAs
+            (unseal_refusal self.old.key direction self.old.unsealings blob.now ≡ None)
+            (λ kind. unseal_refusal self.old.key direction self.old.unsealings blob.now ≡ Some kind)
+            error.error_type) }
     {
         let key = self.key()?;
         let count = next(self.unsealings)?;
@@ -138,12 +151,14 @@ impl Protection {
         text: &[u8],
     ) -> Result<Vec<u8>, Refusal>
         // What `Ok` holds.
-        ensures mic { IfOk result (λ mic. SignsBy self.new.key direction self.old.signings text.now mic.items) }
+        ensures mic { IfOk result (λ mic. SignsBy self.new.key direction self.old.signings text.now
+            mic.items) }
         ensures ok { OnOk result (self.new ≡ record self.old { signings = self.old.signings + 1 }) }
         ensures permitted { OnOk result (making_refusal self.old.key self.old.signings ≡ None) }
         // What a refusal says, and what it leaves.
         ensures err { OnErr result (self.new ≡ self.old) }
-        ensures cause { IfErr result (λ error. IsCause (making_refusal self.old.key self.old.signings) error.error_type) }
+        ensures cause { IfErr result (λ error. IsCause
+            (making_refusal self.old.key self.old.signings) error.error_type) }
     {
         let key = self.key()?;
         let count = next(self.signings)?;
@@ -156,12 +171,16 @@ impl Protection {
     /// Whether the MIC is that of the text; MessageAltered where it is not.
     pub fn verify(&mut self, direction: Direction, mic: &[u8], text: &[u8]) -> Result<(), Refusal>
         // What `Ok` holds.
-        ensures mic { OnOk result (VerifiesBy self.new.key direction self.old.verifications mic.now text.now) }
-        ensures ok { OnOk result (self.new ≡ record self.old { verifications = self.old.verifications + 1 }) }
-        ensures permitted { OnOk result (verify_refusal self.old.key direction self.old.verifications mic.now text.now ≡ None) }
+        ensures mic { OnOk result (VerifiesBy self.new.key direction self.old.verifications mic.now
+            text.now) }
+        ensures ok { OnOk result
+            (self.new ≡ record self.old { verifications = self.old.verifications + 1 }) }
+        ensures permitted { OnOk result (verify_refusal self.old.key direction
+            self.old.verifications mic.now text.now ≡ None) }
         // What a refusal says, and what it leaves.
         ensures err { OnErr result (self.new ≡ self.old) }
-        ensures cause { IfErr result (λ error. verify_refusal self.old.key direction self.old.verifications mic.now text.now ≡ Some
+        ensures cause { IfErr result (λ error. verify_refusal self.old.key direction
+            self.old.verifications mic.now text.now ≡ Some
             error.error_type) }
     {
         let key = self.key()?;
@@ -177,7 +196,8 @@ impl Protection {
 /// The count after this one; ContextExpired where there is none.
 fn next(count: u64) -> Result<u64, Refusal>
     ensures ok { IfOk result (λ next. ((count == 2 ^ 64 - 1) ≡ false) × (next ≡ count + 1)) }
-    ensures err { IfErr result (λ error. ((count == 2 ^ 64 - 1) ≡ true) × (error.error_type ≡ ErrorKind.ContextExpired)) }
+    ensures err { IfErr result (λ error. ((count == 2 ^ 64 - 1) ≡ true) ×
+        (error.error_type ≡ ErrorKind.ContextExpired)) }
 {
     match count.checked_add(1) {
         Some(next) => Ok(next),

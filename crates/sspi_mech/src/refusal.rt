@@ -10,7 +10,8 @@ use sspi_names::{UsernameError, Utf16Error};
 use sspi_types::{Error, ErrorKind, Reason};
 use std::alloc::{AllocError, AllocFailed};
 
-/// A refusal of one's own: its kind and a fixed reason. A code of NTSTATUS is for the peer to give, so it has none.
+/// A refusal of one's own: its kind and a fixed reason. A code of NTSTATUS is for the peer to give,
+/// so it has none.
 #[derive(Clone, Copy)]
 pub struct Refusal {
     /// What kind of refusal it is: the code of winerror.h.
@@ -32,14 +33,20 @@ impl Refusal {
 
     /// Of a call out of its place.
     pub fn out_of_sequence() -> Refusal
-        ensures { result ≡ record { error_type = ErrorKind.OutOfSequence; description = Reason.Sequence } }
+        ensures { result ≡ record {
+          error_type = ErrorKind.OutOfSequence;
+          description = Reason.Sequence;
+        } }
     {
         Refusal::new(ErrorKind::OutOfSequence, Reason::Sequence)
     }
 
     /// Of a message of another form.
     pub fn malformed() -> Refusal
-        ensures { result ≡ record { error_type = ErrorKind.InvalidToken; description = Reason.TokenForm } }
+        ensures { result ≡ record {
+          error_type = ErrorKind.InvalidToken;
+          description = Reason.TokenForm;
+        } }
     {
         Refusal::new(ErrorKind::InvalidToken, Reason::TokenForm)
     }

@@ -1,5 +1,7 @@
--- Which buffers a call takes: of each type that it names the first one without flags. It neither reads nor changes the others.
-use Rattle.std.specs.Prelude.{ℕ, List, [], ◌∷◌, Bool, ◌==◌, ◌&&◌, cond, Option, None, Some, option_map, find}
+-- Which buffers a call takes: of each type that it names the first one without flags. It neither
+-- reads nor changes the others.
+use Rattle.std.specs.Prelude.{ℕ, List, [], ◌∷◌, Bool, ◌==◌, ◌&&◌, cond, Option, None, Some}
+use Rattle.std.specs.Prelude.{option_map, find}
 use Rattle.sspi_types.specs.declared.buffer.SecurityBuffer.{SecurityBuffer}
 use Rattle.sspi_types.specs.declared.buffer_type.BufferType.{BufferType}
 use Rattle.sspi_types.specs.Buffers.{has_type}
@@ -19,7 +21,8 @@ bytes_in type message = option_map (λ buffer. buffer.buffer) (first_unflagged t
 abbrev pub with_bytes : BufferType → List ℕ → List SecurityBuffer → List SecurityBuffer
 with_bytes type bytes [] = []
 with_bytes type bytes (buffer ∷ rest) =
-    cond (is_unflagged type buffer) (record buffer { buffer = bytes } ∷ rest) (buffer ∷ with_bytes type bytes rest)
+    cond (is_unflagged type buffer) (record buffer { buffer = bytes } ∷ rest)
+    (buffer ∷ with_bytes type bytes rest)
 
 -- two things, where both are there
 abbrev pub pair_of : {A B : Type 0} → Option A → Option B → Option (A × B)

@@ -1,26 +1,34 @@
 -- What the calls on the buffers of a message do.
-use Rattle.std.specs.Prelude.{◌≡◌, ◌≢◌, ◌≤◌, ℕ, List, ◌++◌, take, drop, length, nat_lt, cond, Option, None, Some, option_map}
+use Rattle.std.specs.Prelude.{◌≡◌, ◌≢◌, ◌≤◌, ℕ, List, ◌++◌, take, drop, length, nat_lt, cond}
+use Rattle.std.specs.Prelude.{Option, None, Some, option_map}
 use Rattle.sspi_types.specs.declared.buffer.SecurityBuffer.{SecurityBuffer}
 use Rattle.sspi_types.specs.declared.buffer_type.BufferType.TheVariants.{Data, Token, Stream}
 use Rattle.sspi_types.specs.declared.error.Error.{Error}
 use Rattle.sspi_types.specs.declared.error_kind.ErrorKind.{ErrorKind}
-use Rattle.sspi_types.specs.declared.error_kind.ErrorKind.TheVariants.{InvalidToken, InsufficientMemory}
-use Rattle.sspi_mech.specs.Calls.{Call, ToSeal, ToUnseal, ToSign, ToVerify, one_sealing, one_unsealing, one_signing, one_verification}
+use Rattle.sspi_types.specs.declared.error_kind.ErrorKind.TheVariants.{InvalidToken}
+use Rattle.sspi_types.specs.declared.error_kind.ErrorKind.TheVariants.{InsufficientMemory}
+use Rattle.sspi_mech.specs.Calls.{Call, ToSeal, ToUnseal, ToSign, ToVerify, one_sealing}
+use Rattle.sspi_mech.specs.Calls.{one_unsealing, one_signing, one_verification}
 use Rattle.sspi_mech.specs.Answered.{IsRefusedAs}
 use Rattle.sspi_messages.specs.Buffers.{bytes_in, with_bytes, pair_of}
 use Rattle.sspi_messages.specs.Protecting.{Protecting}
 
--- What a call asks of the context, where the buffers serve. The text is in Data, and Token takes the tag or has the MIC.
+-- What a call asks of the context, where the buffers serve. The text is in Data, and Token takes
+-- the tag or has the MIC.
 abbrev pub to_encrypt : List SecurityBuffer → Option Call
-to_encrypt message = option_map (λ pair. ToSeal pair.1) (pair_of (bytes_in Token message) (bytes_in Data message))
+to_encrypt message = option_map (λ pair. ToSeal pair.1)
+    (pair_of (bytes_in Token message) (bytes_in Data message))
 
 abbrev pub to_sign : List SecurityBuffer → Option Call
-to_sign message = option_map (λ pair. ToSign pair.1) (pair_of (bytes_in Token message) (bytes_in Data message))
+to_sign message = option_map (λ pair. ToSign pair.1)
+    (pair_of (bytes_in Token message) (bytes_in Data message))
 
 abbrev pub to_verify : List SecurityBuffer → Option Call
-to_verify message = option_map (λ pair. ToVerify pair.0 pair.1) (pair_of (bytes_in Token message) (bytes_in Data message))
+to_verify message = option_map (λ pair. ToVerify pair.0 pair.1)
+    (pair_of (bytes_in Token message) (bytes_in Data message))
 
--- the blob: Stream's bytes, or without a Stream those of Token followed by those of Data, which takes the text in either case
+-- the blob: Stream's bytes, or without a Stream those of Token followed by those of Data, which
+-- takes the text in either case
 abbrev pub blob_of : Option (List ℕ) → Option (List ℕ) → Option (List ℕ) → Option (List ℕ)
 blob_of stream token None = None
 blob_of (Some stream) token (Some rest) = Some stream
@@ -52,7 +60,8 @@ module _ {C : Type 0} (c : Protecting C) where
   IsCause m None kind = kind ≡ InvalidToken
   IsCause m (Some call) kind = kind ≢ InsufficientMemory → c.refuses m call kind
 
-  -- the same of a blob that lies in one buffer, for which no memory is taken before the context judged it
+  -- the same of a blob that lies in one buffer, for which no memory is taken before the context
+  -- judged it
   abbrev pub IsJudged : C → Option Call → ErrorKind → Type 0
   IsJudged m None kind = kind ≡ InvalidToken
   IsJudged m (Some call) kind = IsRefusedAs (c.permits m call) (c.refuses m call) kind
@@ -72,12 +81,14 @@ module _ {C : Type 0} (c : Protecting C) where
     pub count : c.counts m2 ≡ one_sealing (c.counts m)
 
   -- the text of a message is sealed, the blob's tag left in Token and the rest in Data
-  pub record Encrypts (m : C) (message : List SecurityBuffer) (m2 : C) (message2 : List SecurityBuffer) : Type 0 where
+  pub record Encrypts (m : C) (message : List SecurityBuffer) (m2 : C)
+      (message2 : List SecurityBuffer) : Type 0 where
     pub text : List ℕ
     pub blob : List ℕ
     pub asked : to_encrypt message ≡ Some (ToSeal text)
     pub seals : Seals m text blob m2
-    pub buffers : message2 ≡ with_bytes Data (drop 16 blob) (with_bytes Token (take 16 blob) message)
+    pub buffers : message2 ≡ with_bytes Data (drop 16 blob)
+        (with_bytes Token (take 16 blob) message)
 
   -- a blob is opened as the peer's next message
   pub record Opens (m : C) (blob text : List ℕ) (m2 : C) : Type 0 where
@@ -88,7 +99,8 @@ module _ {C : Type 0} (c : Protecting C) where
     pub count : c.counts m2 ≡ one_unsealing (c.counts m)
 
   -- the blob of a message is opened, and its text left in Data
-  pub record Decrypts (m : C) (message : List SecurityBuffer) (m2 : C) (message2 : List SecurityBuffer) : Type 0 where
+  pub record Decrypts (m : C) (message : List SecurityBuffer) (m2 : C)
+      (message2 : List SecurityBuffer) : Type 0 where
     pub blob : List ℕ
     pub text : List ℕ
     pub taken : blob_in message ≡ Some blob
@@ -96,7 +108,8 @@ module _ {C : Type 0} (c : Protecting C) where
     pub buffers : message2 ≡ with_bytes Data text message
 
   -- the next MIC is made of the text, and left in Token
-  pub record Signs (m : C) (message : List SecurityBuffer) (m2 : C) (message2 : List SecurityBuffer) : Type 0 where
+  pub record Signs (m : C) (message : List SecurityBuffer) (m2 : C)
+      (message2 : List SecurityBuffer) : Type 0 where
     pub text : List ℕ
     pub mic : List ℕ
     pub asked : to_sign message ≡ Some (ToSign text)

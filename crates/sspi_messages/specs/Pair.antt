@@ -8,7 +8,8 @@ use Rattle.sspi_types.specs.contracts.buffer.SecurityBuffer.{the_row}
 use Rattle.sspi_messages.specs.Buffers.{is_unflagged}
 
 -- the message ends with the two buffers as they were left
-abbrev pub LendsPair : MutBor (List SecurityBuffer) → BufferType → BufferType → Option (MutBor SecurityBuffer × MutBor SecurityBuffer) → Fml
+abbrev pub LendsPair : MutBor (List SecurityBuffer) → BufferType → BufferType →
+    Option (MutBor SecurityBuffer × MutBor SecurityBuffer) → Fml
 LendsPair message first second lent =
     LendsBothIf (Array the_row 0) the_row the_row message lent
     (λ a b. slice_set (slice_set message.now (position_or_len (is_unflagged first) message.now) a)

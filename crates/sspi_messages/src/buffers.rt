@@ -35,7 +35,8 @@ pub fn bytes_in(message: &[SecurityBuffer], buffer_type: BufferType) -> Option<&
     }
 }
 
-/// The first buffers of these two types without flags, to be changed in their places, where both are there.
+/// The first buffers of these two types without flags, to be changed in their places, where both
+/// are there.
 pub fn pair_mut(
     message: &mut [SecurityBuffer],
     first_type: BufferType,
@@ -44,7 +45,8 @@ pub fn pair_mut(
     requires { buffer_type_number first_type ≢ buffer_type_number second_type }
     ensures* writes_back { sem 𝓛 (LendsPair message.entry first_type second_type result) }
     ensures pair { option_map (λ pair. (pair.0.now, pair.1.now)) result
-        ≡ pair_of (first_unflagged first_type message.old) (first_unflagged second_type message.old) }
+        ≡ pair_of (first_unflagged first_type message.old)
+        (first_unflagged second_type message.old) }
 {
     let Some(first) = place(message, first_type) else {
         return None;

@@ -1,12 +1,16 @@
 //! Messages in buffers: EncryptMessage, DecryptMessage, MakeSignature and VerifySignature of SSPI.
 //!
-//! Each call takes the first buffer without flags of each type that it names. It neither reads nor changes any other buffer.
-ghost use Rattle.std.specs.Prelude.{◌≡◌, ◌≤◌, ◌++◌, take, drop, length, IfOk, IfErr, OnOk, OnErr, Some, None, IsSome};
+//! Each call takes the first buffer without flags of each type that it names. It neither reads nor
+//! changes any other buffer.
+ghost use Rattle.std.specs.Prelude.{◌≡◌, ◌≤◌, ◌++◌, take, drop, length, IfOk, IfErr, OnOk, OnErr};
+ghost use Rattle.std.specs.Prelude.{Some, None, IsSome};
 ghost use Rattle.sspi_types.specs.declared.buffer_type.BufferType.TheVariants.{Stream};
 ghost use Rattle.sspi_messages.specs.Buffers.{bytes_in};
 ghost use Rattle.sspi_mech.specs.Calls.{ToSeal};
-ghost use Rattle.sspi_messages.specs.Messages.{if_tagged, to_encrypt, to_decrypt, to_sign, to_verify};
-ghost use Rattle.sspi_messages.specs.Messages.{Encrypts, Seals, Decrypts, Opens, Signs, Verifies, Refuses, IsRefusal, IsJudged};
+ghost use Rattle.sspi_messages.specs.Messages.{if_tagged, to_encrypt, to_decrypt, to_sign};
+ghost use Rattle.sspi_messages.specs.Messages.{to_verify};
+ghost use Rattle.sspi_messages.specs.Messages.{Encrypts, Seals, Decrypts, Opens, Signs, Verifies};
+ghost use Rattle.sspi_messages.specs.Messages.{Refuses, IsRefusal, IsJudged};
 
 use crate::buffers::{bytes_in, pair_mut};
 use crate::protects::Protects;
@@ -18,17 +22,21 @@ use sspi_types::{
 // A blob begins with a tag of so many bytes.
 const TAG_LENGTH: usize = 16;
 
-/// Seals the text in Data as the next message. The first 16 bytes of the blob go to Token, the rest stays in Data.
+/// Seals the text in Data as the next message. The first 16 bytes of the blob go to Token, the rest
+/// stays in Data.
 ///
-/// `InvalidToken` where Data or Token is missing, before the context is asked; else as the context refuses to seal. Refused,
-/// the context and all buffers are as they were; so is the number of the next message, also when out of memory.
+/// `InvalidToken` where Data or Token is missing, before the context is asked; else as the context
+/// refuses to seal. Refused, the context and all buffers are as they were; so is the number of the
+/// next message, also when out of memory.
 pub fn encrypt_message<P: Protects>(
     context: &mut P,
     message: &mut [SecurityBuffer],
 ) -> Result<SecurityStatus, Error>
     ensures status { IfOk result (λ status. status ≡ SecurityStatus.Ok) }
-    ensures sealed { IfOk result (λ status. Encrypts P.protecting context.old message.old context.new message.new) }
-    ensures refused { IfErr result (λ error. Refuses P.protecting (to_encrypt message.old) context.old error context.new) }
+    ensures sealed { IfOk result (λ status. Encrypts P.protecting context.old message.old
+        context.new message.new) }
+    ensures refused { IfErr result (λ error. Refuses P.protecting (to_encrypt message.old)
+        context.old error context.new) }
     ensures buffers { OnErr result (message.new ≡ message.old) }
 {
     let Some((token, data)) = pair_mut(message, BufferType::Token, BufferType::Data) else {
@@ -39,15 +47,18 @@ pub fn encrypt_message<P: Protects>(
     Ok(SecurityStatus::Ok)
 }
 
-// Seals a text, once `token` has room for the tag: nothing may be wanting when the number of a message was used.
+// Seals a text, once `token` has room for the tag: nothing may be wanting when the number of a
+// message was used.
 fn seal_with_room<P: Protects>(
     context: &mut P,
     token: &mut Bytes,
     text: &[u8],
 ) -> Result<Vec<u8>, Error>
-    ensures sealed { IfOk result (λ blob. Seals P.protecting context.old text.now blob.items context.new) }
+    ensures sealed { IfOk result (λ blob. Seals P.protecting context.old text.now blob.items
+        context.new) }
     ensures room { OnOk result (16 ≤ length token.new) }
-    ensures refused { IfErr result (λ error. Refuses P.protecting (Some (ToSeal text.now)) context.old error context.new) }
+    ensures refused { IfErr result (λ error. Refuses P.protecting (Some (ToSeal text.now))
+        context.old error context.new) }
     ensures same { OnErr result (token.new ≡ token.old) }
 {
     let length = token.len();
@@ -61,7 +72,8 @@ fn seal_with_room<P: Protects>(
     }
 }
 
-// Leaves the tag of a blob in `token`, which has room for it, and what stands behind the tag in `rest`.
+// Leaves the tag of a blob in `token`, which has room for it, and what stands behind the tag in
+// `rest`.
 fn leave(blob: Vec<u8>, token: &mut Bytes, rest: &mut Bytes)
     requires tagged { 16 ≤ length blob.items }
     requires room { 16 ≤ length token.old }
@@ -74,19 +86,22 @@ fn leave(blob: Vec<u8>, token: &mut Bytes, rest: &mut Bytes)
     *rest = Bytes::from_vec(behind_tag(blob));
 }
 
-/// Opens the peer's next message and leaves its text in Data. The blob is the bytes of Stream, or without one those of Token
-/// followed by those of Data. Answers no flags.
+/// Opens the peer's next message and leaves its text in Data. The blob is the bytes of Stream, or
+/// without one those of Token followed by those of Data. Answers no flags.
 ///
-/// `InvalidToken` where Data is missing, where there is neither Stream nor Token, and for a blob of under 16 bytes, before the
-/// context is asked; else as the context refuses to open. Out of memory never stands for the refusal of a blob in Stream;
-/// Token and Data are joined first, which takes memory. Refused, the context and all buffers are as they were.
+/// `InvalidToken` where Data is missing, where there is neither Stream nor Token, and for a blob of
+/// under 16 bytes, before the context is asked; else as the context refuses to open. Out of memory
+/// never stands for the refusal of a blob in Stream; Token and Data are joined first, which takes
+/// memory. Refused, the context and all buffers are as they were.
 pub fn decrypt_message<P: Protects>(
     context: &mut P,
     message: &mut [SecurityBuffer],
 ) -> Result<DecryptionFlags, Error>
     ensures flags { IfOk result (λ flags. flags.0 ≡ 0) }
-    ensures opened { IfOk result (λ flags. Decrypts P.protecting context.old message.old context.new message.new) }
-    ensures refused { IfErr result (λ error. Refuses P.protecting (to_decrypt message.old) context.old error context.new) }
+    ensures opened { IfOk result (λ flags. Decrypts P.protecting context.old message.old context.new
+        message.new) }
+    ensures refused { IfErr result (λ error. Refuses P.protecting (to_decrypt message.old)
+        context.old error context.new) }
     ensures judged { IfErr result (λ error. IsSome (bytes_in Stream message.old) →
         IsJudged P.protecting context.old (to_decrypt message.old) error.error_type) }
     ensures buffers { OnErr result (message.new ≡ message.old) }
@@ -105,9 +120,12 @@ pub fn decrypt_message<P: Protects>(
 }
 
 fn open_stream<P: Protects>(context: &mut P, blob: &[u8]) -> Result<Vec<u8>, Error>
-    ensures opened { IfOk result (λ text. Opens P.protecting context.old blob.now text.items context.new) }
-    ensures refused { IfErr result (λ error. Refuses P.protecting (if_tagged blob.now) context.old error context.new) }
-    ensures judged { IfErr result (λ error. IsJudged P.protecting context.old (if_tagged blob.now) error.error_type) }
+    ensures opened { IfOk result (λ text. Opens P.protecting context.old blob.now text.items
+        context.new) }
+    ensures refused { IfErr result (λ error. Refuses P.protecting (if_tagged blob.now) context.old
+        error context.new) }
+    ensures judged { IfErr result (λ error. IsJudged P.protecting context.old (if_tagged blob.now)
+        error.error_type) }
 {
     if blob.len() < TAG_LENGTH {
         return Err(short_blob());
@@ -115,13 +133,15 @@ fn open_stream<P: Protects>(context: &mut P, blob: &[u8]) -> Result<Vec<u8>, Err
     context.unseal(blob)
 }
 
-// Opens what the two parts joined are. They are joined in the memory of the first, which is then as it was.
+// Opens what the two parts joined are. They are joined in the memory of the first, which is then as
+// it was.
 fn open_parts<P: Protects>(
     context: &mut P,
     first: &mut Bytes,
     second: &[u8],
 ) -> Result<Vec<u8>, Error>
-    ensures opened { IfOk result (λ text. Opens P.protecting context.old (first.old ++ second.now) text.items context.new) }
+    ensures opened { IfOk result (λ text. Opens P.protecting context.old (first.old ++ second.now)
+        text.items context.new) }
     ensures refused { IfErr result (λ error.
         Refuses P.protecting (if_tagged (first.old ++ second.now)) context.old error context.new) }
     ensures same { first.new ≡ first.old }
@@ -138,14 +158,16 @@ fn open_parts<P: Protects>(
 
 /// Leaves the MIC of the text in Data, as the next of the context's MICs, in Token.
 ///
-/// `InvalidToken` where Data or Token is missing, before the context is asked; else as the context refuses to sign. Refused,
-/// the context and all buffers are as they were.
+/// `InvalidToken` where Data or Token is missing, before the context is asked; else as the context
+/// refuses to sign. Refused, the context and all buffers are as they were.
 pub fn make_signature<P: Protects>(
     context: &mut P,
     message: &mut [SecurityBuffer],
 ) -> Result<(), Error>
-    ensures signed { IfOk result (λ _. Signs P.protecting context.old message.old context.new message.new) }
-    ensures refused { IfErr result (λ error. Refuses P.protecting (to_sign message.old) context.old error context.new) }
+    ensures signed { IfOk result (λ _. Signs P.protecting context.old message.old context.new
+        message.new) }
+    ensures refused { IfErr result (λ error. Refuses P.protecting (to_sign message.old) context.old
+        error context.new) }
     ensures buffers { OnErr result (message.new ≡ message.old) }
 {
     let Some((token, data)) = pair_mut(message, BufferType::Token, BufferType::Data) else {
@@ -156,17 +178,21 @@ pub fn make_signature<P: Protects>(
     Ok(())
 }
 
-/// Checks that Token is the MIC that the peer made of the text in Data as the next of its MICs. No buffer is changed.
+/// Checks that Token is the MIC that the peer made of the text in Data as the next of its MICs. No
+/// buffer is changed.
 ///
-/// `InvalidToken` where Data or Token is missing, before the context is asked; else as the context refuses to verify. Takes no
-/// memory. Refused, the context is as it was.
+/// `InvalidToken` where Data or Token is missing, before the context is asked; else as the context
+/// refuses to verify. Takes no memory. Refused, the context is as it was.
 pub fn verify_signature<P: Protects>(
     context: &mut P,
     message: &[SecurityBuffer],
 ) -> Result<(), Error>
-    ensures verified { IfOk result (λ _. Verifies P.protecting context.old message.now context.new) }
-    ensures refused { IfErr result (λ error. Refuses P.protecting (to_verify message.now) context.old error context.new) }
-    ensures exact { IfErr result (λ error. IsRefusal P.protecting context.old (to_verify message.now) error.error_type) }
+    ensures verified { IfOk result (λ _. Verifies P.protecting context.old message.now
+        context.new) }
+    ensures refused { IfErr result (λ error. Refuses P.protecting (to_verify message.now)
+        context.old error context.new) }
+    ensures exact { IfErr result (λ error. IsRefusal P.protecting context.old
+        (to_verify message.now) error.error_type) }
 {
     match (
         bytes_in(message, BufferType::Token),
@@ -190,13 +216,21 @@ fn behind_tag(blob: Vec<u8>) -> Vec<u8>
 }
 
 fn no_buffer() -> Error
-    ensures { result ≡ record { error_type = ErrorKind.InvalidToken; description = Reason.NoBuffer; nstatus = None } }
+    ensures { result ≡ record {
+      error_type = ErrorKind.InvalidToken;
+      description = Reason.NoBuffer;
+      nstatus = None;
+    } }
 {
     Error::new(ErrorKind::InvalidToken, Reason::NoBuffer)
 }
 
 fn short_blob() -> Error
-    ensures { result ≡ record { error_type = ErrorKind.InvalidToken; description = Reason.ShortBlob; nstatus = None } }
+    ensures { result ≡ record {
+      error_type = ErrorKind.InvalidToken;
+      description = Reason.ShortBlob;
+      nstatus = None;
+    } }
 {
     Error::new(ErrorKind::InvalidToken, Reason::ShortBlob)
 }

@@ -4,9 +4,11 @@ use Rattle.std.proofs.lemmas.Bool.{and_parts, and_from, false≢true}
 use Rattle.std.specs.Cmp.{IsEquivalence, IsPartialEquivalence, partial_equiv_from_equiv}
 use Rattle.std.specs.Cmp.Lexicographic.{nat_list_eq_equiv}
 use Rattle.std.specs.Str.{bytes_eq}
-use Rattle.sspi_names.specs.Name.{same_format, folded, same_text, by_parts, name_eq, equals_ignoring_case}
+use Rattle.sspi_names.specs.Name.{same_format, folded, same_text, by_parts, name_eq}
+use Rattle.sspi_names.specs.Name.{equals_ignoring_case}
 use Rattle.sspi_names.specs.declared.format.UserNameFormat.{UserNameFormat}
-use Rattle.sspi_names.specs.declared.format.UserNameFormat.TheVariants.{UserPrincipalName, DownLevelLogonName}
+use Rattle.sspi_names.specs.declared.format.UserNameFormat.TheVariants.{UserPrincipalName}
+use Rattle.sspi_names.specs.declared.format.UserNameFormat.TheVariants.{DownLevelLogonName}
 
 format_refl : (a : UserNameFormat) → same_format a a ≡ true
 format_refl UserPrincipalName = refl
@@ -29,13 +31,16 @@ both a b c d p q = ap (λ x. x && c) p ∙ ap (λ x. b && x) q
 
 parts_equiv : (same : List ℕ → List ℕ → Bool) → IsEquivalence same → IsEquivalence (by_parts same)
 parts_equiv same e = record {
-  refl = λ a. and_from _ _ (format_refl a.format) (and_from _ _ (e.refl a.account) (e.refl a.domain));
-  symm = λ a b. both _ _ _ _ (format_symm a.format b.format) (both _ _ _ _ (e.symm a.account b.account) (e.symm a.domain b.domain));
+  refl = λ a. and_from _ _ (format_refl a.format)
+      (and_from _ _ (e.refl a.account) (e.refl a.domain));
+  symm = λ a b. both _ _ _ _ (format_symm a.format b.format)
+      (both _ _ _ _ (e.symm a.account b.account) (e.symm a.domain b.domain));
   congr = λ a b c h.
       let outer = and_parts _ _ h in
       let inner = and_parts _ _ outer.1 in
       both _ _ _ _ (format_congr a.format b.format c.format outer.0)
-      (both _ _ _ _ (e.congr a.account b.account c.account inner.0) (e.congr a.domain b.domain c.domain inner.1));
+      (both _ _ _ _ (e.congr a.account b.account c.account inner.0)
+      (e.congr a.domain b.domain c.domain inner.1));
 }
 
 folded_equiv : IsEquivalence same_text

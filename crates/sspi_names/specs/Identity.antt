@@ -8,7 +8,8 @@ use Rattle.sspi_names.specs.declared.credentials.Credentials.TheVariants as cred
 use Rattle.sspi_names.specs.declared.credentials.CredentialsBuffers.{CredentialsBuffers}
 use Rattle.sspi_names.specs.declared.credentials.CredentialsBuffers.TheVariants as buffered
 use Rattle.sspi_names.specs.declared.format.UserNameFormat.{UserNameFormat}
-use Rattle.sspi_names.specs.declared.format.UserNameFormat.TheVariants.{UserPrincipalName, DownLevelLogonName}
+use Rattle.sspi_names.specs.declared.format.UserNameFormat.TheVariants.{UserPrincipalName}
+use Rattle.sspi_names.specs.declared.format.UserNameFormat.TheVariants.{DownLevelLogonName}
 use Rattle.sspi_names.specs.declared.identity.AuthIdentity.{AuthIdentity}
 use Rattle.sspi_names.specs.declared.identity.AuthIdentityBuffers.{AuthIdentityBuffers}
 use Rattle.sspi_names.specs.Name.{Name, IsName, inner_of, new_name, bad_name}
@@ -33,10 +34,14 @@ buffers_of i = record {
 -- the identity of buffers, or none where user and domain mix the forms of a name
 unfoldable pub identity_of : AuthIdentityBuffers → Option AuthIdentity
 identity_of b =
-    option_map (λ name. record { username = name; password = record { value = text_of b.password.value } })
+    option_map (λ name. record {
+      username = name;
+      password = record { value = text_of b.password.value };
+    })
     (new_name (text_of b.user) (text_of b.domain))
 
--- exactly that identity; the name's refusal exactly where there is none; memory is asked for only where there is one
+-- exactly that identity; the name's refusal exactly where there is none; memory is asked for only
+-- where there is one
 abbrev pub IsIdentified : Result AuthIdentity Error → Option AuthIdentity → Type 0
 IsIdentified (Ok identity) found = found ≡ Some identity
 IsIdentified (Err e) None = e ≡ bad_name
@@ -56,7 +61,8 @@ pub record AreBuffers (b : AuthIdentityBuffers) : Type 0 where
 -- ---- credentials
 
 abbrev pub credentials_buffers_of : Credentials → CredentialsBuffers
-credentials_buffers_of (credentials.AuthIdentity identity) = buffered.AuthIdentity (buffers_of identity)
+credentials_buffers_of (credentials.AuthIdentity identity) =
+    buffered.AuthIdentity (buffers_of identity)
 credentials_buffers_of (credentials.Keytab identity) = buffered.Keytab identity
 
 -- the part with a password

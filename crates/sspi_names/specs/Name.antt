@@ -1,20 +1,24 @@
--- User names. The two forms of MS-ADTS 5.1.1.1.1 and the Windows user name formats are a grammar over texts in UTF-8:
+-- User names. The two forms of MS-ADTS 5.1.1.1.1 and the Windows user name formats are a grammar
+-- over texts in UTF-8:
 --
 --     name       = principal / down-level
 --     principal  = account "@" domain         the last "@" splits it; no "\"
 --     down-level = [ domain "\" ] account     no "@" and no further "\"
-use Rattle.std.specs.Prelude.{◌≡◌, ◌++◌, ◌==◌, ◌&&◌, ◌||◌, ℕ, List, [], ◌∷◌, Bool, false, Option, Some, None, map, if◌then◌else◌, true}
+use Rattle.std.specs.Prelude.{◌≡◌, ◌++◌, ◌==◌, ◌&&◌, ◌||◌, ℕ, List, [], ◌∷◌, Bool, false, Option}
+use Rattle.std.specs.Prelude.{Some, None, map, if◌then◌else◌, true}
 use Rattle.std.specs.Char.{to_ascii_lowercase}
 use Rattle.std.specs.List.{list_any, before_first, after_first, before_last, after_last}
 use Rattle.std.specs.Str.{IsUtf8, bytes_eq}
 use Rattle.sspi_types.specs.declared.error.Error.{Error}
-use Rattle.sspi_types.specs.declared.error_kind.ErrorKind.TheVariants.{UnknownCredentials, InvalidParameter}
+use Rattle.sspi_types.specs.declared.error_kind.ErrorKind.TheVariants.{UnknownCredentials}
+use Rattle.sspi_types.specs.declared.error_kind.ErrorKind.TheVariants.{InvalidParameter}
 use Rattle.sspi_types.specs.declared.reason.Reason.TheVariants.{UserName}
 use Rattle.sspi_types.specs.Errors.{memory_error}
 use Rattle.sspi_names.specs.declared.error.UsernameError.{UsernameError}
 use Rattle.sspi_names.specs.declared.error.UsernameError.TheVariants as username
 use Rattle.sspi_names.specs.declared.format.UserNameFormat.{UserNameFormat}
-use Rattle.sspi_names.specs.declared.format.UserNameFormat.TheVariants.{UserPrincipalName, DownLevelLogonName}
+use Rattle.sspi_names.specs.declared.format.UserNameFormat.TheVariants.{UserPrincipalName}
+use Rattle.sspi_names.specs.declared.format.UserNameFormat.TheVariants.{DownLevelLogonName}
 
 -- a user name, its texts as UTF-8
 pub record Name : Type 0 where
@@ -26,7 +30,11 @@ abbrev pub principal : List ℕ → List ℕ → Name
 principal account domain = record { format = UserPrincipalName; account = account; domain = domain }
 
 abbrev pub down_level : List ℕ → List ℕ → Name
-down_level account domain = record { format = DownLevelLogonName; account = account; domain = domain }
+down_level account domain = record {
+  format = DownLevelLogonName;
+  account = account;
+  domain = domain;
+}
 
 -- the codes of `@` and `\`
 abbrev pub at_sign : ℕ
@@ -55,7 +63,8 @@ has_separator text = has_at_sign text || has_backslash text
 unfoldable pub parse_name : List ℕ → Option Name
 parse_name text =
     if has_at_sign text
-    then (if has_backslash text then None else Some (principal (before_last is_at_sign text) (after_last is_at_sign text)))
+    then (if has_backslash text then None
+    else Some (principal (before_last is_at_sign text) (after_last is_at_sign text)))
     else if has_backslash text
     then (if has_backslash (after_first is_backslash text)
     then None
@@ -66,7 +75,8 @@ parse_name text =
 unfoldable pub new_name : List ℕ → List ℕ → Option Name
 new_name account [] = parse_name account
 new_name account (b ∷ domain) =
-    if has_separator account || has_separator (b ∷ domain) then None else Some (down_level account (b ∷ domain))
+    if has_separator account || has_separator (b ∷ domain) then None
+    else Some (down_level account (b ∷ domain))
 
 -- the one text that shows a name
 abbrev pub shown : UserNameFormat → List ℕ → List ℕ → List ℕ
@@ -88,8 +98,10 @@ domain_of n = domain_by n.format n.domain
 
 -- the texts that the grammar allows in a name of either form
 abbrev pub IsAllowed : UserNameFormat → List ℕ → List ℕ → Type 0
-IsAllowed UserPrincipalName account domain = (has_backslash account ≡ false) × (has_separator domain ≡ false)
-IsAllowed DownLevelLogonName account domain = (has_separator account ≡ false) × (has_separator domain ≡ false)
+IsAllowed UserPrincipalName account domain = (has_backslash account ≡ false) ×
+    (has_separator domain ≡ false)
+IsAllowed DownLevelLogonName account domain = (has_separator account ≡ false) ×
+    (has_separator domain ≡ false)
 
 -- what is true of each name that is made
 pub record IsName (n : Name) : Type 0 where
@@ -113,7 +125,8 @@ same_format DownLevelLogonName DownLevelLogonName = true
 
 -- whether two names have one form, and their texts are the same
 abbrev pub by_parts : (List ℕ → List ℕ → Bool) → Name → Name → Bool
-by_parts same a b = same_format a.format b.format && (same a.account b.account && same a.domain b.domain)
+by_parts same a b = same_format a.format b.format &&
+    (same a.account b.account && same a.domain b.domain)
 
 -- whether two names are equal
 unfoldable pub name_eq : Name → Name → Bool

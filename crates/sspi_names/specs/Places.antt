@@ -7,7 +7,8 @@ IsNowhere c t = (i : ℕ) → i < length t → slice_index t i ≢ c
 
 -- it stands at k, and not behind k
 abbrev pub IsLast : ℕ → List ℕ → ℕ → Type 0
-IsLast c t k = (k < length t) × (slice_index t k ≡ c) × ((i : ℕ) → k < i → i < length t → slice_index t i ≢ c)
+IsLast c t k = (k < length t) × (slice_index t k ≡ c) ×
+    ((i : ℕ) → k < i → i < length t → slice_index t i ≢ c)
 
 -- it stands at k, and not before k
 abbrev pub IsFirst : ℕ → List ℕ → ℕ → Type 0

@@ -1,5 +1,5 @@
--- Equality that is equality of the values, and the tables of KDCs as an instance: the proofs that the impls of `Eq` cite,
--- which are to stand here.
+-- Equality that is equality of the values, and the tables of KDCs as an instance: the proofs that
+-- the impls of `Eq` cite, which are to stand here.
 use Rattle.std.proofs.Common.{◌≡◌, ℕ, List, Bool, true, refl, sym, ◌∙◌, subst}
 use Rattle.std.proofs.lemmas.Bool.{and_parts, and_from}
 use Rattle.std.specs.Bool.{Decides}
@@ -27,13 +27,19 @@ same_parts a b realm url =
 entry_is : (a b : KdcEntry) → same_entry a b ≡ true → a ≡ b
 entry_is a b e =
     let parts = and_parts _ _ e in
-    same_parts a b ((bytes_decides a.realm b.realm).0 parts.0) ((bytes_decides a.url b.url).0 parts.1)
+    same_parts a b ((bytes_decides a.realm b.realm).0 parts.0)
+    ((bytes_decides a.url b.url).0 parts.1)
 
 entry_itself : (a : KdcEntry) → same_entry a a ≡ true
-entry_itself a = and_from _ _ ((bytes_decides a.realm a.realm).1 refl) ((bytes_decides a.url a.url).1 refl)
+entry_itself a = and_from _ _ ((bytes_decides a.realm a.realm).1 refl)
+    ((bytes_decides a.url a.url).1 refl)
 
 entry_decided : ComparesValues same_entry
-entry_decided a b = (entry_is a b, λ e. subst (λ (z : KdcEntry). same_entry a z ≡ true) e (entry_itself a))
+entry_decided a b = (
+  entry_is a b,
+  λ e. subst (λ (z : KdcEntry). same_entry a z ≡ true) e
+      (entry_itself a),
+)
 
 pub same_entry-equiv : IsEquivalence same_entry
 same_entry-equiv = decided same_entry entry_decided

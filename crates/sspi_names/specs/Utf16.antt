@@ -1,6 +1,7 @@
--- UTF-16 (The Unicode Standard 3.9, D91; RFC 2781 2): the code units of a text, the text of code units, and
--- their bytes with the low byte first.
-use Rattle.std.specs.Prelude.{◌≡◌, ◌+◌, ◌*◌, ◌/◌, ◌%◌, ◌==◌, ℕ, List, [], ◌∷◌, length, true, Result, Ok, Err, None, if◌then◌else◌}
+-- UTF-16 (The Unicode Standard 3.9, D91; RFC 2781 2): the code units of a text, the text of code
+-- units, and their bytes with the low byte first.
+use Rattle.std.specs.Prelude.{◌≡◌, ◌+◌, ◌*◌, ◌/◌, ◌%◌, ◌==◌, ℕ, List, [], ◌∷◌, length, true, Result}
+use Rattle.std.specs.Prelude.{Ok, Err, None, if◌then◌else◌}
 use Rattle.std.specs.List.{flat_map}
 use Rattle.std.specs.Str.{chars, all_scalars, encode_utf8_all}
 use Rattle.std.specs.Char.Escape.{encode_utf16}
@@ -10,7 +11,8 @@ use Rattle.sspi_types.specs.declared.error_kind.ErrorKind.TheVariants.{InvalidPa
 use Rattle.sspi_types.specs.declared.reason.Reason.TheVariants.{Utf}
 use Rattle.sspi_types.specs.Errors.{memory_error}
 use Rattle.sspi_names.specs.declared.error.Utf16Error.{Utf16Error}
-use Rattle.sspi_names.specs.declared.error.Utf16Error.TheVariants.{OddLength, UnpairedSurrogate, InsufficientMemory}
+use Rattle.sspi_names.specs.declared.error.Utf16Error.TheVariants.{OddLength, UnpairedSurrogate}
+use Rattle.sspi_names.specs.declared.error.Utf16Error.TheVariants.{InsufficientMemory}
 
 -- the code units of a text, which is given in UTF-8
 unfoldable pub units_of : List ℕ → List ℕ
@@ -43,7 +45,8 @@ units_le (low ∷ high ∷ bytes) = (low + 256 * high) ∷ units_le bytes
 unfoldable pub decode_le : List ℕ → Result (List ℕ) Utf16Error
 decode_le bytes =
     if length bytes % 2 == 0
-    then (if has_unpaired_surrogate (units_le bytes) then Err UnpairedSurrogate else Ok (units_le bytes))
+    then (if has_unpaired_surrogate (units_le bytes) then Err UnpairedSurrogate
+    else Ok (units_le bytes))
     else Err OddLength
 
 -- exactly that text or that refusal; memory is asked for only where there is a text

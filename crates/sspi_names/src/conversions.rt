@@ -1,7 +1,8 @@
 //! Identities as buffers of UTF-16, and back.
 
 ghost use Rattle.std.specs.Prelude.{◌≡◌, Some, IfOk, is_none};
-ghost use Rattle.sspi_names.specs.Identity.{AreBuffers, buffers_of, identity_of, user_text, domain_text, IsIdentified};
+ghost use Rattle.sspi_names.specs.Identity.{AreBuffers, buffers_of, identity_of, user_text};
+ghost use Rattle.sspi_names.specs.Identity.{domain_text, IsIdentified};
 ghost use Rattle.sspi_names.specs.Splits.{IsNameOfParts};
 ghost use Rattle.sspi_names.specs.Named.{IsNamed};
 ghost use Rattle.sspi_names.specs.Name.{new_name, parse_name, has_separator, IsName};
@@ -21,8 +22,8 @@ const AT_SIGN: u16 = 0x40;
 const BACKSLASH: u16 = 0x5c;
 
 impl AuthIdentity {
-    /// The identity as UTF-16. A user principal name is the user, as `inner` shows it, with an empty domain;
-    /// a down-level name is its account and its domain.
+    /// The identity as UTF-16. A user principal name is the user, as `inner` shows it, with an
+    /// empty domain; a down-level name is its account and its domain.
     #[tactic(auto, unfolding(crate::specs::Identity::buffers_of))]
     pub fn to_buffers(&self, alloc: Global) -> Result<AuthIdentityBuffers, AllocError>
         ensures buffers { IfOk result (λ buffers. buffers ≡ buffers_of self.now) }
@@ -38,8 +39,8 @@ impl AuthIdentity {
         })
     }
 
-    /// The identity of buffers: `Username::new` of the user and the domain. InvalidParameter exactly where they mix
-    /// the forms of a name; memory is taken only where they do not.
+    /// The identity of buffers: `Username::new` of the user and the domain. InvalidParameter
+    /// exactly where they mix the forms of a name; memory is taken only where they do not.
     #[tactic(auto, unfolding(crate::specs::Identity::identity_of))]
     pub fn from_buffers(alloc: Global, buffers: &AuthIdentityBuffers) -> Result<AuthIdentity, Error>
         ensures { IsIdentified result (identity_of buffers.now) }
@@ -61,8 +62,8 @@ impl AuthIdentity {
 }
 
 impl AuthIdentityBuffers {
-    /// The name of these buffers: `Username::new` of the user and the domain. `MixedFormat` exactly where they mix the
-    /// forms of a name; memory is taken only where they do not.
+    /// The name of these buffers: `Username::new` of the user and the domain. `MixedFormat` exactly
+    /// where they mix the forms of a name; memory is taken only where they do not.
     pub fn username(&self, alloc: Global) -> Result<Username, UsernameError>
         ensures { IsNamed result (new_name (text_of self.now.user) (text_of self.now.domain)) }
     {

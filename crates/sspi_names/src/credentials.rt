@@ -35,7 +35,8 @@ impl From<AuthIdentity> for Credentials {
 }
 
 impl Credentials {
-    ghost use Rattle.sspi_names.specs.Identity.{AreCredentials, credentials_buffers_of, password_identity};
+    ghost use Rattle.sspi_names.specs.Identity.{AreCredentials, credentials_buffers_of};
+    ghost use Rattle.sspi_names.specs.Identity.{password_identity};
 
     /// The credentials with the texts as UTF-16. A keytab stays as it is.
     pub fn to_buffers(&self, alloc: Global) -> Result<CredentialsBuffers, AllocError>
@@ -86,7 +87,8 @@ impl CredentialsBuffers {
         }
     }
 
-    /// The buffers of a name and a password, which are moved and not copied; none exactly for a keytab.
+    /// The buffers of a name and a password, which are moved and not copied; none exactly for a
+    /// keytab.
     pub fn into_auth_identity(self) -> Option<AuthIdentityBuffers>
         ensures { result ≡ password_buffers self }
     {

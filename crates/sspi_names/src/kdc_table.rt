@@ -79,7 +79,8 @@ impl KdcTable {
 
     /// Adds an entry behind the others, or leaves the table as it was where there is no memory.
     pub fn push(&mut self, realm: &str, url: &str) -> Result<(), Error>
-        ensures ok { OnOk result (self.new ≡ self.old ++ record { realm = realm.now; url = url.now } ∷ []) }
+        ensures ok { OnOk result (self.new ≡ self.old ++
+            record { realm = realm.now; url = url.now } ∷ []) }
         ensures err { OnErr result (self.new ≡ self.old) }
         ensures cause { IfErr result (λ e. e ≡ memory_error) }
     {

@@ -1,12 +1,15 @@
 //! Laws of names and texts, each on a function that does nothing.
 
-ghost use Rattle.std.specs.Prelude.{◌≡◌, ◌<◌, ◌^◌, ℕ, List, All, true, false, Ok, Some, None, slice_index};
+ghost use Rattle.std.specs.Prelude.{◌≡◌, ◌<◌, ◌^◌, ℕ, List, All, true, false, Ok, Some, None};
+ghost use Rattle.std.specs.Prelude.{slice_index};
 ghost use Rattle.std.specs.Cmp.{IsEquivalence};
 ghost use Rattle.std.specs.Str.{IsUtf8};
 ghost use Rattle.std.specs.Char.Utf16.{has_unpaired_surrogate};
-ghost use Rattle.sspi_names.specs.declared.format.UserNameFormat.TheVariants.{UserPrincipalName, DownLevelLogonName};
+ghost use Rattle.sspi_names.specs.declared.format.UserNameFormat.TheVariants.{UserPrincipalName};
+ghost use Rattle.sspi_names.specs.declared.format.UserNameFormat.TheVariants.{DownLevelLogonName};
 ghost use Rattle.sspi_names.specs.declared.identity.AuthIdentity.{AuthIdentity};
-ghost use Rattle.sspi_names.specs.Name.{Name, IsName, parse_name, new_name, inner_of, name_eq, equals_ignoring_case};
+ghost use Rattle.sspi_names.specs.Name.{Name, IsName, parse_name, new_name, inner_of, name_eq};
+ghost use Rattle.sspi_names.specs.Name.{equals_ignoring_case};
 ghost use Rattle.sspi_names.specs.Grammar.{IsSpelled, IsMixed, IsSameName};
 ghost use Rattle.sspi_names.specs.Identity.{IsIdentity, AreBuffers, buffers_of, identity_of};
 ghost use Rattle.sspi_names.specs.Same.{ComparesValues};
@@ -35,8 +38,10 @@ pub fn mixed_forms_are_refused()
 
 /// Each name that is made of texts is one that the grammar allows.
 pub fn made_names_are_allowed()
-    ensures parsed { (text : List ℕ) (n : Name) → parse_name text ≡ Some n → IsUtf8 text → IsName n }
-    ensures joined { (account domain : List ℕ) (n : Name) → new_name account domain ≡ Some n → IsUtf8 account → IsUtf8 domain → IsName n }
+    ensures parsed { (text : List ℕ) (n : Name) → parse_name text ≡ Some n → IsUtf8 text →
+        IsName n }
+    ensures joined { (account domain : List ℕ) (n : Name) → new_name account domain ≡ Some n →
+        IsUtf8 account → IsUtf8 domain → IsName n }
 {}
 
 /// The text that shows a name is read as that name, and is UTF-8.
@@ -45,13 +50,14 @@ pub fn shown_name_is_read()
     ensures text { (n : Name) → IsName n → IsUtf8 (inner_of n) }
 {}
 
-/// Equality but for case is an equivalence, and says that the forms are one and the texts differ in the case of
-/// ASCII letters alone. A user principal name never equals a down-level name.
+/// Equality but for case is an equivalence, and says that the forms are one and the texts differ in
+/// the case of ASCII letters alone. A user principal name never equals a down-level name.
 pub fn ignoring_case_is_an_equivalence()
     ensures equivalence { IsEquivalence equals_ignoring_case }
     ensures same { (a b : Name) → equals_ignoring_case a b ≡ true → IsSameName a b }
     ensures equal { (a b : Name) → IsSameName a b → equals_ignoring_case a b ≡ true }
-    ensures forms { (a b : Name) → a.format ≡ UserPrincipalName → b.format ≡ DownLevelLogonName → equals_ignoring_case a b ≡ false }
+    ensures forms { (a b : Name) → a.format ≡ UserPrincipalName → b.format ≡ DownLevelLogonName →
+        equals_ignoring_case a b ≡ false }
 {}
 
 /// `==` at names says that they are the same.
@@ -90,23 +96,28 @@ pub fn buffers_give_the_identity_back()
     ensures buffers { (i : AuthIdentity) → IsIdentity i → AreBuffers (buffers_of i) }
 {}
 
-/// A text has well-formed code units, which are that text; well-formed code units have a text, which has these
-/// code units.
+/// A text has well-formed code units, which are that text; well-formed code units have a text,
+/// which has these code units.
 pub fn texts_and_code_units()
-    ensures units { (text : List ℕ) → IsUtf8 text → IsUtf16 (units_of text) × (text_of (units_of text) ≡ text) }
-    ensures text { (units : List ℕ) → IsUtf16 units → IsUtf8 (text_of units) × (units_of (text_of units) ≡ units) }
+    ensures units { (text : List ℕ) → IsUtf8 text → IsUtf16 (units_of text) ×
+        (text_of (units_of text) ≡ text) }
+    ensures text { (units : List ℕ) → IsUtf16 units → IsUtf8 (text_of units) ×
+        (units_of (text_of units) ≡ units) }
 {}
 
 /// Code units of 16 bits are well-formed exactly where each surrogate has its partner.
 pub fn well_formed_is_paired()
     ensures paired { (units : List ℕ) → IsUtf16 units → has_unpaired_surrogate units ≡ false }
     ensures small { (units : List ℕ) → IsUtf16 units → All (λ u. u < 2 ^ 16) units }
-    ensures well_formed { (units : List ℕ) → All (λ u. u < 2 ^ 16) units → has_unpaired_surrogate units ≡ false → IsUtf16 units }
+    ensures well_formed { (units : List ℕ) → All (λ u. u < 2 ^ 16) units →
+        has_unpaired_surrogate units ≡ false → IsUtf16 units }
 {}
 
-/// The bytes of well-formed code units are read as these; what is read is well-formed, and has these bytes.
+/// The bytes of well-formed code units are read as these; what is read is well-formed, and has
+/// these bytes.
 pub fn code_units_and_bytes()
     ensures read { (units : List ℕ) → IsUtf16 units → decode_le (bytes_le units) ≡ Ok units }
-    ensures bytes { (bytes units : List ℕ) → ((i : ℕ) → slice_index bytes i < 256) → decode_le bytes ≡ Ok units
+    ensures bytes { (bytes units : List ℕ) → ((i : ℕ) → slice_index bytes i < 256) →
+        decode_le bytes ≡ Ok units
         → IsUtf16 units × (bytes_le units ≡ bytes) }
 {}

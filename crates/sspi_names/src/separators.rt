@@ -1,8 +1,10 @@
 //! Finds the separators of a user name.
 
-ghost use Rattle.std.specs.Prelude.{◌≡◌, ◌+◌, ◌<◌, false, take, drop, length, slice_index, MatchOption};
+ghost use Rattle.std.specs.Prelude.{◌≡◌, ◌+◌, ◌<◌, false, take, drop, length, slice_index};
+ghost use Rattle.std.specs.Prelude.{MatchOption};
 ghost use Rattle.sspi_names.specs.Places.{IsFirst, IsLast};
-ghost use Rattle.sspi_names.specs.Name.{at_sign, backslash, has_at_sign, has_backslash, has_separator};
+ghost use Rattle.sspi_names.specs.Name.{at_sign, backslash, has_at_sign, has_backslash};
+ghost use Rattle.sspi_names.specs.Name.{has_separator};
 
 /// Where the last `@` stands.
 #[tactic(auto, using(crate::proofs::Found::last_at_sign_found))]
@@ -15,7 +17,8 @@ pub fn last_at_sign(text: &str) -> Option<usize>
 /// Where the first `\` stands.
 #[tactic(auto, using(crate::proofs::Found::first_backslash_found))]
 pub fn first_backslash(text: &str) -> Option<usize>
-    ensures { MatchOption result (has_backslash text.now ≡ false) (λ at. IsFirst backslash text.now at) }
+    ensures { MatchOption result (has_backslash text.now ≡ false)
+        (λ at. IsFirst backslash text.now at) }
 {
     text.find('\\')
 }

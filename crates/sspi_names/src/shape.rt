@@ -20,9 +20,11 @@ impl Shape {
     ghost use Rattle.sspi_names.specs.Splits.{IsSplit};
     ghost use Rattle.sspi_names.specs.Places.{IsFirst};
 
-    /// The text that shows the name which `value` is, and its shape; none where the forms are mixed.
+    /// The text that shows the name which `value` is, and its shape; none where the forms are
+    /// mixed.
     pub(crate) fn split(value: &str) -> Option<(&str, Shape)>
-        ensures { MatchOption result (parse_name value.now ≡ None) (λ kept. IsSplit value.now kept.0.now kept.1) }
+        ensures { MatchOption result (parse_name value.now ≡ None)
+            (λ kept. IsSplit value.now kept.0.now kept.1) }
     {
         match (last_at_sign(value), first_backslash(value)) {
             (Some(_), Some(_)) => None,
@@ -36,7 +38,8 @@ impl Shape {
     fn split_domain(value: &str, at: usize) -> Option<(&str, Shape)>
         requires first { IsFirst backslash value.now at }
         requires unmixed { has_at_sign value.now ≡ false }
-        ensures { MatchOption result (parse_name value.now ≡ None) (λ kept. IsSplit value.now kept.0.now kept.1) }
+        ensures { MatchOption result (parse_name value.now ≡ None)
+            (λ kept. IsSplit value.now kept.0.now kept.1) }
     {
         let account = after(value, at);
         if contains_backslash(account) {

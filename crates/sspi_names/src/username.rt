@@ -52,7 +52,8 @@ impl Eq for Username {
 }
 
 impl Username {
-    ghost use Rattle.sspi_names.specs.Name.{inner_of, domain_of, down_level, equals_ignoring_case, has_separator, IsName};
+    ghost use Rattle.sspi_names.specs.Name.{inner_of, domain_of, down_level, equals_ignoring_case};
+    ghost use Rattle.sspi_names.specs.Name.{has_separator, IsName};
     ghost use Rattle.sspi_names.specs.Username.{name_at, IsHeld};
 
     /// The name whose text and shape these are.
@@ -83,8 +84,8 @@ impl Username {
         })
     }
 
-    /// The text that shows the name: of a UPN `account@domain`, of a down-level name `domain\account` (or, where it has no
-    /// domain, just the account).
+    /// The text that shows the name: of a UPN `account@domain`, of a down-level name
+    /// `domain\account` (or, where it has no domain, just the account).
     pub fn inner(&self) -> &str
         ensures text { result.now ≡ inner_of self.now }
         ensures name { IsName self.now }
@@ -139,7 +140,8 @@ impl Username {
         }
     }
 
-    /// Whether the names have the same form, and the same account and domain but for the case of ASCII letters.
+    /// Whether the names have the same form, and the same account and domain but for the case of
+    /// ASCII letters.
     #[tactic(auto, unfolding(crate::specs::Name::equals_ignoring_case))]
     pub fn eq_ignore_ascii_case(&self, other: &Username) -> bool
         ensures { result ≡ equals_ignoring_case self.now other.now }

@@ -1,6 +1,7 @@
 //! Well-formed texts of UTF-16.
 
-ghost use Rattle.std.specs.Prelude.{◌≡◌, ◌==◌, ◌≤◌, ◌∷◌, count_by, length, true, not, IfOk, IfSome, MatchOption, string_bytes};
+ghost use Rattle.std.specs.Prelude.{◌≡◌, ◌==◌, ◌≤◌, ◌∷◌, count_by, length, true, not, IfOk, IfSome};
+ghost use Rattle.std.specs.Prelude.{MatchOption, string_bytes};
 ghost use Rattle.std.specs.Char.Utf16.{has_unpaired_surrogate};
 ghost use Rattle.std.specs.Result.{is_ok};
 ghost use Rattle.sspi_names.specs.Utf16.{units_le};
@@ -48,7 +49,8 @@ impl Eq for Utf16Text {
 }
 
 impl Utf16Text {
-    ghost use Rattle.sspi_names.specs.Utf16.{units_of, text_of, bytes_le, decode_le, IsDecoded, IsUtf16};
+    ghost use Rattle.sspi_names.specs.Utf16.{units_of, text_of, bytes_le, decode_le, IsDecoded};
+    ghost use Rattle.sspi_names.specs.Utf16.{IsUtf16};
 
     /// The code units of a text.
     pub fn from_str(alloc: Global, s: &str) -> Result<Utf16Text, AllocError>
@@ -61,9 +63,9 @@ impl Utf16Text {
         Ok(Utf16Text { units })
     }
 
-    /// The text that the bytes are, each code unit as two bytes with the low one first.
-    /// `OddLength` comes for an odd number of bytes, else `UnpairedSurrogate` where the code units are not well-formed.
-    /// Memory is asked for only where the bytes are a text.
+    /// The text that the bytes are, each code unit as two bytes with the low one first. `OddLength`
+    /// comes for an odd number of bytes, else `UnpairedSurrogate` where the code units are not
+    /// well-formed. Memory is asked for only where the bytes are a text.
     pub fn from_bytes_le(alloc: Global, bytes: &[u8]) -> Result<Utf16Text, Utf16Error>
         ensures { IsDecoded result (decode_le bytes.now) }
     {
@@ -178,11 +180,13 @@ fn is_well_formed(bytes: &[u8]) -> bool
     true
 }
 
-/// What follows the character that begins with this unit; none where the unit is a surrogate without its partner.
+/// What follows the character that begins with this unit; none where the unit is a surrogate
+/// without its partner.
 fn after_char(unit: u16, others: &[u8]) -> Option<&[u8]>
     ensures shorter { IfSome result (λ after. length after.now ≤ length others.now) }
     ensures paired { MatchOption result (has_unpaired_surrogate (unit ∷ units_le others.now) ≡ true)
-        (λ after. has_unpaired_surrogate (unit ∷ units_le others.now) ≡ has_unpaired_surrogate (units_le after.now)) }
+        (λ after. has_unpaired_surrogate (unit ∷ units_le others.now) ≡ has_unpaired_surrogate
+        (units_le after.now)) }
 {
     if unit < 0xd800 || 0xe000 <= unit {
         return Some(others);

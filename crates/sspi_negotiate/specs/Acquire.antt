@@ -42,19 +42,25 @@ acquired_url Server v asked = None
 
 module _ {N K : Type 0} (n : Meaning Setting N) (k : Meaning Setting K) where
   -- the mechanism that is then selected acquires, and the buffers of the credentials are kept
-  pub record Acquires (s : Negotiation (NegotiatedProtocol N K)) (use_ : CredentialUse) (asked : Option Credentials)
-      (buffers : Option CredentialsBuffers) (s2 : Negotiation (NegotiatedProtocol N K)) : Type 0 where
-    pub allowed : is_outbound use_ && lacks (hand_of s.mech) asked ≡ false
-    pub mech : NegotiatedProtocol N K
-    pub taken : TakenBy (hand n k) (acquired_url s.role (values_of s) asked) s.kdcs s.computer s.mech mech
-    pub acquired : (hand n k).acquires mech use_ asked buffers s2.mech
-    pub kept : s2 ≡ record s { kept = option_map credentials_buffers_of asked; mech = s2.mech }
+  pub record Acquires (s : Negotiation (NegotiatedProtocol N K)) (use_ : CredentialUse)
+      (asked : Option Credentials)
+      (buffers : Option CredentialsBuffers) (s2 : Negotiation (NegotiatedProtocol N K)) : Type 0
+    where
+      pub allowed : is_outbound use_ && lacks (hand_of s.mech) asked ≡ false
+      pub mech : NegotiatedProtocol N K
+      pub taken : TakenBy (hand n k) (acquired_url s.role (values_of s) asked) s.kdcs s.computer
+          s.mech mech
+      pub acquired : (hand n k).acquires mech use_ asked buffers s2.mech
+      pub kept : s2 ≡ record s { kept = option_map credentials_buffers_of asked; mech = s2.mech }
 
-  abbrev pub RefusedBy : Bool → Negotiation (NegotiatedProtocol N K) → CredentialUse → Option Credentials → ErrorKind → Type 0
+  abbrev pub RefusedBy : Bool → Negotiation (NegotiatedProtocol N K) → CredentialUse →
+      Option Credentials → ErrorKind → Type 0
   RefusedBy true s use_ asked kind = kind ≡ NoCredentials
   RefusedBy false s use_ asked kind = (mech : NegotiatedProtocol N K)
       × TakenBy (hand n k) (acquired_url s.role (values_of s) asked) s.kdcs s.computer s.mech mech ×
       (hand n k).refuses mech (ToAcquire use_ asked) kind
 
-  abbrev pub RefusesToAcquire : Negotiation (NegotiatedProtocol N K) → CredentialUse → Option Credentials → ErrorKind → Type 0
-  RefusesToAcquire s use_ asked kind = RefusedBy (is_outbound use_ && lacks (hand_of s.mech) asked) s use_ asked kind
+  abbrev pub RefusesToAcquire : Negotiation (NegotiatedProtocol N K) → CredentialUse →
+      Option Credentials → ErrorKind → Type 0
+  RefusesToAcquire s use_ asked kind = RefusedBy (is_outbound use_ && lacks (hand_of s.mech) asked)
+      s use_ asked kind

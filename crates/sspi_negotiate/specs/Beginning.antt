@@ -1,4 +1,5 @@
--- What a client's first step leaves selected and of the packages where it is refused, out of memory included.
+-- What a client's first step leaves selected and of the packages where it is refused, out of memory
+-- included.
 use Rattle.std.specs.Prelude.{◌≡◌, ℕ, List, Option, Some, true, false}
 use Rattle.sspi_types.specs.declared.error.Error.{Error}
 use Rattle.sspi_mech.specs.declared.step.Answer.TheVariants.{Refused}
@@ -30,21 +31,28 @@ pub data FallsBy (Cause : Type 0) (old new : Values) : Type 0 where
 module _ {N K : Type 0} (c : Meaning Origin (NegotiatedProtocol N K)) where
   -- a Kerberos refuses a step with a kind after which NTLM takes its place
   abbrev pub Falls : NegotiatedProtocol N K → StepArgs → Type 0
-  Falls m args = (hand_of m ≡ Kerberos) × (error : Error) × (m2 : NegotiatedProtocol N K) × c.steps m args (Refused error) m2
+  Falls m args = (hand_of m ≡ Kerberos) × (error : Error) × (m2 : NegotiatedProtocol N K) ×
+      c.steps m args (Refused error) m2
       × (is_fallback error.error_type ≡ true)
 
   -- the same of a step that a KDC has replied to
   abbrev pub FallsResumed : NegotiatedProtocol N K → Reply → Type 0
-  FallsResumed m reply = (hand_of m ≡ Kerberos) × (error : Error) × (m2 : NegotiatedProtocol N K) × c.resumes m reply (Refused error) m2
+  FallsResumed m reply = (hand_of m ≡ Kerberos) × (error : Error) × (m2 : NegotiatedProtocol N K) ×
+      c.resumes m reply (Refused error) m2
       × (is_fallback error.error_type ≡ true)
 
-  -- What a client's refused first step leaves of the two: as they were, or Kerberos selected because of the URL of a KDC, or only
-  -- NTLM, because of the target's address or because the selected Kerberos refused the step so.
-  pub data MayBegin (ByAddress : Type 0) (url : Option (List ℕ)) (args : StepArgs) (old new : Negotiation (NegotiatedProtocol N K)) :
+  -- What a client's refused first step leaves of the two: as they were, or Kerberos selected
+  -- because of the URL of a KDC, or only NTLM, because of the target's address or because the
+  -- selected Kerberos refused the step so.
+  pub data MayBegin (ByAddress : Type 0) (url : Option (List ℕ)) (args : StepArgs)
+      (old new : Negotiation (NegotiatedProtocol N K)) :
       Type 0 where
     unchanged : SameHand (values_of old) (values_of new) → MayBegin ByAddress url args old new
-    by_url : (found : List ℕ) → url ≡ Some found → hand_of new.mech ≡ Kerberos → new.packages ≡ old.packages →
+    by_url : (found : List ℕ) → url ≡ Some found → hand_of new.mech ≡ Kerberos →
+        new.packages ≡ old.packages →
         MayBegin ByAddress url args old new
-    by_address : ByAddress → OnlyNtlm (values_of old) (values_of new) → MayBegin ByAddress url args old new
-    by_refusal : (held : NegotiatedProtocol N K) → TakenBy c url old.kdcs old.computer old.mech held → Falls held args →
+    by_address : ByAddress → OnlyNtlm (values_of old) (values_of new) →
+        MayBegin ByAddress url args old new
+    by_refusal : (held : NegotiatedProtocol N K) →
+        TakenBy c url old.kdcs old.computer old.mech held → Falls held args →
         OnlyNtlm (values_of old) (values_of new) → MayBegin ByAddress url args old new

@@ -1,5 +1,7 @@
--- What a server's choice of a mechanism is to a client: one that a step has taken stays (RFC 4178, section 4.2.2).
-use Rattle.std.specs.Prelude.{ℕ, List, ◌&&◌, Option, None, Some, option_and_then, option_map, Bool, true, false}
+-- What a server's choice of a mechanism is to a client: one that a step has taken stays (RFC 4178,
+-- section 4.2.2).
+use Rattle.std.specs.Prelude.{ℕ, List, ◌&&◌, Option, None, Some, option_and_then, option_map, Bool}
+use Rattle.std.specs.Prelude.{true, false}
 use Rattle.sspi_mech.specs.declared.step.Answer.{Answer}
 use Rattle.sspi_mech.specs.declared.step.Answer.TheVariants.{Done, Ask, Refused}
 use Rattle.sspi_mech.specs.Calls.{StepArgs}
@@ -11,7 +13,8 @@ use Rattle.sspi_tokens.specs.Reading.{targ_of}
 use Rattle.sspi_negotiate.specs.declared.protocol.Protocol.{Protocol}
 use Rattle.sspi_negotiate.specs.declared.protocol.Protocol.TheVariants.{Kerberos, Ntlm}
 use Rattle.sspi_negotiate.specs.declared.state.NegotiateState.{NegotiateState}
-use Rattle.sspi_negotiate.specs.declared.state.NegotiateState.TheVariants.{Initial, InProgress, VerifyMic, Ok}
+use Rattle.sspi_negotiate.specs.declared.state.NegotiateState.TheVariants.{Initial, InProgress}
+use Rattle.sspi_negotiate.specs.declared.state.NegotiateState.TheVariants.{VerifyMic, Ok}
 use Rattle.sspi_negotiate.specs.Client.{is_guest}
 use Rattle.sspi_negotiate.specs.Values.{Values}
 
@@ -41,7 +44,8 @@ is_ntlm_choice None = false
 is_ntlm_choice (Some Kerberos) = false
 is_ntlm_choice (Some Ntlm) = true
 
--- whether a choice can take a client's need of MICs away: one of NTLM, which may be used, for a guest
+-- whether a choice can take a client's need of MICs away: one of NTLM, which may be used, for a
+-- guest
 abbrev pub excuses_guest : Option Protocol → Values → StepArgs → Bool
 excuses_guest choice v args = is_ntlm_choice choice && v.packages.ntlm && is_guest args.handle
 

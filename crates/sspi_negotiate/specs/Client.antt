@@ -1,13 +1,18 @@
--- The client of a negotiation (RFC 4178, section 5; MS-SPNG 3.1.5), one definition for each row of its table.
-use Rattle.std.specs.Prelude.{ℕ, List, [], ◌&&◌, not, option_map, Option, None, Some, Bool, true, false, if◌then◌else◌}
+-- The client of a negotiation (RFC 4178, section 5; MS-SPNG 3.1.5), one definition for each row of
+-- its table.
+use Rattle.std.specs.Prelude.{ℕ, List, [], ◌&&◌, not, option_map, Option, None, Some, Bool, true}
+use Rattle.std.specs.Prelude.{false, if◌then◌else◌}
 use Rattle.sspi_types.specs.declared.error_kind.ErrorKind.{ErrorKind}
-use Rattle.sspi_types.specs.declared.error_kind.ErrorKind.TheVariants.{InvalidToken, OutOfSequence, InvalidParameter, InternalError}
+use Rattle.sspi_types.specs.declared.error_kind.ErrorKind.TheVariants.{InvalidToken, OutOfSequence}
+use Rattle.sspi_types.specs.declared.error_kind.ErrorKind.TheVariants.{InvalidParameter}
+use Rattle.sspi_types.specs.declared.error_kind.ErrorKind.TheVariants.{InternalError}
 use Rattle.sspi_types.specs.declared.security_status.SecurityStatus.{SecurityStatus}
 use Rattle.sspi_types.specs.declared.security_status.SecurityStatus.TheVariants as statuses
 use Rattle.sspi_names.specs.Identity.{password_buffers, buffers_of, identity_of}
 use Rattle.sspi_names.specs.Utf16.{text_of}
 use Rattle.sspi_names.specs.declared.credentials.CredentialsBuffers.{CredentialsBuffers}
-use Rattle.sspi_names.specs.declared.credentials.CredentialsBuffers.TheVariants.{AuthIdentity, Keytab}
+use Rattle.sspi_names.specs.declared.credentials.CredentialsBuffers.TheVariants.{AuthIdentity}
+use Rattle.sspi_names.specs.declared.credentials.CredentialsBuffers.TheVariants.{Keytab}
 use Rattle.sspi_names.specs.declared.identity.AuthIdentity.{AuthIdentity as Identity}
 use Rattle.sspi_names.specs.declared.identity.AuthIdentityBuffers.{AuthIdentityBuffers}
 use Rattle.sspi_mech.specs.declared.step.Reply.{Reply}
@@ -33,8 +38,10 @@ use Rattle.sspi_negotiate.specs.Hand.{InPlaceOfNtlm, in_place_of_kerberos, is_ke
 use Rattle.sspi_negotiate.specs.Pick.{offered}
 use Rattle.sspi_negotiate.specs.Plan.{Plan, Goes, Stops, Takes, Steps, Resumes}
 use Rattle.sspi_negotiate.specs.Rule.{rule_url, by_rule, ruled_values}
-use Rattle.sspi_negotiate.specs.Rows.{client_wants_mic, is_complete, is_guest_text, or_empty, written}
-use Rattle.sspi_negotiate.specs.Rows.{in_ntlm, verifies, completes, completes_signed, hands_mic, carries_on}
+use Rattle.sspi_negotiate.specs.Rows.{client_wants_mic, is_complete, is_guest_text, or_empty}
+use Rattle.sspi_negotiate.specs.Rows.{written}
+use Rattle.sspi_negotiate.specs.Rows.{in_ntlm, verifies, completes, completes_signed, hands_mic}
+use Rattle.sspi_negotiate.specs.Rows.{carries_on}
 use Rattle.sspi_negotiate.specs.Values.{Values, is_waiting}
 
 -- ---- the credentials of a step
@@ -46,7 +53,8 @@ passwords (Some (AuthIdentity buffers)) = Some (AuthIdentity buffers)
 passwords (Some (Keytab identity)) = None
 
 -- NTLM steps with the password that the client keeps, Kerberos with what the call hands it
-abbrev pub handle_for : Protocol → Option CredentialsBuffers → Option CredentialsBuffers → Option CredentialsBuffers
+abbrev pub handle_for : Protocol → Option CredentialsBuffers → Option CredentialsBuffers →
+    Option CredentialsBuffers
 handle_for protocols.Ntlm kept handle = passwords kept
 handle_for protocols.Kerberos kept handle = handle
 
@@ -72,8 +80,12 @@ first_step_of args = record {
 -- the mechanism made its first step: the client offers what it may use, with that step's token
 unfoldable pub offers : Values → List ℕ → Plan
 offers v token =
-    written (spelled_init (record { mech_types = Some (offered v.hand v.packages); mech_token = Some token })) v
-    (record v { state = states.InProgress; list = offered v.hand v.packages }) statuses.ContinueNeeded
+    written (spelled_init (record {
+      mech_types = Some (offered v.hand v.packages);
+      mech_token = Some token;
+    })) v
+    (record v { state = states.InProgress; list = offered v.hand v.packages })
+    statuses.ContinueNeeded
 
 abbrev pub has_begun : SecurityStatus → Bool
 has_begun statuses.Ok = true
@@ -104,27 +116,35 @@ steps_again v first =
 unfoldable pub falls_back : Values → FirstStep → Plan
 falls_back v first =
     Takes (in_place_of_kerberos v.computer)
-    (steps_again (record v { hand = protocols.Ntlm; packages = record v.packages { kerberos = false } }) first)
+    (steps_again (record v {
+      hand = protocols.Ntlm;
+      packages = record v.packages { kerberos = false };
+    }) first)
 
 -- the first step was refused: Kerberos gives way to NTLM after some kinds, where that may be used
 abbrev pub falls : Values → Values → FirstStep → ErrorKind → Plan
-falls w v first kind = if is_fallback kind && is_kerberos_hand v.hand && v.packages.ntlm then falls_back v first else Stops w kind
+falls w v first kind = if is_fallback kind && is_kerberos_hand v.hand && v.packages.ntlm
+    then falls_back v first else Stops w kind
 
 unfoldable pub first_step : FirstStep → Values → StepArgs → Plan
-first_step first v args = Steps (step_of v args) (record v { branch = Opening first }) (begun v) (falls v v first)
+first_step first v args = Steps (step_of v args) (record v { branch = Opening first }) (begun v)
+    (falls v v first)
 
 unfoldable pub at_initial : Values → StepArgs → Plan
-at_initial v args = first_step (first_step_of args) (record v { need = client_wants_mic args.requirements }) args
+at_initial v args = first_step (first_step_of args)
+    (record v { need = client_wants_mic args.requirements }) args
 
 -- ---- InProgress
 
 -- the negotiation is over; nothing is left to be sent where the server said that it is complete
 abbrev pub verified : Bool → Values → List ℕ → Plan
-verified true v token = Goes (record v { state = states.Ok }) (record { status = statuses.Ok; output = [] })
+verified true v token = Goes (record v { state = states.Ok })
+    (record { status = statuses.Ok; output = [] })
 verified false v token = completes_signed v token
 
 abbrev pub unprotected : Bool → Values → List ℕ → Plan
-unprotected true v token = Goes (record v { state = states.Ok }) (record { status = statuses.Ok; output = [] })
+unprotected true v token = Goes (record v { state = states.Ok })
+    (record { status = statuses.Ok; output = [] })
 unprotected false v token = completes v token v.need
 
 -- the authentication is over: by the need, and by the MIC of the server
@@ -153,7 +173,8 @@ stepped token v step =
 -- the selected mechanism takes the server's token, or nothing
 unfoldable pub answers : NegTokenTarg → Values → StepArgs → Plan
 answers token v args =
-    Steps (record (step_of v args) { input = or_empty token.response_token }) (record v { branch = Answering token })
+    Steps (record (step_of v args) { input = or_empty token.response_token })
+    (record v { branch = Answering token })
     (stepped token v) (λ kind. Stops v kind)
 
 abbrev pub without_ntlm : Values → Values
@@ -163,10 +184,12 @@ without_ntlm v = record v { packages = record v.packages { ntlm = false } }
 abbrev pub in_kerberos : Protocol → NegTokenTarg → Values → StepArgs → Plan
 in_kerberos protocols.Kerberos token v args = answers token v args
 in_kerberos protocols.Ntlm token v args =
-    Takes (InPlaceOfNtlm None v.kdcs v.computer) (answers token (record v { hand = protocols.Kerberos; need = true }) args)
+    Takes (InPlaceOfNtlm None v.kdcs v.computer)
+    (answers token (record v { hand = protocols.Kerberos; need = true }) args)
 
 unfoldable pub chooses_kerberos : NegTokenTarg → Values → StepArgs → Plan
-chooses_kerberos token v args = if v.packages.kerberos then in_kerberos v.hand token (without_ntlm v) args else Stops v InvalidToken
+chooses_kerberos token v args = if v.packages.kerberos
+    then in_kerberos v.hand token (without_ntlm v) args else Stops v InvalidToken
 
 -- a choice of NTLM: MICs are needed but for a guest
 unfoldable pub chooses_ntlm : NegTokenTarg → Values → StepArgs → Plan
@@ -199,10 +222,12 @@ at_progress (Some token) v args = chosen (option_map kind_of token.supported_mec
 
 abbrev pub last_mic : Option (List ℕ) → Values → Plan
 last_mic None v = Goes v (record { status = statuses.ContinueNeeded; output = [] })
-last_mic (Some mic) v = verifies mic v (Goes (record v { state = states.Ok }) (record { status = statuses.Ok; output = [] }))
+last_mic (Some mic) v = verifies mic v (Goes (record v { state = states.Ok })
+    (record { status = statuses.Ok; output = [] }))
 
 abbrev pub confirmed : NegTokenTarg → Values → Plan
-confirmed token v = if is_complete token.neg_result then last_mic token.mech_list_mic v else Stops v InvalidToken
+confirmed token v = if is_complete token.neg_result then last_mic token.mech_list_mic v
+    else Stops v InvalidToken
 
 abbrev pub at_verify_mic : Option NegTokenTarg → Values → Plan
 at_verify_mic None v = Stops v InvalidToken
@@ -225,7 +250,8 @@ ruled url v args = by_rule url v.kdcs v.computer (client_at v.state (ruled_value
 unfoldable pub keeps : Option Identity → Values → StepArgs → Plan
 keeps None v args = Stops v InvalidParameter
 keeps (Some identity) v args =
-    ruled (rule_url v identity.username) (record v { kept = Some (AuthIdentity (buffers_of identity)) }) args
+    ruled (rule_url v identity.username)
+    (record v { kept = Some (AuthIdentity (buffers_of identity)) }) args
 
 abbrev pub converts : Option AuthIdentityBuffers → Values → StepArgs → Plan
 converts None v args = client_at v.state v args
@@ -243,7 +269,10 @@ abbrev pub by_target : Bool → Values → StepArgs → Plan
 by_target ip v args =
     if ip && v.packages.ntlm
     then in_ntlm v.hand v.computer
-    (with_handle (record v { hand = protocols.Ntlm; packages = record v.packages { kerberos = false } }) args)
+    (with_handle (record v {
+      hand = protocols.Ntlm;
+      packages = record v.packages { kerberos = false };
+    }) args)
     else with_handle v args
 
 -- whether no step can be begun
@@ -256,18 +285,21 @@ is_closed Client states.Ok branch = true
 
 -- `ip` is whether the target is named by its IP address
 abbrev pub spnego_client : Bool → Values → StepArgs → Plan
-spnego_client ip v args = if is_closed v.role v.state v.branch then Stops v OutOfSequence else by_target ip v args
+spnego_client ip v args = if is_closed v.role v.state v.branch then Stops v OutOfSequence
+    else by_target ip v args
 
 -- ---- once a KDC has replied
 
 -- refused, the step still waits
 unfoldable pub resumes_opening : FirstStep → Values → Reply → Plan
 resumes_opening first v reply =
-    Resumes reply (record v { branch = Opening first }) (begun v) (falls (record v { branch = Opening first }) v first)
+    Resumes reply (record v { branch = Opening first }) (begun v)
+    (falls (record v { branch = Opening first }) v first)
 
 unfoldable pub resumes_answering : NegTokenTarg → Values → Reply → Plan
 resumes_answering token v reply =
-    Resumes reply (record v { branch = Answering token }) (stepped token v) (λ kind. Stops (record v { branch = Answering token }) kind)
+    Resumes reply (record v { branch = Answering token }) (stepped token v)
+    (λ kind. Stops (record v { branch = Answering token }) kind)
 
 abbrev pub resumed_at : Branch → Values → Reply → Plan
 resumed_at Idle v reply = Stops v OutOfSequence

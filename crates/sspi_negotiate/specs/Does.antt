@@ -29,27 +29,35 @@ abbrev pub told : Result Step Error → Answer
 told (Ok step) = Done step
 told (Err error) = Refused error
 
--- The plan is followed to its end, but for a refusal when out of memory. That breaks it off, and then too the selected mechanism is
--- the one from before, or what the first calls of the plan made of that.
-pub record Meets {M : Type 0} (c : Meaning Origin M) (p : Plan) (m : M) (r : Answer) (v2 : Values) (m2 : M) : Type 0 where
+-- The plan is followed to its end, but for a refusal when out of memory. That breaks it off, and
+-- then too the selected mechanism is the one from before, or what the first calls of the plan made
+-- of that.
+pub record Meets {M : Type 0} (c : Meaning Origin M) (p : Plan) (m : M) (r : Answer) (v2 : Values)
+    (m2 : M) : Type 0 where
   pub as_planned : UnlessMemory r (Follows c p m r v2 m2)
   pub reached : Reaches c p m r m2
 
 module _ {N K : Type 0} (n : Meaning Setting N) (k : Meaning Setting K) where
   -- the plan leads from the old state to the answer and the new state
-  abbrev pub Does : Plan → Negotiation (NegotiatedProtocol N K) → Answer → Negotiation (NegotiatedProtocol N K) → Type 0
+  abbrev pub Does : Plan → Negotiation (NegotiatedProtocol N K) → Answer →
+      Negotiation (NegotiatedProtocol N K) → Type 0
   Does p old r new = Meets (hand n k) p old.mech r (values_of new) new.mech
 
   -- what was sealed and opened is as before, or nothing was, by a mechanism that was just taken
-  abbrev pub StaysSilent : Negotiation (NegotiatedProtocol N K) → Negotiation (NegotiatedProtocol N K) → Type 0
-  StaysSilent old new = NeitherSealsNorOpens ((hand n k).counts old.mech) ((hand n k).counts new.mech)
+  abbrev pub StaysSilent : Negotiation (NegotiatedProtocol N K) →
+      Negotiation (NegotiatedProtocol N K) → Type 0
+  StaysSilent old new = NeitherSealsNorOpens ((hand n k).counts old.mech)
+      ((hand n k).counts new.mech)
 
   -- where no MIC was made or verified, none is
-  abbrev pub StaysUnmarked : Negotiation (NegotiatedProtocol N K) → Negotiation (NegotiatedProtocol N K) → Type 0
-  StaysUnmarked old new = HasNoMic ((hand n k).counts old.mech) → HasNoMic ((hand n k).counts new.mech)
+  abbrev pub StaysUnmarked : Negotiation (NegotiatedProtocol N K) →
+      Negotiation (NegotiatedProtocol N K) → Type 0
+  StaysUnmarked old new = HasNoMic ((hand n k).counts old.mech) →
+      HasNoMic ((hand n k).counts new.mech)
 
--- what a refused call leaves as it was, the step that waits included: all but the selected mechanism and the packages, which stay
--- in agreement, the kept credentials and the need, and the list that a server keeps
+-- what a refused call leaves as it was, the step that waits included: all but the selected
+-- mechanism and the packages, which stay in agreement, the kept credentials and the need, and the
+-- list that a server keeps
 pub record Stays (old new : Values) : Type 0 where
   pub role : new.role ≡ old.role
   pub state : new.state ≡ old.state
@@ -60,10 +68,12 @@ pub record Stays (old new : Values) : Type 0 where
   pub kdcs : new.kdcs ≡ old.kdcs
   pub branch : new.branch ≡ old.branch
 
--- what a refused resume leaves: the step waits on, and all is as it was, or it is over, and the rest stays as after other refusals
-pub data WaitsOn {N K : Type 0} (waiting over new : Negotiation (NegotiatedProtocol N K)) : Type 0 where
-  as_before : new ≡ waiting → WaitsOn waiting over new
-  no_longer : Stays (values_of over) (values_of new) → WaitsOn waiting over new
+-- what a refused resume leaves: the step waits on, and all is as it was, or it is over, and the
+-- rest stays as after other refusals
+pub data WaitsOn {N K : Type 0} (waiting over new : Negotiation (NegotiatedProtocol N K)) : Type 0
+  where
+    as_before : new ≡ waiting → WaitsOn waiting over new
+    no_longer : Stays (values_of over) (values_of new) → WaitsOn waiting over new
 
 -- the list of mechanisms, the selected mechanism, the kept credentials and the packages are as they
 -- were

@@ -1,5 +1,6 @@
 -- The selected mechanism, as one meaning: an NTLM of type N or a Kerberos of type K.
-use Rattle.std.specs.Prelude.{ℕ, ◌+◌, List, ◌⊎◌, Option, Some, filter, take, replicate, Bool, true, false}
+use Rattle.std.specs.Prelude.{ℕ, ◌+◌, List, ◌⊎◌, Option, Some, filter, take, replicate, Bool, true}
+use Rattle.std.specs.Prelude.{false}
 use mathlib.Core.Logic.{inl, inr}
 use Rattle.sspi_names.specs.declared.kdc_table.KdcEntry.{KdcEntry}
 use Rattle.sspi_mech.specs.Meaning.{Meaning}
@@ -13,24 +14,27 @@ use Rattle.sspi_negotiate.specs.declared.protocol.Protocol.TheVariants.{Kerberos
 use Rattle.sspi_negotiate.specs.declared.protocol_config.ProtocolConfig.{ProtocolConfig}
 use Rattle.sspi_negotiate.specs.declared.protocol_config.ProtocolConfig.TheVariants as configs
 
--- What a mechanism that is taken selected is made of: a configuration, or, in the place of an NTLM, a Kerberos with this URL,
--- these KDCs and this computer name.
+-- What a mechanism that is taken selected is made of: a configuration, or, in the place of an NTLM,
+-- a Kerberos with this URL, these KDCs and this computer name.
 pub data Origin : Type 0 where
   Configured : ProtocolConfig → Origin
   InPlaceOfNtlm : Option (List ℕ) → List KdcEntry → List ℕ → Origin
 
 -- NTLM that comes in for Kerberos: its challenge is eight zero bytes
 abbrev pub in_place_of_kerberos : List ℕ → Origin
-in_place_of_kerberos computer = Configured (configs.Ntlm (record { client_computer_name = Some computer; challenge = replicate 8 0 }))
+in_place_of_kerberos computer = Configured
+    (configs.Ntlm (record { client_computer_name = Some computer; challenge = replicate 8 0 }))
 
 -- Kerberos that comes in for NTLM
 abbrev pub kerberos_setting : Option (List ℕ) → List KdcEntry → List ℕ → Setting
-kerberos_setting url kdcs computer = OfKerberos (record { kdc_url = url; kdcs = kdcs; client_computer_name = computer })
+kerberos_setting url kdcs computer = OfKerberos
+    (record { kdc_url = url; kdcs = kdcs; client_computer_name = computer })
 
 abbrev pub configured : Origin → Setting ⊎ Setting
 configured (Configured (configs.Ntlm config)) = inl (OfNtlm config)
 configured (Configured (configs.Kerberos config)) = inr (OfKerberos config)
-configured (Configured (configs.KerberosServer config server)) = inr (OfKerberosServer config server)
+configured (Configured (configs.KerberosServer config server)) =
+    inr (OfKerberosServer config server)
 configured (InPlaceOfNtlm url kdcs computer) = inr (kerberos_setting url kdcs computer)
 
 abbrev pub as_sum : {N K : Type 0} → NegotiatedProtocol N K → N ⊎ K
@@ -42,7 +46,8 @@ of_sum (inl m) = hands.Ntlm m
 of_sum (inr m) = hands.Kerberos m
 
 -- NTLM takes the identities with a password, Kerberos the first identity
-abbrev pub hand : {N K : Type 0} → Meaning Setting N → Meaning Setting K → Meaning Origin (NegotiatedProtocol N K)
+abbrev pub hand : {N K : Type 0} → Meaning Setting N → Meaning Setting K →
+    Meaning Origin (NegotiatedProtocol N K)
 hand n k = seen configured as_sum of_sum (sum (taking (filter has_password) n) (taking (take 1) k))
 
 -- its name
@@ -59,7 +64,9 @@ abbrev pub is_ntlm_hand : Protocol → Bool
 is_ntlm_hand Kerberos = false
 is_ntlm_hand Ntlm = true
 
--- How often it may still ask a KDC. An NTLM may take the place of a Kerberos, and ask `requests` times in its turn.
-abbrev pub asks_left : {N K : Type 0} → ℕ → Meaning Setting N → Meaning Setting K → NegotiatedProtocol N K → ℕ
+-- How often it may still ask a KDC. An NTLM may take the place of a Kerberos, and ask `requests`
+-- times in its turn.
+abbrev pub asks_left : {N K : Type 0} → ℕ → Meaning Setting N → Meaning Setting K →
+    NegotiatedProtocol N K → ℕ
 asks_left requests n k (hands.Ntlm m) = n.left m
 asks_left requests n k (hands.Kerberos m) = k.left m + requests

@@ -29,13 +29,15 @@ user_of handle = option_and_then identity_of (passwords_of handle)
 abbrev pub user_url : Values → Option Identity → Option (List ℕ)
 user_url v user = option_and_then (λ identity. rule_url v identity.username) user
 
--- The selected mechanism is the one from before, or one that the step takes: the server's choice, NTLM because of the target's
--- address, or Kerberos because of the URL of a KDC.
-pub data MayHold (ByAddress : Type 0) (url : Option (List ℕ)) (choice : Option Protocol) (held new : Protocol) : Type 0 where
+-- The selected mechanism is the one from before, or one that the step takes: the server's choice,
+-- NTLM because of the target's address, or Kerberos because of the URL of a KDC.
+pub data MayHold (ByAddress : Type 0) (url : Option (List ℕ)) (choice : Option Protocol)
+    (held new : Protocol) : Type 0 where
   as_before : new ≡ held → MayHold ByAddress url choice held new
   as_chosen : choice ≡ Some new → MayHold ByAddress url choice held new
   as_addressed : ByAddress → new ≡ Ntlm → MayHold ByAddress url choice held new
-  as_ruled : (found : List ℕ) → url ≡ Some found → new ≡ Kerberos → MayHold ByAddress url choice held new
+  as_ruled : (found : List ℕ) → url ≡ Some found → new ≡ Kerberos →
+      MayHold ByAddress url choice held new
 
 -- The packages are those from before, or one is disabled: Kerberos because of the target's address,
 -- or the one beside the server's choice, which may be used.
@@ -58,7 +60,8 @@ MayHave ByAddress url choice old new =
 -- the kept credentials are those from before, or the user's
 pub data MayKeep (user : Option Identity) (kept new : Option CredentialsBuffers) : Type 0 where
   as_kept : new ≡ kept → MayKeep user kept new
-  as_handed : (identity : Identity) → user ≡ Some identity → new ≡ Some (AuthIdentity (buffers_of identity)) → MayKeep user kept new
+  as_handed : (identity : Identity) → user ≡ Some identity →
+      new ≡ Some (AuthIdentity (buffers_of identity)) → MayKeep user kept new
 
 -- the need of MICs is the one from before, or what the flags of the step say
 pub data MayNeed (flags : ClientRequestFlags) (need new : Bool) : Type 0 where

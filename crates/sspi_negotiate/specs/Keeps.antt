@@ -28,7 +28,8 @@ pub record HasList (v : Values) : Type 0 where
   pub made : is_opening v.branch ≡ false
 
 -- no package is enabled again, and the selected mechanism may be used
-pub record KeepsPackages (old : PackageListConfig) (held : Protocol) (new : PackageListConfig) (hand : Protocol) : Type 0 where
+pub record KeepsPackages (old : PackageListConfig) (held : Protocol) (new : PackageListConfig)
+    (hand : Protocol) : Type 0 where
   pub ntlm : new.ntlm ≡ true → old.ntlm ≡ true
   pub kerberos : new.kerberos ≡ true → old.kerberos ≡ true
   pub in_hand : may_use old held ≡ true → may_use new hand ≡ true

@@ -30,10 +30,10 @@ use Rattle.sspi_negotiate.specs.Server.{spnego_server}
 use Rattle.sspi_negotiate.specs.Target.{IsNamedByIp}
 use Rattle.sspi_negotiate.specs.Values.{Negotiation, values_of, is_waiting}
 
--- A step by a plan; before there is a list to protect it makes and verifies no MIC. Kept says what a refused one leaves, and
--- Protected what stays of the need of MICs; a refusal that asks no memory is told with its kind
--- (`Exact`). Of a step that out of memory breaks off the plan says what is left selected (`Meets`),
--- and the others hold of it too.
+-- A step by a plan; before there is a list to protect it makes and verifies no MIC. Kept says what
+-- a refused one leaves, and Protected what stays of the need of MICs; a refusal that asks no memory
+-- is told with its kind (`Exact`). Of a step that out of memory breaks off the plan says what is
+-- left selected (`Meets`), and the others hold of it too.
 pub record Moves {N K : Type 0} (n : Meaning Setting N) (k : Meaning Setting K)
     (IsFirstStep Kept Protected : Type 0)
     (refusal : Option ErrorKind) (p : Plan) (s : Negotiation (NegotiatedProtocol N K)) (r : Answer)
@@ -45,36 +45,45 @@ pub record Moves {N K : Type 0} (n : Meaning Setting N) (k : Meaning Setting K)
   pub protected : Protected
   pub exact : TellsKind refusal r
 
--- what a refused resume leaves; of a first step, NTLM takes the place of Kerberos only where that refuses the step so
-pub record ResumeStays {N K : Type 0} (n : Meaning Setting N) (k : Meaning Setting K) (s : Negotiation (NegotiatedProtocol N K))
+-- what a refused resume leaves; of a first step, NTLM takes the place of Kerberos only where that
+-- refuses the step so
+pub record ResumeStays {N K : Type 0} (n : Meaning Setting N) (k : Meaning Setting K)
+    (s : Negotiation (NegotiatedProtocol N K))
     (reply : Reply) (s2 : Negotiation (NegotiatedProtocol N K)) : Type 0 where
   pub waits : WaitsOn s (record s { branch = Idle }) s2
-  pub begun : is_opening s.branch ≡ true → FallsBy (FallsResumed (hand n k) s.mech reply) (values_of s) (values_of s2)
+  pub begun : is_opening s.branch ≡ true →
+      FallsBy (FallsResumed (hand n k) s.mech reply) (values_of s) (values_of s2)
 
--- a client's step, whose plan depends on whether the target is named by its IP address; behind the first one the need of MICs goes
--- only where the server chooses NTLM for a guest, and what is selected and the packages change only
--- as StaysHeld says; a first one that is refused leaves of the two what MayBegin says, and the need
--- of MICs stays there or is what the flags say
-pub record ClientMoves {N K : Type 0} (n : Meaning Setting N) (k : Meaning Setting K) (s : Negotiation (NegotiatedProtocol N K))
+-- a client's step, whose plan depends on whether the target is named by its IP address; behind the
+-- first one the need of MICs goes only where the server chooses NTLM for a guest, and what is
+-- selected and the packages change only as StaysHeld says; a first one that is refused leaves of
+-- the two what MayBegin says, and the need of MICs stays there or is what the flags say
+pub record ClientMoves {N K : Type 0} (n : Meaning Setting N) (k : Meaning Setting K)
+    (s : Negotiation (NegotiatedProtocol N K))
     (args : StepArgs) (r : Answer)
     (s2 : Negotiation (NegotiatedProtocol N K)) : Type 0 where
   pub ip : Bool
   pub ip_is : IsTrue ip ↔ IsNamedByIp args.target
   pub moves : Moves n k (s.state ≡ Initial) (Stays (values_of s) (values_of s2))
-      (s.state ≢ Initial → StaysNeeded (excuses_guest (chosen_at s.state args.input) (values_of s) args) (values_of s) (values_of s2))
+      (s.state ≢ Initial → StaysNeeded (excuses_guest (chosen_at s.state args.input) (values_of s)
+      args) (values_of s) (values_of s2))
       (client_refusal s.role s.state s.branch) (spnego_client ip (values_of s) args) s r s2
   pub held : s.state ≢ Initial → StaysHeld (values_of s) args (values_of s2)
   pub kept : MayKeep (user_of args.handle) s.kept s2.kept
   pub asked : s.state ≡ Initial → MayNeed args.requirements s.need s2.need
-  pub begun : s.state ≡ Initial → OnRefused r (MayBegin (hand n k) (IsNamedByIp args.target × (s.packages.ntlm ≡ true))
+  pub begun : s.state ≡ Initial →
+      OnRefused r (MayBegin (hand n k) (IsNamedByIp args.target × (s.packages.ntlm ≡ true))
       (user_url (values_of s) (user_of args.handle)) args s s2)
 
 -- a server's step, which leaves the packages and the kept credentials, and the need of MICs where
 -- it is refused; once it has read the list, it leaves that and the name of the mechanism that it
 -- picked, which lives on by its plan (`LivesOn`)
-pub record ServerMoves {N K : Type 0} (n : Meaning Setting N) (k : Meaning Setting K) (s : Negotiation (NegotiatedProtocol N K))
-    (args : AcceptArgs) (result : Result Step Error) (s2 : Negotiation (NegotiatedProtocol N K)) : Type 0 where
-  pub moves : Moves n k (s.state ≡ Initial) (Stays (values_of s) (values_of s2)) (OnErr result (s2.need ≡ s.need))
+pub record ServerMoves {N K : Type 0} (n : Meaning Setting N) (k : Meaning Setting K)
+    (s : Negotiation (NegotiatedProtocol N K))
+    (args : AcceptArgs) (result : Result Step Error)
+    (s2 : Negotiation (NegotiatedProtocol N K)) : Type 0 where
+  pub moves : Moves n k (s.state ≡ Initial) (Stays (values_of s) (values_of s2))
+      (OnErr result (s2.need ≡ s.need))
       (server_refusal s.role s.state args.input) (spnego_server (values_of s) args) s
       (told result) s2
   pub picked : s.state ≢ Initial → StaysPicked (values_of s) (values_of s2)
@@ -94,10 +103,12 @@ module _ {N K : Type 0} (requests : ℕ) (n : Meaning Setting N) (k : Meaning Se
     acquires = Acquires n k;
     steps = ClientMoves n k;
     resumes = λ s reply r s2.
-        Moves n k (is_answering s.branch ≡ false) (ResumeStays n k s reply s2) (StaysResumed (values_of s) (values_of s2))
+        Moves n k (is_answering s.branch ≡ false) (ResumeStays n k s reply s2)
+        (StaysResumed (values_of s) (values_of s2))
         (resumed_refusal s.branch) (spnego_resumed (values_of s) reply) s r s2;
     accepts = ServerMoves n k;
-    identifies = λ s identities s2. (hand n k).identifies s.mech identities s2.mech × (s2 ≡ record s { mech = s2.mech });
+    identifies = λ s identities s2. (hand n k).identifies s.mech identities s2.mech ×
+        (s2 ≡ record s { mech = s2.mech });
     names = λ s. (hand n k).names s.mech;
     keyed = λ s. (hand n k).keyed s.mech;
     session_key = λ s. (hand n k).session_key s.mech;

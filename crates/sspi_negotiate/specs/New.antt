@@ -1,5 +1,6 @@
 -- How the ends of a negotiation begin.
-use Rattle.std.specs.Prelude.{◌≡◌, List, [], None, Bool, true, false, Result, Ok, Err, if◌then◌else◌}
+use Rattle.std.specs.Prelude.{◌≡◌, List, [], None, Bool, true, false, Result, Ok, Err}
+use Rattle.std.specs.Prelude.{if◌then◌else◌}
 use Rattle.sspi_types.specs.declared.error_kind.ErrorKind.{ErrorKind}
 use Rattle.sspi_types.specs.declared.error_kind.ErrorKind.TheVariants.{NoCredentials, InternalError}
 use Rattle.sspi_types.specs.declared.error_kind.ErrorKind.TheVariants.{InsufficientMemory}
@@ -38,13 +39,17 @@ abbrev pub without_kerberos : NegotiateConfig → Bool → Result Origin ErrorKi
 without_kerberos config false = Err NoCredentials
 without_kerberos config true = Ok (in_place_of_kerberos config.client_computer_name)
 
-abbrev pub first_by : Role → NegotiateConfig → ProtocolConfig → PackageListConfig → Result Origin ErrorKind
+abbrev pub first_by : Role → NegotiateConfig → ProtocolConfig → PackageListConfig →
+    Result Origin ErrorKind
 first_by role config (configs.Ntlm ntlm) packages =
-    if packages.ntlm then Ok (Configured (configs.Ntlm ntlm)) else without_ntlm role config packages.kerberos
+    if packages.ntlm then Ok (Configured (configs.Ntlm ntlm))
+    else without_ntlm role config packages.kerberos
 first_by role config (configs.Kerberos kerberos) packages =
-    if packages.kerberos then Ok (Configured (configs.Kerberos kerberos)) else without_kerberos config packages.ntlm
+    if packages.kerberos then Ok (Configured (configs.Kerberos kerberos))
+    else without_kerberos config packages.ntlm
 first_by role config (configs.KerberosServer kerberos server) packages =
-    if packages.kerberos then Ok (Configured (configs.KerberosServer kerberos server)) else without_kerberos config packages.ntlm
+    if packages.kerberos then Ok (Configured (configs.KerberosServer kerberos server))
+    else without_kerberos config packages.ntlm
 
 -- the mechanism that is selected at first, or the kind of the refusal
 abbrev pub first_in_hand : Role → NegotiateConfig → Result Origin ErrorKind
@@ -80,8 +85,10 @@ fresh role config known m = record {
 }
 
 module _ {N K : Type 0} (n : Meaning Setting N) (k : Meaning Setting K) where
-  abbrev pub Begins : Role → NegotiateConfig → List AuthIdentity → Negotiation (NegotiatedProtocol N K) → Type 0
-  Begins role config known s = IsFirst (hand n k) (first_in_hand role config) s.mech × (s ≡ fresh role config known s.mech)
+  abbrev pub Begins : Role → NegotiateConfig → List AuthIdentity →
+      Negotiation (NegotiatedProtocol N K) → Type 0
+  Begins role config known s = IsFirst (hand n k) (first_in_hand role config) s.mech ×
+      (s ≡ fresh role config known s.mech)
 
   abbrev pub MadeOf : NegotiateSetting → Negotiation (NegotiatedProtocol N K) → Type 0
   MadeOf (ForClient config) s = Begins Client config [] s

@@ -23,21 +23,26 @@ unmarked (byte ∷ rest) = if byte == 33 then rest else byte ∷ rest
 
 -- whether a name is that of a package, in any mix of ASCII case
 unfoldable pub is_name_of : List ℕ → List ℕ → Bool
-is_name_of expected name = bytes_eq (map to_ascii_lowercase (unmarked name)) (map to_ascii_lowercase expected)
+is_name_of expected name = bytes_eq (map to_ascii_lowercase (unmarked name))
+    (map to_ascii_lowercase expected)
 
 -- whether the last name of a package allows it, where there is one
 abbrev pub last_word : List (List ℕ) → List ℕ → Option Bool
-last_word names expected = option_map (λ name. not (is_marked name)) (find (is_name_of expected) (reverse names))
+last_word names expected = option_map (λ name. not (is_marked name))
+    (find (is_name_of expected) (reverse names))
 
--- The last name of a package decides. A package without a name is allowed exactly where each name has the mark: one name
--- without it, whatever it names, leaves only what is named.
+-- The last name of a package decides. A package without a name is allowed exactly where each name
+-- has the mark: one name without it, whatever it names, leaves only what is named.
 abbrev pub allows : List (List ℕ) → List ℕ → Bool
 allows names expected = unwrap_or (last_word names expected) (list_all is_marked names)
 
 -- which packages a list allows; no list allows both
 abbrev pub packages_of : Option (List ℕ) → PackageListConfig
 packages_of None = record { ntlm = true; kerberos = true }
-packages_of (Some list) = record { ntlm = allows (names_of list) (codes "ntlm"); kerberos = allows (names_of list) (codes "kerberos") }
+packages_of (Some list) = record {
+  ntlm = allows (names_of list) (codes "ntlm");
+  kerberos = allows (names_of list) (codes "kerberos");
+}
 
 -- ---- the same list, one name after the other
 
@@ -48,9 +53,11 @@ applied name packages = record {
   kerberos = if is_name_of (codes "kerberos") name then not (is_marked name) else packages.kerberos;
 }
 
--- The first name without the mark disables both packages before it is applied. `chosen` says whether one came.
+-- The first name without the mark disables both packages before it is applied. `chosen` says
+-- whether one came.
 abbrev pub in_turn : Bool → PackageListConfig → List (List ℕ) → PackageListConfig
 in_turn chosen packages [] = packages
 in_turn chosen packages (name ∷ names) =
     in_turn (chosen || not (is_marked name))
-    (applied name (if chosen || is_marked name then packages else record { ntlm = false; kerberos = false })) names
+    (applied name (if chosen || is_marked name then packages
+    else record { ntlm = false; kerberos = false })) names

@@ -1,5 +1,6 @@
 -- Which of the mechanisms that a client offers its server picks (MS-SPNG 3.1.5).
-use Rattle.std.specs.Prelude.{ℕ, List, [], ◌∷◌, ◌&&◌, ◌++◌, position, Option, None, Some, Bool, true, false, if◌then◌else◌}
+use Rattle.std.specs.Prelude.{ℕ, List, [], ◌∷◌, ◌&&◌, ◌++◌, position, Option, None, Some, Bool}
+use Rattle.std.specs.Prelude.{true, false, if◌then◌else◌}
 use Rattle.sspi_tokens.specs.declared.oid.MechKind.{MechKind}
 use Rattle.sspi_tokens.specs.declared.oid.MechKind.TheVariants as kinds
 use Rattle.sspi_tokens.specs.Oids.{ms_krb5, krb5, ntlm_ssp, kind_of}
@@ -43,14 +44,17 @@ abbrev pub picked_or : Bool → Choice → List (List ℕ) → Option Picked →
 picked_or false choice list other = other
 picked_or true choice list other = found_or choice (place_of choice list) other
 
--- Kerberos under its identifier of Windows 2000, then under its own, each where it may be used and is selected; then NTLM, where
--- it may be used
+-- Kerberos under its identifier of Windows 2000, then under its own, each where it may be used and
+-- is selected; then NTLM, where it may be used
 abbrev pub pick : List (List ℕ) → PackageListConfig → Protocol → Option Picked
 pick list packages protocol =
     picked_or (packages.kerberos && is_kerberos_hand protocol) MsKerberos list
-    (picked_or (packages.kerberos && is_kerberos_hand protocol) Kerberos list (picked_or packages.ntlm Ntlm list None))
+    (picked_or (packages.kerberos && is_kerberos_hand protocol) Kerberos list
+    (picked_or packages.ntlm Ntlm list None))
 
--- what a client offers: Kerberos, under both identifiers, where it is selected, and NTLM where it may be used
+-- what a client offers: Kerberos, under both identifiers, where it is selected, and NTLM where it
+-- may be used
 abbrev pub offered : Protocol → PackageListConfig → List (List ℕ)
 offered protocol packages =
-    (if is_kerberos_hand protocol then ms_krb5 ∷ krb5 ∷ [] else []) ++ (if packages.ntlm then ntlm_ssp ∷ [] else [])
+    (if is_kerberos_hand protocol then ms_krb5 ∷ krb5 ∷ [] else []) ++
+    (if packages.ntlm then ntlm_ssp ∷ [] else [])

@@ -1,5 +1,6 @@
--- A step as a plan: what the selected mechanism is asked in turn, what is done with each answer, and how it ends.
--- The values beside a question are those that a refusal of it, or a request to a KDC, leaves.
+-- A step as a plan: what the selected mechanism is asked in turn, what is done with each answer,
+-- and how it ends. The values beside a question are those that a refusal of it, or a request to a
+-- KDC, leaves.
 use Rattle.std.specs.Prelude.{ℕ, List, Bool}
 use Rattle.sspi_types.specs.declared.error_kind.ErrorKind.{ErrorKind}
 use Rattle.sspi_names.specs.Name.{Name}

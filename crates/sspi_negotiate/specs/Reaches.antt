@@ -1,4 +1,5 @@
--- How far a step went by a plan, as the selected mechanism shows it, also where out of memory broke the step off.
+-- How far a step went by a plan, as the selected mechanism shows it, also where out of memory broke
+-- the step off.
 use Rattle.std.specs.Prelude.{◌≡◌, ◌⊎◌, List, ℕ, Some, Result, Ok, Err}
 use Rattle.sspi_types.specs.declared.error.Error.{Error}
 use Rattle.sspi_types.specs.declared.error_kind.ErrorKind.{ErrorKind}
@@ -9,10 +10,13 @@ use Rattle.sspi_mech.specs.declared.step.Step.{Step}
 use Rattle.sspi_mech.specs.Calls.{ToSign, ToVerify, one_signing, one_verification}
 use Rattle.sspi_mech.specs.Meaning.{Meaning}
 use Rattle.sspi_negotiate.specs.Hand.{Origin}
-use Rattle.sspi_negotiate.specs.Plan.{Plan, Goes, Stops, Takes, Steps, Resumes, Accepts, Pairs, Names, Identifies, Signs, Verifies}
+use Rattle.sspi_negotiate.specs.Plan.{Plan, Goes, Stops, Takes, Steps, Resumes, Accepts, Pairs}
+use Rattle.sspi_negotiate.specs.Plan.{Names, Identifies, Signs, Verifies}
 
--- Behind a client's step nothing more, or what follows its answer. A request to a KDC ends the step.
-abbrev pub Onwards : {M : Type 0} → Answer → (Step → Type 0) → (ErrorKind → Type 0) → Answer → M → M → Type 0
+-- Behind a client's step nothing more, or what follows its answer. A request to a KDC ends the
+-- step.
+abbrev pub Onwards : {M : Type 0} → Answer → (Step → Type 0) → (ErrorKind → Type 0) → Answer → M →
+    M → Type 0
 Onwards (Done step) go fall r m1 m2 = (m2 ≡ m1) ⊎ go step
 Onwards (Ask request) go fall r m1 m2 = (m2 ≡ m1) × (r ≡ Ask request)
 Onwards (Refused error) go fall r m1 m2 = (m2 ≡ m1) ⊎ fall error.error_type
@@ -36,11 +40,16 @@ module _ {M : Type 0} (c : Meaning Origin M) where
       × Accepted x (λ step. Moved (go step) m1 r m2) r m1 m2
   Moved (Pairs go) m r m2 = Moved (go (c.pairs m)) m r m2
   Moved (Names v go) m r m2 = (name : Name) × (c.names m ≡ Some name) × Moved (go name) m r m2
-  Moved (Identifies identities v p) m r m2 = (m1 : M) × c.identifies m identities m1 × ((m2 ≡ m1) ⊎ Moved p m1 r m2)
-  Moved (Signs text v go) m r m2 = (m1 : M) × (mic : List ℕ) × c.signs m1 (c.counts m).signings text mic
-      × (m1 ≡ c.counted m (one_signing (c.counts m))) × c.permits m (ToSign text) × ((m2 ≡ m1) ⊎ Moved (go mic) m1 r m2)
-  Moved (Verifies mic text v p) m r m2 = (m1 : M) × c.verifies m1 (c.counts m).verifications mic text
-      × (m1 ≡ c.counted m (one_verification (c.counts m))) × c.permits m (ToVerify mic text) × ((m2 ≡ m1) ⊎ Moved p m1 r m2)
+  Moved (Identifies identities v p) m r m2 = (m1 : M) × c.identifies m identities m1 ×
+      ((m2 ≡ m1) ⊎ Moved p m1 r m2)
+  Moved (Signs text v go) m r m2 = (m1 : M) × (mic : List ℕ) ×
+      c.signs m1 (c.counts m).signings text mic
+      × (m1 ≡ c.counted m (one_signing (c.counts m))) × c.permits m (ToSign text) ×
+      ((m2 ≡ m1) ⊎ Moved (go mic) m1 r m2)
+  Moved (Verifies mic text v p) m r m2 = (m1 : M) ×
+      c.verifies m1 (c.counts m).verifications mic text
+      × (m1 ≡ c.counted m (one_verification (c.counts m))) × c.permits m (ToVerify mic text) ×
+      ((m2 ≡ m1) ⊎ Moved p m1 r m2)
 
   -- m2 is m, or what the first calls of this plan made of it
   abbrev pub Reaches : Plan → M → Answer → M → Type 0

@@ -11,7 +11,8 @@ use Rattle.sspi_names.specs.Name.{same_text}
 use Rattle.sspi_names.specs.declared.credentials.Credentials.{Credentials}
 use Rattle.sspi_names.specs.declared.credentials.Credentials.TheVariants.{AuthIdentity}
 use Rattle.sspi_tokens.specs.declared.neg_result.NegResult.{NegResult}
-use Rattle.sspi_tokens.specs.declared.neg_result.NegResult.TheVariants.{AcceptComplete, AcceptIncomplete, Other}
+use Rattle.sspi_tokens.specs.declared.neg_result.NegResult.TheVariants.{AcceptComplete}
+use Rattle.sspi_tokens.specs.declared.neg_result.NegResult.TheVariants.{AcceptIncomplete, Other}
 use Rattle.sspi_tokens.specs.declared.neg_token_targ.NegTokenTarg.{NegTokenTarg}
 use Rattle.sspi_tokens.specs.Spelling.{spelled_list, spelled_targ}
 use Rattle.sspi_negotiate.specs.declared.protocol.Protocol.{Protocol}
@@ -25,7 +26,8 @@ use Rattle.sspi_negotiate.specs.Values.{Values}
 
 -- ---- flags, statuses and texts
 
--- whether a client asks for one of USE_SESSION_KEY and USE_DCE_STYLE, and a server for USE_DCE_STYLE
+-- whether a client asks for one of USE_SESSION_KEY and USE_DCE_STYLE, and a server for
+-- USE_DCE_STYLE
 abbrev pub client_wants_mic : ClientRequestFlags → Bool
 client_wants_mic flags = (bit_and flags.0 0x20 == 0x20) || (bit_and flags.0 0x200 == 0x200)
 
@@ -57,7 +59,12 @@ is_guest_text text = same_text text (codes "/GUEST")
 -- ---- tokens
 
 abbrev pub targ : NegResult → Option (List ℕ) → Option (List ℕ) → Option (List ℕ) → NegTokenTarg
-targ result mech token mic = record { neg_result = Some result; supported_mech = mech; response_token = token; mech_list_mic = mic }
+targ result mech token mic = record {
+  neg_result = Some result;
+  supported_mech = mech;
+  response_token = token;
+  mech_list_mic = mic;
+}
 
 -- a token that is empty is left out, and one that is left out is empty
 abbrev pub if_some : List ℕ → Option (List ℕ)
@@ -67,7 +74,8 @@ if_some (byte ∷ bytes) = Some (byte ∷ bytes)
 abbrev pub or_empty : Option (List ℕ) → List ℕ
 or_empty token = unwrap_or token []
 
--- The step ends with this text as its token. A token that is too long is not written, and leaves the values from before.
+-- The step ends with this text as its token. A token that is too long is not written, and leaves
+-- the values from before.
 abbrev pub written : Option (List ℕ) → Values → Values → SecurityStatus → Plan
 written None v v2 status = Stops v InternalError
 written (Some text) v v2 status = Goes v2 (record { status = status; output = text })
@@ -99,10 +107,12 @@ abbrev pub verifies : List ℕ → Values → Plan → Plan
 verifies mic v rest = verifies_text mic (spelled_list v.list) v rest
 
 abbrev pub identifies_among : List Credentials → Values → Plan → Plan
-identifies_among found v rest = if length found == 0 then Stops v NoCredentials else Identifies found v rest
+identifies_among found v rest = if length found == 0 then Stops v NoCredentials
+    else Identifies found v rest
 
 abbrev pub identifies : Values → Plan → Plan
-identifies v rest = Names v (λ name. identifies_among (map AuthIdentity (named name v.known)) v rest)
+identifies v rest = Names v (λ name. identifies_among (map AuthIdentity (named name v.known)) v
+    rest)
 
 -- a server has its peer's key only once the peer's identity is found among those that it knows
 abbrev pub checks : List ℕ → Values → Plan → Plan
@@ -112,12 +122,14 @@ checks mic v rest = identifies v (verifies mic v rest)
 
 -- the negotiation is over, without a MIC; whether MICs were needed is pinned with it
 unfoldable pub completes : Values → List ℕ → Bool → Plan
-completes v token need = writes (targ AcceptComplete None (if_some token) None) v (record v { need = need; state = states.Ok }) statuses.Ok
+completes v token need = writes (targ AcceptComplete None (if_some token) None) v
+    (record v { need = need; state = states.Ok }) statuses.Ok
 
 -- the same with the own MIC over the list
 unfoldable pub answers_signed : NegResult → NegotiateState → SecurityStatus → Values → List ℕ → Plan
 answers_signed result state status v token =
-    signs v (λ mic. writes (targ result None (if_some token) (Some mic)) v (record v { state = state }) status)
+    signs v (λ mic. writes (targ result None (if_some token) (Some mic)) v
+    (record v { state = state }) status)
 
 -- both MICs are made
 abbrev pub completes_signed : Values → List ℕ → Plan

@@ -16,7 +16,8 @@ url_for kdcs (Some domain) = url_of kdcs domain
 
 -- the URL for which Kerberos is taken, where NTLM is selected and Kerberos may be used
 abbrev pub rule_url : Values → Name → Option (List ℕ)
-rule_url v name = if is_ntlm_hand v.hand && v.packages.kerberos then url_for v.kdcs (domain_of name) else None
+rule_url v name = if is_ntlm_hand v.hand && v.packages.kerberos then url_for v.kdcs (domain_of name)
+    else None
 
 abbrev pub by_rule : Option (List ℕ) → List KdcEntry → List ℕ → Plan → Plan
 by_rule None kdcs computer rest = rest
@@ -27,6 +28,7 @@ ruled_values None v = v
 ruled_values (Some url) v = record v { hand = Kerberos }
 
 -- the mechanism that is then selected
-abbrev pub TakenBy : {M : Type 0} → Meaning Origin M → Option (List ℕ) → List KdcEntry → List ℕ → M → M → Type 0
+abbrev pub TakenBy : {M : Type 0} → Meaning Origin M → Option (List ℕ) → List KdcEntry → List ℕ →
+    M → M → Type 0
 TakenBy c None kdcs computer m m2 = m2 ≡ m
 TakenBy c (Some url) kdcs computer m m2 = c.made (InPlaceOfNtlm (Some url) kdcs computer) m2

@@ -1,11 +1,14 @@
--- The server of a negotiation (RFC 4178, section 5; MS-SPNG 3.1.5), one definition for each row of its table.
-use Rattle.std.specs.Prelude.{ℕ, List, [], ◌||◌, ◌==◌, Option, None, Some, Bool, true, false, if◌then◌else◌}
+-- The server of a negotiation (RFC 4178, section 5; MS-SPNG 3.1.5), one definition for each row of
+-- its table.
+use Rattle.std.specs.Prelude.{ℕ, List, [], ◌||◌, ◌==◌, Option, None, Some, Bool, true, false}
+use Rattle.std.specs.Prelude.{if◌then◌else◌}
 use Rattle.sspi_types.specs.declared.error_kind.ErrorKind.TheVariants.{InvalidToken, OutOfSequence}
 use Rattle.sspi_types.specs.declared.security_status.SecurityStatus.TheVariants as statuses
 use Rattle.sspi_names.specs.Name.{Name, inner_of}
 use Rattle.sspi_mech.specs.declared.step.Step.{Step}
 use Rattle.sspi_mech.specs.Calls.{AcceptArgs}
-use Rattle.sspi_tokens.specs.declared.neg_result.NegResult.TheVariants.{AcceptComplete, AcceptIncomplete}
+use Rattle.sspi_tokens.specs.declared.neg_result.NegResult.TheVariants.{AcceptComplete}
+use Rattle.sspi_tokens.specs.declared.neg_result.NegResult.TheVariants.{AcceptIncomplete}
 use Rattle.sspi_tokens.specs.declared.neg_token_init.NegTokenInit.{NegTokenInit}
 use Rattle.sspi_tokens.specs.declared.neg_token_targ.NegTokenTarg.{NegTokenTarg}
 use Rattle.sspi_tokens.specs.Reading.{init_of, targ_of}
@@ -20,8 +23,10 @@ use Rattle.sspi_negotiate.specs.declared.state.Role.TheVariants.{Client, Server}
 use Rattle.sspi_negotiate.specs.Hand.{is_ntlm_hand}
 use Rattle.sspi_negotiate.specs.Pick.{pick, oid_of}
 use Rattle.sspi_negotiate.specs.Plan.{Plan, Goes, Stops, Accepts, Pairs, Names}
-use Rattle.sspi_negotiate.specs.Rows.{server_wants_mic, is_over, is_complete, is_guest_text, targ, or_empty}
-use Rattle.sspi_negotiate.specs.Rows.{writes, in_ntlm, checks, completes, completes_signed, hands_mic, carries_on}
+use Rattle.sspi_negotiate.specs.Rows.{server_wants_mic, is_over, is_complete, is_guest_text, targ}
+use Rattle.sspi_negotiate.specs.Rows.{or_empty}
+use Rattle.sspi_negotiate.specs.Rows.{writes, in_ntlm, checks, completes, completes_signed}
+use Rattle.sspi_negotiate.specs.Rows.{hands_mic, carries_on}
 use Rattle.sspi_negotiate.specs.Values.{Values}
 
 -- ---- Initial
@@ -29,9 +34,11 @@ use Rattle.sspi_negotiate.specs.Values.{Values}
 -- the pick is told with this token, and the negotiation goes on
 abbrev pub goes_on_with : Picked → Option (List ℕ) → Bool → NegotiateState → Values → Plan
 goes_on_with p token need state v =
-    writes (targ AcceptIncomplete (Some (oid_of p.choice)) token None) v (record v { need = need; state = state }) statuses.ContinueNeeded
+    writes (targ AcceptIncomplete (Some (oid_of p.choice)) token None) v
+    (record v { need = need; state = state }) statuses.ContinueNeeded
 
--- the pick is not the mechanism that the client likes best: its token is dropped, and the list is to be protected
+-- the pick is not the mechanism that the client likes best: its token is dropped, and the list is
+-- to be protected
 unfoldable pub drops : Picked → Values → Plan
 drops p v = goes_on_with p None true states.InProgress v
 
@@ -54,16 +61,19 @@ ends_at_once p v step =
     (record v { need = false; state = states.Ok }) statuses.Ok
 
 abbrev pub opens : Picked → Values → Step → Bool → Plan
-opens p v step need = if is_over step.status then (if need then awaits_mic p v step else ends_at_once p v step) else goes_on p v need step
+opens p v step need = if is_over step.status
+    then (if need then awaits_mic p v step else ends_at_once p v step) else goes_on p v need step
 
--- whether MICs are needed where the client's choice stands; whether it authenticates user-to-user is known after the step
+-- whether MICs are needed where the client's choice stands; whether it authenticates user-to-user
+-- is known after the step
 abbrev pub needs_mic : Values → AcceptArgs → Bool → Bool
 needs_mic v args pairs = is_ntlm_hand v.hand || pairs || server_wants_mic args.requirements
 
 unfoldable pub first_token : Option (List ℕ) → Picked → Values → AcceptArgs → Plan
 first_token None p v args = Pairs (λ pairs. waits_for_token p v (needs_mic v args pairs))
 first_token (Some token) p v args =
-    Accepts (record args { input = token }) v (λ step. Pairs (λ pairs. opens p v step (needs_mic v args pairs)))
+    Accepts (record args { input = token }) v
+    (λ step. Pairs (λ pairs. opens p v step (needs_mic v args pairs)))
 
 unfoldable pub placed : Option (List ℕ) → Picked → Values → AcceptArgs → Plan
 placed token p v args = if p.index == 0 then first_token token p v args else drops p v
@@ -72,7 +82,8 @@ placed token p v args = if p.index == 0 then first_token token p v args else dro
 abbrev pub takes_pick : Choice → Option (List ℕ) → Picked → Values → AcceptArgs → Plan
 takes_pick choices.MsKerberos token p v args = placed token p v args
 takes_pick choices.Kerberos token p v args = placed token p v args
-takes_pick choices.Ntlm token p v args = in_ntlm v.hand v.computer (placed token p (record v { hand = protocols.Ntlm }) args)
+takes_pick choices.Ntlm token p v args = in_ntlm v.hand v.computer
+    (placed token p (record v { hand = protocols.Ntlm }) args)
 
 -- the list is kept
 unfoldable pub picks : Option Picked → List (List ℕ) → Option (List ℕ) → Values → AcceptArgs → Plan
@@ -89,9 +100,11 @@ at_initial (Some token) v args = reads_list token.mech_types token.mech_token v 
 
 -- ---- InProgress
 
--- Beside accept-completed a MIC may be missing. A guest needs none, and the need goes once the negotiation is over.
+-- Beside accept-completed a MIC may be missing. A guest needs none, and the need goes once the
+-- negotiation is over.
 abbrev pub excuses : Values → List ℕ → Name → Plan
-excuses v token name = if is_guest_text (inner_of name) then completes v token false else Stops v InvalidToken
+excuses v token name = if is_guest_text (inner_of name) then completes v token false
+    else Stops v InvalidToken
 
 unfoldable pub without_mic : Bool → Values → List ℕ → Plan
 without_mic true v token = Names v (λ name. excuses v token name)
@@ -111,13 +124,15 @@ accepted token v step =
 
 abbrev pub at_progress : Option NegTokenTarg → Values → AcceptArgs → Plan
 at_progress None v args = Stops v InvalidToken
-at_progress (Some token) v args = Accepts (record args { input = or_empty token.response_token }) v (λ step. accepted token v step)
+at_progress (Some token) v args = Accepts (record args { input = or_empty token.response_token }) v
+    (λ step. accepted token v step)
 
 -- ---- VerifyMic
 
 abbrev pub last_mic : Option (List ℕ) → Values → Plan
 last_mic None v = Stops v InvalidToken
-last_mic (Some mic) v = checks mic v (Goes (record v { state = states.Ok }) (record { status = statuses.Ok; output = [] }))
+last_mic (Some mic) v = checks mic v (Goes (record v { state = states.Ok })
+    (record { status = statuses.Ok; output = [] }))
 
 abbrev pub at_verify_mic : Option NegTokenTarg → Values → Plan
 at_verify_mic None v = Stops v InvalidToken

@@ -1,9 +1,11 @@
 -- A text that is encoded.
 use Rattle.std.specs.Prelude.{◌≡◌, ℕ, List, Option, None, Some, Result, Ok, Err}
 use Rattle.sspi_types.specs.declared.error.Error.{Error}
-use Rattle.sspi_types.specs.declared.error_kind.ErrorKind.TheVariants.{InternalError, InsufficientMemory}
+use Rattle.sspi_types.specs.declared.error_kind.ErrorKind.TheVariants.{InternalError}
+use Rattle.sspi_types.specs.declared.error_kind.ErrorKind.TheVariants.{InsufficientMemory}
 
--- exactly this text, or `InternalError` where there is none; out of memory may come in place of a text
+-- exactly this text, or `InternalError` where there is none; out of memory may come in place of a
+-- text
 abbrev pub IsSpelled : Option (List ℕ) → Result (List ℕ) Error → Type 0
 IsSpelled (Some text) (Ok bytes) = bytes ≡ text
 IsSpelled (Some text) (Err error) = error.error_type ≡ InsufficientMemory

@@ -1,5 +1,5 @@
--- That the peer's MIC over a list of mechanisms was verified, that the peer is a guest, who needs none, or that no MIC was made or
--- verified at all.
+-- That the peer's MIC over a list of mechanisms was verified, that the peer is a guest, who needs
+-- none, or that no MIC was made or verified at all.
 use Rattle.std.specs.Prelude.{◌≡◌, ℕ, List, Some, true}
 use Rattle.sspi_names.specs.Name.{Name, inner_of}
 use Rattle.sspi_mech.specs.Calls.{Counts, ToVerify, one_signing, one_verification}
@@ -18,18 +18,19 @@ pub data Leaves {M : Type 0} (c : Meaning Origin M) (m left : M) : Type 0 where
   as_it_was : left ≡ m → Leaves c m left
   having_signed : left ≡ c.counted m (one_signing (c.counts m)) → Leaves c m left
 
--- The mechanism that is left selected took this MIC of the peer as its next one and found it to be that of the list; since then
--- it has made at most its own.
-pub record IsVerified {M : Type 0} (c : Meaning Origin M) (list : List (List ℕ)) (left : M) : Type 0 where
-  pub before : M
-  pub after : M
-  pub mic : List ℕ
-  pub text : List ℕ
-  pub spelled : spelled_list list ≡ Some text
-  pub permitted : c.permits before (ToVerify mic text)
-  pub verified : c.verifies after (c.counts before).verifications mic text
-  pub counted : after ≡ c.counted before (one_verification (c.counts before))
-  pub last : Leaves c after left
+-- The mechanism that is left selected took this MIC of the peer as its next one and found it to be
+-- that of the list; since then it has made at most its own.
+pub record IsVerified {M : Type 0} (c : Meaning Origin M) (list : List (List ℕ)) (left : M) : Type 0
+  where
+    pub before : M
+    pub after : M
+    pub mic : List ℕ
+    pub text : List ℕ
+    pub spelled : spelled_list list ≡ Some text
+    pub permitted : c.permits before (ToVerify mic text)
+    pub verified : c.verifies after (c.counts before).verifications mic text
+    pub counted : after ≡ c.counted before (one_verification (c.counts before))
+    pub last : Leaves c after left
 
 -- the peer is a guest by the name that the mechanism gives of it
 pub record IsGuestNamed {M : Type 0} (c : Meaning Origin M) (m : M) : Type 0 where

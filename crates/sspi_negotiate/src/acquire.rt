@@ -1,11 +1,13 @@
 //! AcquireCredentialsHandle of a negotiation.
 
-ghost use Rattle.std.specs.Prelude.{◌≡◌, ◌≢◌, ◌&&◌, None, Some, true, false, IfOk, IfErr, IfSome, OnOk, OnErr};
+ghost use Rattle.std.specs.Prelude.{◌≡◌, ◌≢◌, ◌&&◌, None, Some, true, false, IfOk, IfErr, IfSome};
+ghost use Rattle.std.specs.Prelude.{OnOk, OnErr};
 ghost use Rattle.std.specs.Prelude.{option_map, option_copied};
 ghost use Rattle.sspi_names.specs.Identity.{credentials_buffers_of};
 ghost use Rattle.std.specs.Option.{unwrap_or};
 ghost use Rattle.sspi_mech.specs.Calls.{ToAcquire, IsUnused, no_counts};
-ghost use Rattle.sspi_negotiate.specs.Acquire.{is_outbound, lacks, acquired_url, Acquires, RefusesToAcquire};
+ghost use Rattle.sspi_negotiate.specs.Acquire.{is_outbound, lacks, acquired_url, Acquires};
+ghost use Rattle.sspi_negotiate.specs.Acquire.{RefusesToAcquire};
 ghost use Rattle.sspi_negotiate.specs.Does.{StaysSilent};
 ghost use Rattle.sspi_negotiate.specs.Hand.{hand, hand_of};
 ghost use Rattle.sspi_negotiate.specs.Rule.{TakenBy};
@@ -42,7 +44,8 @@ fn buffers_of(
     alloc: Global,
     auth_data: Option<&Credentials>,
 ) -> Result<Option<CredentialsBuffers>, AllocError>
-    ensures { IfOk result (λ kept. kept ≡ option_map credentials_buffers_of (option_copied auth_data.entry)) }
+    ensures { IfOk result (λ kept. kept ≡ option_map credentials_buffers_of
+        (option_copied auth_data.entry)) }
 {
     match auth_data {
         None => Ok(None),
@@ -52,18 +55,21 @@ fn buffers_of(
 
 impl<N, K> Negotiate<N, K> {
     fn lacks(&self, credential_use: CredentialUse, auth_data: Option<&Credentials>) -> bool
-        ensures { result ≡ (is_outbound credential_use && lacks (hand_of self.now.mech) (option_copied auth_data.entry)) }
+        ensures { result ≡ (is_outbound credential_use &&
+            lacks (hand_of self.now.mech) (option_copied auth_data.entry)) }
     {
         is_outbound(credential_use) && lacks(self.protocol.protocol(), auth_data)
     }
 }
 
 impl<N: Mechanism, K: Mechanism> Negotiate<N, K> {
-    /// The buffers for the handle of these credentials (AcquireCredentialsHandle), which are kept; none without credentials.
+    /// The buffers for the handle of these credentials (AcquireCredentialsHandle), which are kept;
+    /// none without credentials.
     ///
-    /// `NoCredentials` for an outbound use without credentials, or with a keytab while NTLM is selected. Else a client in whose
-    /// table a KDC serves the domain of the name takes Kerberos, where that may be used, and the selected mechanism answers.
-    /// A refusal leaves all as it was, the selected mechanism too.
+    /// `NoCredentials` for an outbound use without credentials, or with a keytab while NTLM is
+    /// selected. Else a client in whose table a KDC serves the domain of the name takes Kerberos,
+    /// where that may be used, and the selected mechanism answers. A refusal leaves all as it was,
+    /// the selected mechanism too.
     pub fn acquire_credentials_handle(
         &mut self,
         credential_use: CredentialUse,
@@ -71,7 +77,8 @@ impl<N: Mechanism, K: Mechanism> Negotiate<N, K> {
     ) -> Result<Option<CredentialsBuffers>, Error>
         // What was acquired, and what a refusal leaves.
         ensures acquired { IfOk result (λ buffers.
-            Acquires N.meaning K.meaning self.old credential_use (option_copied auth_data.entry) buffers self.new) }
+            Acquires N.meaning K.meaning self.old credential_use (option_copied auth_data.entry)
+            buffers self.new) }
         ensures err { OnErr result (self.new ≡ self.old) }
         // What holds of every answer.
         ensures unused { StaysSilent N.meaning K.meaning self.old self.new }
@@ -81,7 +88,8 @@ impl<N: Mechanism, K: Mechanism> Negotiate<N, K> {
             && lacks (hand_of self.old.mech) (option_copied auth_data.entry) ≡ true →
             IfErr result (λ error. error.error_type ≡ ErrorKind.NoCredentials) }
         ensures cause { IfErr result (λ error. error.error_type ≢ ErrorKind.InsufficientMemory →
-            RefusesToAcquire N.meaning K.meaning self.old credential_use (option_copied auth_data.entry) error.error_type) }
+            RefusesToAcquire N.meaning K.meaning self.old credential_use
+            (option_copied auth_data.entry) error.error_type) }
     {
         if self.lacks(credential_use, auth_data) {
             return Err(Error::new(ErrorKind::NoCredentials, Reason::NoAuthData));
@@ -93,7 +101,8 @@ impl<N: Mechanism, K: Mechanism> Negotiate<N, K> {
         }
     }
 
-    /// A Kerberos for the place of NTLM on a client, where a KDC serves the domain of a name with a password.
+    /// A Kerberos for the place of NTLM on a client, where a KDC serves the domain of a name with a
+    /// password.
     fn kerberos_for(
         &self,
         auth_data: Option<&Credentials>,
@@ -102,7 +111,8 @@ impl<N: Mechanism, K: Mechanism> Negotiate<N, K> {
         ensures taken { IfOk result (λ kerberos. TakenBy (hand N.meaning K.meaning)
             (acquired_url self.now.role (values_of self.now) (option_copied auth_data.entry))
             self.now.kdcs self.now.computer self.now.mech (unwrap_or kerberos self.now.mech)) }
-        ensures fresh { IfOk result (λ kerberos. IfSome kerberos (λ it. (hand N.meaning K.meaning).counts it ≡ no_counts)) }
+        ensures fresh { IfOk result (λ kerberos. IfSome kerberos
+            (λ it. (hand N.meaning K.meaning).counts it ≡ no_counts)) }
         // What a refusal says.
         ensures err { IfErr result (λ error. error.error_type ≡ ErrorKind.InsufficientMemory) }
     {
@@ -128,14 +138,20 @@ impl<N: Mechanism, K: Mechanism> Negotiate<N, K> {
     ) -> Result<Option<CredentialsBuffers>, Refusal>
         // What was acquired, and what a refusal leaves.
         ensures acquired { IfOk result (λ buffers.
-            (hand N.meaning K.meaning).acquires mechanism credential_use (option_copied auth_data.entry) buffers self.new.mech) }
-        ensures kept { OnOk result (self.new ≡ record self.old { kept = kept; mech = self.new.mech }) }
+            (hand N.meaning K.meaning).acquires mechanism credential_use
+            (option_copied auth_data.entry) buffers self.new.mech) }
+        ensures kept { OnOk result (self.new ≡ record self.old {
+          kept = kept;
+          mech = self.new.mech;
+        }) }
         ensures err { OnErr result (self.new ≡ self.old) }
         // What holds of every answer.
-        ensures unused { IsUnused ((hand N.meaning K.meaning).counts mechanism) → StaysSilent N.meaning K.meaning self.old self.new }
+        ensures unused { IsUnused ((hand N.meaning K.meaning).counts mechanism) →
+            StaysSilent N.meaning K.meaning self.old self.new }
         // What a refusal says.
         ensures cause { IfErr result (λ error. error.error_type ≢ ErrorKind.InsufficientMemory →
-            (hand N.meaning K.meaning).refuses mechanism (ToAcquire credential_use (option_copied auth_data.entry)) error.error_type) }
+            (hand N.meaning K.meaning).refuses mechanism
+            (ToAcquire credential_use (option_copied auth_data.entry)) error.error_type) }
     {
         let mut mechanism = mechanism;
         let buffers = mechanism.acquire(credential_use, auth_data)?;
@@ -152,14 +168,19 @@ impl<N: Mechanism, K: Mechanism> Negotiate<N, K> {
     ) -> Result<Option<CredentialsBuffers>, Refusal>
         // What was acquired, and what a refusal leaves.
         ensures acquired { IfOk result (λ buffers.
-            (hand N.meaning K.meaning).acquires self.old.mech credential_use (option_copied auth_data.entry) buffers self.new.mech) }
-        ensures kept { OnOk result (self.new ≡ record self.old { kept = kept; mech = self.new.mech }) }
+            (hand N.meaning K.meaning).acquires self.old.mech credential_use
+            (option_copied auth_data.entry) buffers self.new.mech) }
+        ensures kept { OnOk result (self.new ≡ record self.old {
+          kept = kept;
+          mech = self.new.mech;
+        }) }
         ensures err { OnErr result (self.new ≡ self.old) }
         // What holds of every answer.
         ensures unused { StaysSilent N.meaning K.meaning self.old self.new }
         // What a refusal says.
         ensures cause { IfErr result (λ error. error.error_type ≢ ErrorKind.InsufficientMemory →
-            (hand N.meaning K.meaning).refuses self.old.mech (ToAcquire credential_use (option_copied auth_data.entry)) error.error_type) }
+            (hand N.meaning K.meaning).refuses self.old.mech
+            (ToAcquire credential_use (option_copied auth_data.entry)) error.error_type) }
     {
         let buffers = self.protocol.acquire(credential_use, auth_data)?;
         self.auth_identity = kept;

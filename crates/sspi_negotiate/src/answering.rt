@@ -1,6 +1,7 @@
 //! A client's later steps: it reads the server's token and answers it.
 
-ghost use Rattle.std.specs.Prelude.{◌≡◌, ◌<◌, [], false, true, not, None, Some, IfErr, OnErr, option_and_then, option_map, option_copied};
+ghost use Rattle.std.specs.Prelude.{◌≡◌, ◌<◌, [], false, true, not, None, Some, IfErr, OnErr};
+ghost use Rattle.std.specs.Prelude.{option_and_then, option_map, option_copied};
 ghost use Rattle.sspi_mech.specs.Answers.{answer_of, IfRefused, OnAsk};
 ghost use Rattle.sspi_mech.specs.Calls.{step_args};
 ghost use Rattle.sspi_mech.specs.Context.{NeitherSealsNorOpens};
@@ -14,9 +15,11 @@ ghost use Rattle.sspi_negotiate.specs.declared.state.NegotiateState.TheVariants 
 ghost use Rattle.sspi_types.specs.declared.security_status.SecurityStatus.TheVariants as statuses;
 ghost use Rattle.sspi_negotiate.specs.Beginning.{FallsBy, FallsResumed};
 ghost use Rattle.sspi_negotiate.specs.Choices.{protocol_of, chosen_in, excuses_guest};
-ghost use Rattle.sspi_negotiate.specs.Client.{at_progress, chosen, chooses_kerberos, chooses_ntlm, in_kerberos, answers, without_ntlm};
+ghost use Rattle.sspi_negotiate.specs.Client.{at_progress, chosen, chooses_kerberos, chooses_ntlm};
+ghost use Rattle.sspi_negotiate.specs.Client.{in_kerberos, answers, without_ntlm};
 ghost use Rattle.sspi_negotiate.specs.Client.{stepped, settles, verified, at_verify_mic, confirmed};
-ghost use Rattle.sspi_negotiate.specs.Client.{last_mic, handle_for, resumes_answering, spnego_resumed};
+ghost use Rattle.sspi_negotiate.specs.Client.{last_mic, handle_for, resumes_answering};
+ghost use Rattle.sspi_negotiate.specs.Client.{spnego_resumed};
 ghost use Rattle.sspi_negotiate.specs.Does.{Does, Stays, StaysNeeded, StaysPicked, StaysResumed};
 ghost use Rattle.sspi_negotiate.specs.Does.{StaysUnmarked, StaysSilent, WaitsOn, told};
 ghost use Rattle.sspi_negotiate.specs.Exact.{TellsKind, kind_if, unread_refusal, choice_refusal};
@@ -59,10 +62,12 @@ fn answer_with<N: Mechanism, K: Mechanism>(
     token: &Option<Bytes>,
 ) -> Answer
     ensures step { (hand N.meaning K.meaning).steps protocol.old (record (step_args args.now) {
-      handle = handle_for (hand_of protocol.old) kept.now (option_copied args.now.credentials_handle);
+      handle = handle_for (hand_of protocol.old) kept.now
+          (option_copied args.now.credentials_handle);
       input = or_empty token.now;
     }) result protocol.new }
-    ensures unused { let c = hand N.meaning K.meaning in NeitherSealsNorOpens (c.counts protocol.old) (c.counts protocol.new) }
+    ensures unused { let c = hand N.meaning K.meaning in NeitherSealsNorOpens
+        (c.counts protocol.old) (c.counts protocol.new) }
     ensures named { hand_of protocol.new ≡ hand_of protocol.old }
     ensures codeless { IfRefused result (λ error. error.nstatus ≡ None) }
 {
@@ -88,14 +93,16 @@ impl<N: Mechanism, K: Mechanism> Negotiate<N, K> {
         &mut self,
         args: &InitializeSecurityContext<'_>,
     ) -> Result<Progressing, Refusal>
-        ensures step { Does N.meaning K.meaning (at_progress (targ_of args.now.input.now) (values_of self.old) (step_args args.now))
+        ensures step { Does N.meaning K.meaning
+            (at_progress (targ_of args.now.input.now) (values_of self.old) (step_args args.now))
             self.old (answer_of (answered result)) self.new }
         ensures stays { OnErr result (Stays (values_of self.old) (values_of self.new)) }
         ensures exact { TellsKind (unread_refusal (targ_of args.now.input.now))
             (answer_of (answered result)) }
         ensures unused { StaysSilent N.meaning K.meaning self.old self.new }
         ensures need { let v = values_of self.old in
-            StaysNeeded (excuses_guest (chosen_in args.now.input.now) v (step_args args.now)) v (values_of self.new) }
+            StaysNeeded (excuses_guest (chosen_in args.now.input.now) v (step_args args.now)) v
+            (values_of self.new) }
         ensures held { MayHave ⊥ None (chosen_in args.now.input.now) (values_of self.old)
             (values_of self.new) }
         ensures kept { self.new.kept ≡ self.old.kept }
@@ -110,7 +117,8 @@ impl<N: Mechanism, K: Mechanism> Negotiate<N, K> {
         args: &InitializeSecurityContext<'_>,
     ) -> Result<Progressing, Refusal>
         ensures step { Does N.meaning K.meaning
-            (chosen (option_map kind_of token.supported_mech) token (values_of self.old) (step_args args.now))
+            (chosen (option_map kind_of token.supported_mech) token (values_of self.old)
+            (step_args args.now))
             self.old (answer_of (answered result)) self.new }
         ensures stays { OnErr result (Stays (values_of self.old) (values_of self.new)) }
         ensures exact { TellsKind
@@ -118,7 +126,8 @@ impl<N: Mechanism, K: Mechanism> Negotiate<N, K> {
             (answer_of (answered result)) }
         ensures unused { StaysSilent N.meaning K.meaning self.old self.new }
         ensures need { let v = values_of self.old in StaysNeeded
-            (excuses_guest (option_and_then protocol_of (option_map kind_of token.supported_mech)) v (step_args args.now))
+            (excuses_guest (option_and_then protocol_of (option_map kind_of token.supported_mech)) v
+            (step_args args.now))
             v (values_of self.new) }
         ensures held { MayHave ⊥ None
             (option_and_then protocol_of (option_map kind_of token.supported_mech))
@@ -140,7 +149,8 @@ impl<N: Mechanism, K: Mechanism> Negotiate<N, K> {
         token: NegTokenTarg,
         args: &InitializeSecurityContext<'_>,
     ) -> Result<Progressing, Refusal>
-        ensures step { Does N.meaning K.meaning (chooses_kerberos token (values_of self.old) (step_args args.now))
+        ensures step { Does N.meaning K.meaning
+            (chooses_kerberos token (values_of self.old) (step_args args.now))
             self.old (answer_of (answered result)) self.new }
         ensures stays { OnErr result (Stays (values_of self.old) (values_of self.new)) }
         ensures exact { TellsKind (choice_refusal (Some kinds.Kerberos) self.old.packages)
@@ -164,9 +174,11 @@ impl<N: Mechanism, K: Mechanism> Negotiate<N, K> {
         args: &InitializeSecurityContext<'_>,
     ) -> Result<Progressing, Refusal>
         ensures step { Does N.meaning K.meaning
-            (in_kerberos (hand_of self.old.mech) token (without_ntlm (values_of self.old)) (step_args args.now))
+            (in_kerberos (hand_of self.old.mech) token (without_ntlm (values_of self.old))
+            (step_args args.now))
             self.old (answer_of (answered result)) self.new }
-        ensures stays { self.old.packages.kerberos ≡ true → OnErr result (Stays (values_of self.old) (values_of self.new)) }
+        ensures stays { self.old.packages.kerberos ≡ true →
+            OnErr result (Stays (values_of self.old) (values_of self.new)) }
         ensures unused { StaysSilent N.meaning K.meaning self.old self.new }
         ensures need { StaysNeeded false (values_of self.old) (values_of self.new) }
         ensures held { self.old.packages.kerberos ≡ true → MayHave ⊥ None (Some protocols.Kerberos)
@@ -179,16 +191,19 @@ impl<N: Mechanism, K: Mechanism> Negotiate<N, K> {
         }
     }
 
-    /// NTLM is disabled only once Kerberos is selected, so that out of memory leaves no disabled mechanism selected.
+    /// NTLM is disabled only once Kerberos is selected, so that out of memory leaves no disabled
+    /// mechanism selected.
     fn replace_ntlm(
         &mut self,
         token: NegTokenTarg,
         args: &InitializeSecurityContext<'_>,
     ) -> Result<Progressing, Refusal>
         ensures step { Does N.meaning K.meaning
-            (in_kerberos protocols.Ntlm token (without_ntlm (values_of self.old)) (step_args args.now))
+            (in_kerberos protocols.Ntlm token (without_ntlm (values_of self.old))
+            (step_args args.now))
             self.old (answer_of (answered result)) self.new }
-        ensures stays { self.old.packages.kerberos ≡ true → OnErr result (Stays (values_of self.old) (values_of self.new)) }
+        ensures stays { self.old.packages.kerberos ≡ true →
+            OnErr result (Stays (values_of self.old) (values_of self.new)) }
         ensures unused { StaysSilent N.meaning K.meaning self.old self.new }
         ensures need { StaysNeeded false (values_of self.old) (values_of self.new) }
         ensures held { self.old.packages.kerberos ≡ true → MayHave ⊥ None (Some protocols.Kerberos)
@@ -210,9 +225,11 @@ impl<N: Mechanism, K: Mechanism> Negotiate<N, K> {
         token: NegTokenTarg,
         args: &InitializeSecurityContext<'_>,
     ) -> Result<Progressing, Refusal>
-        ensures step { Does N.meaning K.meaning (answers token (without_ntlm (values_of self.old)) (step_args args.now))
+        ensures step { Does N.meaning K.meaning
+            (answers token (without_ntlm (values_of self.old)) (step_args args.now))
             self.old (answer_of (answered result)) self.new }
-        ensures stays { hand_of self.old.mech ≡ protocols.Kerberos → OnErr result (Stays (values_of self.old) (values_of self.new)) }
+        ensures stays { hand_of self.old.mech ≡ protocols.Kerberos →
+            OnErr result (Stays (values_of self.old) (values_of self.new)) }
         ensures unused { StaysSilent N.meaning K.meaning self.old self.new }
         ensures need { StaysNeeded false (values_of self.old) (values_of self.new) }
         ensures picked { StaysPicked (without_ntlm (values_of self.old)) (values_of self.new) }
@@ -227,14 +244,16 @@ impl<N: Mechanism, K: Mechanism> Negotiate<N, K> {
         token: NegTokenTarg,
         args: &InitializeSecurityContext<'_>,
     ) -> Result<Progressing, Refusal>
-        ensures step { Does N.meaning K.meaning (chooses_ntlm token (values_of self.old) (step_args args.now))
+        ensures step { Does N.meaning K.meaning
+            (chooses_ntlm token (values_of self.old) (step_args args.now))
             self.old (answer_of (answered result)) self.new }
         ensures stays { OnErr result (Stays (values_of self.old) (values_of self.new)) }
         ensures exact { TellsKind (choice_refusal (Some kinds.Ntlm) self.old.packages)
             (answer_of (answered result)) }
         ensures unused { StaysSilent N.meaning K.meaning self.old self.new }
         ensures need { let v = values_of self.old in
-            StaysNeeded (excuses_guest (Some protocols.Ntlm) v (step_args args.now)) v (values_of self.new) }
+            StaysNeeded (excuses_guest (Some protocols.Ntlm) v (step_args args.now)) v
+            (values_of self.new) }
         ensures held { MayHave ⊥ None (Some protocols.Ntlm) (values_of self.old)
             (values_of self.new) }
         ensures kept { self.new.kept ≡ self.old.kept }
@@ -254,13 +273,15 @@ impl<N: Mechanism, K: Mechanism> Negotiate<N, K> {
         guest: bool,
     ) -> Result<Progressing, Refusal>
         ensures step { Does N.meaning K.meaning
-            (in_ntlm (hand_of self.old.mech) self.old.computer (answers token (record (values_of self.old) {
+            (in_ntlm (hand_of self.old.mech) self.old.computer
+            (answers token (record (values_of self.old) {
               hand = protocols.Ntlm;
               packages = record self.old.packages { kerberos = false };
               need = not guest;
             }) (step_args args.now)))
             self.old (answer_of (answered result)) self.new }
-        ensures stays { self.old.packages.ntlm ≡ true → OnErr result (Stays (values_of self.old) (values_of self.new)) }
+        ensures stays { self.old.packages.ntlm ≡ true →
+            OnErr result (Stays (values_of self.old) (values_of self.new)) }
         ensures unused { StaysSilent N.meaning K.meaning self.old self.new }
         ensures need { StaysNeeded guest (values_of self.old) (values_of self.new) }
         ensures held { self.old.packages.ntlm ≡ true → MayHave ⊥ None (Some protocols.Ntlm)
@@ -283,11 +304,14 @@ impl<N: Mechanism, K: Mechanism> Negotiate<N, K> {
               need = not guest;
             }) (step_args args.now))
             self.old (answer_of (answered result)) self.new }
-        ensures stays { hand_of self.old.mech ≡ protocols.Ntlm → OnErr result (Stays (values_of self.old) (values_of self.new)) }
+        ensures stays { hand_of self.old.mech ≡ protocols.Ntlm →
+            OnErr result (Stays (values_of self.old) (values_of self.new)) }
         ensures unused { StaysSilent N.meaning K.meaning self.old self.new }
         ensures need { StaysNeeded guest (values_of self.old) (values_of self.new) }
         ensures picked { StaysPicked
-            (record (values_of self.old) { packages = record self.old.packages { kerberos = false } })
+            (record (values_of self.old) {
+              packages = record self.old.packages { kerberos = false };
+            })
             (values_of self.new) }
     {
         self.packages.kerberos = false;
@@ -301,7 +325,8 @@ impl<N: Mechanism, K: Mechanism> Negotiate<N, K> {
         token: NegTokenTarg,
         args: &InitializeSecurityContext<'_>,
     ) -> Result<Progressing, Refusal>
-        ensures step { Does N.meaning K.meaning (answers token (values_of self.old) (step_args args.now))
+        ensures step { Does N.meaning K.meaning
+            (answers token (values_of self.old) (step_args args.now))
             self.old (answer_of (answered result)) self.new }
         ensures stays { OnErr result (Stays (values_of self.old) (values_of self.new)) }
         ensures unused { StaysSilent N.meaning K.meaning self.old self.new }
@@ -320,7 +345,8 @@ impl<N: Mechanism, K: Mechanism> Negotiate<N, K> {
     }
 
     fn conclude(&mut self, token: NegTokenTarg, step: Step) -> Result<Step, Refusal>
-        ensures step { Does N.meaning K.meaning (stepped token (values_of self.old) step) self.old (told (answered result)) self.new }
+        ensures step { Does N.meaning K.meaning (stepped token (values_of self.old) step) self.old
+            (told (answered result)) self.new }
         ensures stays { OnErr result (Stays (values_of self.old) (values_of self.new)) }
         ensures unused { StaysSilent N.meaning K.meaning self.old self.new }
         ensures need { self.new.need ≡ self.old.need }
@@ -341,7 +367,8 @@ impl<N: Mechanism, K: Mechanism> Negotiate<N, K> {
         complete: bool,
         token: Bytes,
     ) -> Result<Step, Refusal>
-        ensures step { Does N.meaning K.meaning (settles need mic complete (values_of self.old) token) self.old
+        ensures step { Does N.meaning K.meaning
+            (settles need mic complete (values_of self.old) token) self.old
             (told (answered result)) self.new }
         ensures stays { OnErr result (Stays (values_of self.old) (values_of self.new)) }
         ensures unused { StaysSilent N.meaning K.meaning self.old self.new }
@@ -361,7 +388,8 @@ impl<N: Mechanism, K: Mechanism> Negotiate<N, K> {
     }
 
     fn verify_and_end(&mut self, mic: &Bytes, complete: bool, token: Bytes) -> Result<Step, Refusal>
-        ensures step { Does N.meaning K.meaning (verifies mic.now (values_of self.old) (verified complete (values_of self.old) token))
+        ensures step { Does N.meaning K.meaning
+            (verifies mic.now (values_of self.old) (verified complete (values_of self.old) token))
             self.old (told (answered result)) self.new }
         ensures stays { OnErr result (Stays (values_of self.old) (values_of self.new)) }
         ensures unused { StaysSilent N.meaning K.meaning self.old self.new }
@@ -373,7 +401,8 @@ impl<N: Mechanism, K: Mechanism> Negotiate<N, K> {
     }
 
     fn end_verified(&mut self, complete: bool, token: Bytes) -> Result<Step, Refusal>
-        ensures step { Does N.meaning K.meaning (verified complete (values_of self.old) token) self.old (told (answered result)) self.new }
+        ensures step { Does N.meaning K.meaning (verified complete (values_of self.old) token)
+            self.old (told (answered result)) self.new }
         ensures stays { OnErr result (Stays (values_of self.old) (values_of self.new)) }
         ensures unused { StaysSilent N.meaning K.meaning self.old self.new }
         ensures need { self.new.need ≡ self.old.need }
@@ -390,7 +419,8 @@ impl<N: Mechanism, K: Mechanism> Negotiate<N, K> {
         &mut self,
         args: &InitializeSecurityContext<'_>,
     ) -> Result<Progressing, Refusal>
-        ensures step { Does N.meaning K.meaning (at_verify_mic (targ_of args.now.input.now) (values_of self.old))
+        ensures step { Does N.meaning K.meaning
+            (at_verify_mic (targ_of args.now.input.now) (values_of self.old))
             self.old (answer_of (answered result)) self.new }
         ensures stays { OnErr result (Stays (values_of self.old) (values_of self.new)) }
         ensures exact { TellsKind (unread_refusal (targ_of args.now.input.now))
@@ -404,7 +434,8 @@ impl<N: Mechanism, K: Mechanism> Negotiate<N, K> {
     }
 
     fn confirm_by(&mut self, token: NegTokenTarg) -> Result<Step, Refusal>
-        ensures step { Does N.meaning K.meaning (confirmed token (values_of self.old)) self.old (told (answered result)) self.new }
+        ensures step { Does N.meaning K.meaning (confirmed token (values_of self.old)) self.old
+            (told (answered result)) self.new }
         ensures stays { OnErr result (Stays (values_of self.old) (values_of self.new)) }
         ensures exact { TellsKind
             (kind_if (not (is_complete token.neg_result)) ErrorKind.InvalidToken)
@@ -421,7 +452,8 @@ impl<N: Mechanism, K: Mechanism> Negotiate<N, K> {
     }
 
     fn confirm_mic(&mut self, mic: Option<Bytes>) -> Result<Step, Refusal>
-        ensures step { Does N.meaning K.meaning (last_mic mic (values_of self.old)) self.old (told (answered result)) self.new }
+        ensures step { Does N.meaning K.meaning (last_mic mic (values_of self.old)) self.old
+            (told (answered result)) self.new }
         ensures stays { OnErr result (Stays (values_of self.old) (values_of self.new)) }
         ensures unused { StaysSilent N.meaning K.meaning self.old self.new }
         ensures need { self.new.need ≡ self.old.need }
@@ -439,7 +471,8 @@ impl<N: Mechanism, K: Mechanism> Negotiate<N, K> {
     fn verify_last(&mut self, mic: &Bytes) -> Result<Step, Refusal>
         ensures step { Does N.meaning K.meaning
             (verifies mic.now (values_of self.old)
-            (Goes (record (values_of self.old) { state = states.Ok }) (record { status = statuses.Ok; output = [] })))
+            (Goes (record (values_of self.old) { state = states.Ok })
+            (record { status = statuses.Ok; output = [] })))
             self.old (told (answered result)) self.new }
         ensures stays { OnErr result (Stays (values_of self.old) (values_of self.new)) }
         ensures unused { StaysSilent N.meaning K.meaning self.old self.new }
@@ -452,11 +485,14 @@ impl<N: Mechanism, K: Mechanism> Negotiate<N, K> {
 
     /// Goes on with the step that was suspended, once it is known what came of its request.
     ///
-    /// `OutOfSequence` where no step is suspended. Else as the step that was suspended. Refused by its mechanism, it stays
-    /// suspended, but where NTLM took the place of Kerberos; refused for what comes after the mechanism's step, it does not.
+    /// `OutOfSequence` where no step is suspended. Else as the step that was suspended. Refused by
+    /// its mechanism, it stays suspended, but where NTLM took the place of Kerberos; refused for
+    /// what comes after the mechanism's step, it does not.
     pub fn resume(&mut self, reply: &Reply) -> Result<Progressing, Error>
-        ensures step { (negotiate N.REQUESTS N.meaning K.meaning).resumes self.old reply.now (answer_of result) self.new }
-        ensures falls { let c = negotiate N.REQUESTS N.meaning K.meaning in OnAsk (answer_of result) (c.left self.new < c.left self.old) }
+        ensures step { (negotiate N.REQUESTS N.meaning K.meaning).resumes self.old reply.now
+            (answer_of result) self.new }
+        ensures falls { let c = negotiate N.REQUESTS N.meaning K.meaning in OnAsk (answer_of result)
+            (c.left self.new < c.left self.old) }
         ensures codeless { IfErr result (λ error. error.nstatus ≡ None) }
     {
         Ok(self.resume_at(reply)?)
@@ -464,16 +500,19 @@ impl<N: Mechanism, K: Mechanism> Negotiate<N, K> {
 
     fn resume_at(&mut self, reply: &Reply) -> Result<Progressing, Refusal>
         // The step, and what a refused one leaves.
-        ensures step { Does N.meaning K.meaning (spnego_resumed (values_of self.old) reply.now) self.old
+        ensures step { Does N.meaning K.meaning (spnego_resumed (values_of self.old) reply.now)
+            self.old
             (answer_of (answered result)) self.new }
-        ensures stays { OnErr result (WaitsOn self.old (record self.old { branch = branches.Idle }) self.new) }
+        ensures stays { OnErr result (WaitsOn self.old (record self.old { branch = branches.Idle })
+            self.new) }
         ensures held { is_opening self.old.branch ≡ true →
             OnErr result (FallsBy (FallsResumed (hand N.meaning K.meaning) self.old.mech reply.now)
             (values_of self.old) (values_of self.new)) }
         ensures exact { TellsKind (resumed_refusal self.old.branch) (answer_of (answered result)) }
         // What every answer keeps.
         ensures unused { StaysSilent N.meaning K.meaning self.old self.new }
-        ensures first { is_answering self.old.branch ≡ false → StaysUnmarked N.meaning K.meaning self.old self.new }
+        ensures first { is_answering self.old.branch ≡ false →
+            StaysUnmarked N.meaning K.meaning self.old self.new }
         ensures resumed { StaysResumed (values_of self.old) (values_of self.new) }
     {
         match mem::replace(&mut self.branch, Branch::Idle) {
@@ -489,9 +528,11 @@ impl<N: Mechanism, K: Mechanism> Negotiate<N, K> {
         token: NegTokenTarg,
         reply: &Reply,
     ) -> Result<Progressing, Refusal>
-        ensures step { Does N.meaning K.meaning (resumes_answering token (values_of self.old) reply.now)
+        ensures step { Does N.meaning K.meaning
+            (resumes_answering token (values_of self.old) reply.now)
             self.old (answer_of (answered result)) self.new }
-        ensures stays { OnErr result (WaitsOn (record self.old { branch = branches.Answering token }) self.old self.new) }
+        ensures stays { OnErr result
+            (WaitsOn (record self.old { branch = branches.Answering token }) self.old self.new) }
         ensures unused { StaysSilent N.meaning K.meaning self.old self.new }
         ensures need { self.new.need ≡ self.old.need }
         ensures picked { StaysPicked (values_of self.old) (values_of self.new) }

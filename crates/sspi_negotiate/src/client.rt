@@ -9,7 +9,8 @@ ghost use Rattle.sspi_mech.specs.Answered.{answered};
 ghost use Rattle.sspi_negotiate.specs.declared.protocol.Protocol.TheVariants as protocols;
 ghost use Rattle.sspi_negotiate.specs.Beginning.{FallsBy, Falls, MayBegin, OnlyNtlm};
 ghost use Rattle.sspi_negotiate.specs.Choices.{chosen_at, excuses_guest};
-ghost use Rattle.sspi_negotiate.specs.Client.{is_closed, spnego_client, by_target, with_handle, keeps, ruled, client_at};
+ghost use Rattle.sspi_negotiate.specs.Client.{is_closed, spnego_client, by_target, with_handle};
+ghost use Rattle.sspi_negotiate.specs.Client.{keeps, ruled, client_at};
 ghost use Rattle.sspi_negotiate.specs.Does.{Does, Stays, StaysNeeded, StaysSilent};
 ghost use Rattle.sspi_negotiate.specs.Exact.{TellsKind, client_refusal};
 ghost use Rattle.sspi_negotiate.specs.Hand.{hand, hand_of};
@@ -47,16 +48,19 @@ impl<N, K> Negotiate<N, K> {
 impl<N: Mechanism, K: Mechanism> Negotiate<N, K> {
     /// A client's step (InitializeSecurityContext). Suspended, it goes on by `resume`.
     ///
-    /// `OutOfSequence` while a step waits for a KDC, on a server, and after the end. `InvalidParameter` where the handle's user
-    /// and domain mix the forms of a name. `InvalidToken` for a token of another form than the state has, for a choice of a
-    /// mechanism that may not be used, and in the last state for one that is not complete. `InternalError` where the first step
-    /// of the mechanism ends with another status than `Ok` and `ContinueNeeded`, and for a token past `sspi_ber::MAX_CONTENT`,
-    /// 1048576 octets. Else the refusals of the selected mechanism, which may have moved then; the state stays.
+    /// `OutOfSequence` while a step waits for a KDC, on a server, and after the end.
+    /// `InvalidParameter` where the handle's user and domain mix the forms of a name.
+    /// `InvalidToken` for a token of another form than the state has, for a choice of a mechanism
+    /// that may not be used, and in the last state for one that is not complete. `InternalError`
+    /// where the first step of the mechanism ends with another status than `Ok` and
+    /// `ContinueNeeded`, and for a token past `sspi_ber::MAX_CONTENT`, 1048576 octets. Else the
+    /// refusals of the selected mechanism, which may have moved then; the state stays.
     pub fn initialize_security_context(
         &mut self,
         args: &InitializeSecurityContext<'_>,
     ) -> Result<Progressing, Error>
-        ensures step { (negotiate N.REQUESTS N.meaning K.meaning).steps self.old (step_args args.now) (answer_of result) self.new }
+        ensures step { (negotiate N.REQUESTS N.meaning K.meaning).steps self.old
+            (step_args args.now) (answer_of result) self.new }
         ensures codeless { IfErr result (λ error. error.nstatus ≡ None) }
     {
         let ip = is_named_by_ip(args.target_name);
@@ -69,11 +73,14 @@ impl<N: Mechanism, K: Mechanism> Negotiate<N, K> {
         args: &InitializeSecurityContext<'_>,
     ) -> Result<Progressing, Refusal>
         // The step, and what a refused one leaves.
-        ensures step { Does N.meaning K.meaning (spnego_client ip (values_of self.old) (step_args args.now))
+        ensures step { Does N.meaning K.meaning
+            (spnego_client ip (values_of self.old) (step_args args.now))
             self.old (answer_of (answered result)) self.new }
         ensures stays { OnErr result (Stays (values_of self.old) (values_of self.new)) }
-        ensures begun { self.old.state ≡ states.Initial → OnErr result (MayBegin (hand N.meaning K.meaning)
-            (ip && self.old.packages.ntlm ≡ true) (user_url (values_of self.old) (user_of (step_args args.now).handle))
+        ensures begun { self.old.state ≡ states.Initial →
+            OnErr result (MayBegin (hand N.meaning K.meaning)
+            (ip && self.old.packages.ntlm ≡ true)
+            (user_url (values_of self.old) (user_of (step_args args.now).handle))
             (step_args args.now) self.old self.new) }
         ensures exact { TellsKind (client_refusal self.old.role self.old.state self.old.branch)
             (answer_of (answered result)) }
@@ -102,18 +109,22 @@ impl<N: Mechanism, K: Mechanism> Negotiate<N, K> {
         args: &InitializeSecurityContext<'_>,
     ) -> Result<Progressing, Refusal>
         // The step, and what a refused one leaves.
-        ensures step { Does N.meaning K.meaning (by_target ip (values_of self.old) (step_args args.now))
+        ensures step { Does N.meaning K.meaning
+            (by_target ip (values_of self.old) (step_args args.now))
             self.old (answer_of (answered result)) self.new }
         ensures stays { OnErr result (Stays (values_of self.old) (values_of self.new)) }
-        ensures begun { self.old.state ≡ states.Initial → OnErr result (MayBegin (hand N.meaning K.meaning)
-            (ip && self.old.packages.ntlm ≡ true) (user_url (values_of self.old) (user_of (step_args args.now).handle))
+        ensures begun { self.old.state ≡ states.Initial →
+            OnErr result (MayBegin (hand N.meaning K.meaning)
+            (ip && self.old.packages.ntlm ≡ true)
+            (user_url (values_of self.old) (user_of (step_args args.now).handle))
             (step_args args.now) self.old self.new) }
         // What every answer keeps.
         ensures unused { StaysSilent N.meaning K.meaning self.old self.new }
         ensures first { self.old.state ≡ states.Initial →
             StaysFirst N.meaning K.meaning (step_args args.now) self.old self.new }
         ensures need { let v = values_of self.old in self.old.state ≢ states.Initial →
-            StaysNeeded (excuses_guest (chosen_at self.old.state args.now.input.now) v (step_args args.now)) v (values_of self.new) }
+            StaysNeeded (excuses_guest (chosen_at self.old.state args.now.input.now) v
+            (step_args args.now)) v (values_of self.new) }
         ensures held { let v = values_of self.old in self.old.state ≢ states.Initial →
             MayHave (ip && v.packages.ntlm ≡ true)
             (user_url v (user_of (step_args args.now).handle))
@@ -133,12 +144,14 @@ impl<N: Mechanism, K: Mechanism> Negotiate<N, K> {
     ) -> Result<Progressing, Refusal>
         // The step, and what a refused one leaves.
         ensures step { Does N.meaning K.meaning
-            (in_ntlm (hand_of self.old.mech) self.old.computer (with_handle (record (values_of self.old) {
+            (in_ntlm (hand_of self.old.mech) self.old.computer
+            (with_handle (record (values_of self.old) {
               hand = protocols.Ntlm;
               packages = record self.old.packages { kerberos = false };
             }) (step_args args.now)))
             self.old (answer_of (answered result)) self.new }
-        ensures stays { self.old.packages.ntlm ≡ true → OnErr result (Stays (values_of self.old) (values_of self.new)) }
+        ensures stays { self.old.packages.ntlm ≡ true →
+            OnErr result (Stays (values_of self.old) (values_of self.new)) }
         ensures begun { self.old.state ≡ states.Initial →
             OnErr result (FallsBy (Unit {0}) (values_of self.old) (values_of self.new)) }
         // What every answer keeps.
@@ -146,7 +159,8 @@ impl<N: Mechanism, K: Mechanism> Negotiate<N, K> {
         ensures first { self.old.state ≡ states.Initial →
             StaysFirst N.meaning K.meaning (step_args args.now) self.old self.new }
         ensures need { let v = values_of self.old in self.old.state ≢ states.Initial →
-            StaysNeeded (excuses_guest (chosen_at self.old.state args.now.input.now) v (step_args args.now)) v (values_of self.new) }
+            StaysNeeded (excuses_guest (chosen_at self.old.state args.now.input.now) v
+            (step_args args.now)) v (values_of self.new) }
         ensures held { let v = values_of self.old in self.old.state ≢ states.Initial →
             MayHave (Unit {0}) None (chosen_at v.state args.now.input.now) v (values_of self.new) }
         ensures kept { MayKeep (user_of (step_args args.now).handle) self.old.kept self.new.kept }
@@ -161,9 +175,14 @@ impl<N: Mechanism, K: Mechanism> Negotiate<N, K> {
     ) -> Result<Progressing, Refusal>
         // The step, and what a refused one leaves.
         ensures step { Does N.meaning K.meaning
-            (with_handle (record (values_of self.old) { packages = record self.old.packages { kerberos = false } }) (step_args args.now))
+            (with_handle
+            (record (values_of self.old) {
+              packages =
+                  record self.old.packages { kerberos = false };
+            }) (step_args args.now))
             self.old (answer_of (answered result)) self.new }
-        ensures stays { hand_of self.old.mech ≡ protocols.Ntlm → OnErr result (Stays (values_of self.old) (values_of self.new)) }
+        ensures stays { hand_of self.old.mech ≡ protocols.Ntlm →
+            OnErr result (Stays (values_of self.old) (values_of self.new)) }
         ensures begun { self.old.state ≡ states.Initial → hand_of self.old.mech ≡ protocols.Ntlm →
             OnErr result (OnlyNtlm (values_of self.old) (values_of self.new)) }
         // What every answer keeps.
@@ -171,7 +190,8 @@ impl<N: Mechanism, K: Mechanism> Negotiate<N, K> {
         ensures first { self.old.state ≡ states.Initial →
             StaysFirst N.meaning K.meaning (step_args args.now) self.old self.new }
         ensures need { let v = values_of self.old in self.old.state ≢ states.Initial →
-            StaysNeeded (excuses_guest (chosen_at self.old.state args.now.input.now) v (step_args args.now)) v (values_of self.new) }
+            StaysNeeded (excuses_guest (chosen_at self.old.state args.now.input.now) v
+            (step_args args.now)) v (values_of self.new) }
         ensures held { let v = record
             (values_of self.old) { packages = record self.old.packages { kerberos = false } } in
             self.old.state ≢ states.Initial → MayHave ⊥
@@ -186,17 +206,21 @@ impl<N: Mechanism, K: Mechanism> Negotiate<N, K> {
     #[tactic(auto, unfolding(crate::specs::Client::with_handle))]
     fn with_handle(&mut self, args: &InitializeSecurityContext<'_>) -> Result<Progressing, Refusal>
         // The step, and what a refused one leaves.
-        ensures step { Does N.meaning K.meaning (with_handle (values_of self.old) (step_args args.now))
+        ensures step { Does N.meaning K.meaning
+            (with_handle (values_of self.old) (step_args args.now))
             self.old (answer_of (answered result)) self.new }
         ensures stays { OnErr result (Stays (values_of self.old) (values_of self.new)) }
-        ensures begun { self.old.state ≡ states.Initial → OnErr result (MayBegin (hand N.meaning K.meaning)
-            ⊥ (user_url (values_of self.old) (user_of (step_args args.now).handle)) (step_args args.now) self.old self.new) }
+        ensures begun { self.old.state ≡ states.Initial →
+            OnErr result (MayBegin (hand N.meaning K.meaning)
+            ⊥ (user_url (values_of self.old) (user_of (step_args args.now).handle))
+            (step_args args.now) self.old self.new) }
         // What every answer keeps.
         ensures unused { StaysSilent N.meaning K.meaning self.old self.new }
         ensures first { self.old.state ≡ states.Initial →
             StaysFirst N.meaning K.meaning (step_args args.now) self.old self.new }
         ensures need { let v = values_of self.old in self.old.state ≢ states.Initial →
-            StaysNeeded (excuses_guest (chosen_at self.old.state args.now.input.now) v (step_args args.now)) v (values_of self.new) }
+            StaysNeeded (excuses_guest (chosen_at self.old.state args.now.input.now) v
+            (step_args args.now)) v (values_of self.new) }
         ensures held { let v = values_of self.old in self.old.state ≢ states.Initial →
             MayHave ⊥ (user_url v (user_of (step_args args.now).handle))
             (chosen_at v.state args.now.input.now) v (values_of self.new) }
@@ -216,17 +240,21 @@ impl<N: Mechanism, K: Mechanism> Negotiate<N, K> {
         args: &InitializeSecurityContext<'_>,
     ) -> Result<Progressing, Refusal>
         // The step, and what a refused one leaves.
-        ensures step { Does N.meaning K.meaning (keeps (identity_of buffers.now) (values_of self.old) (step_args args.now))
+        ensures step { Does N.meaning K.meaning
+            (keeps (identity_of buffers.now) (values_of self.old) (step_args args.now))
             self.old (answer_of (answered result)) self.new }
         ensures stays { OnErr result (Stays (values_of self.old) (values_of self.new)) }
-        ensures begun { self.old.state ≡ states.Initial → OnErr result (MayBegin (hand N.meaning K.meaning)
-            ⊥ (user_url (values_of self.old) (identity_of buffers.now)) (step_args args.now) self.old self.new) }
+        ensures begun { self.old.state ≡ states.Initial →
+            OnErr result (MayBegin (hand N.meaning K.meaning)
+            ⊥ (user_url (values_of self.old) (identity_of buffers.now)) (step_args args.now)
+            self.old self.new) }
         // What every answer keeps.
         ensures unused { StaysSilent N.meaning K.meaning self.old self.new }
         ensures first { self.old.state ≡ states.Initial →
             StaysFirst N.meaning K.meaning (step_args args.now) self.old self.new }
         ensures need { let v = values_of self.old in self.old.state ≢ states.Initial →
-            StaysNeeded (excuses_guest (chosen_at self.old.state args.now.input.now) v (step_args args.now)) v (values_of self.new) }
+            StaysNeeded (excuses_guest (chosen_at self.old.state args.now.input.now) v
+            (step_args args.now)) v (values_of self.new) }
         ensures held { let v = values_of self.old in self.old.state ≢ states.Initial →
             MayHave ⊥ (user_url v (identity_of buffers.now))
             (chosen_at v.state args.now.input.now) v (values_of self.new) }
@@ -244,17 +272,23 @@ impl<N: Mechanism, K: Mechanism> Negotiate<N, K> {
         // The step, and what a refused one leaves.
         ensures step { Does N.meaning K.meaning
             (ruled (rule_url (values_of self.old) identity.now.username)
-            (record (values_of self.old) { kept = Some (buffered.AuthIdentity (buffers_of identity.now)) }) (step_args args.now))
+            (record (values_of self.old) {
+              kept = Some
+                  (buffered.AuthIdentity (buffers_of identity.now));
+            }) (step_args args.now))
             self.old (answer_of (answered result)) self.new }
         ensures stays { OnErr result (Stays (values_of self.old) (values_of self.new)) }
-        ensures begun { self.old.state ≡ states.Initial → OnErr result (MayBegin (hand N.meaning K.meaning)
-            ⊥ (rule_url (values_of self.old) identity.now.username) (step_args args.now) self.old self.new) }
+        ensures begun { self.old.state ≡ states.Initial →
+            OnErr result (MayBegin (hand N.meaning K.meaning)
+            ⊥ (rule_url (values_of self.old) identity.now.username) (step_args args.now) self.old
+            self.new) }
         // What every answer keeps.
         ensures unused { StaysSilent N.meaning K.meaning self.old self.new }
         ensures first { self.old.state ≡ states.Initial →
             StaysFirst N.meaning K.meaning (step_args args.now) self.old self.new }
         ensures need { let v = values_of self.old in self.old.state ≢ states.Initial →
-            StaysNeeded (excuses_guest (chosen_at self.old.state args.now.input.now) v (step_args args.now)) v (values_of self.new) }
+            StaysNeeded (excuses_guest (chosen_at self.old.state args.now.input.now) v
+            (step_args args.now)) v (values_of self.new) }
         ensures held { let v = values_of self.old in self.old.state ≢ states.Initial →
             MayHave ⊥ (rule_url v identity.now.username) (chosen_at v.state args.now.input.now) v
             (values_of self.new) }
@@ -271,17 +305,21 @@ impl<N: Mechanism, K: Mechanism> Negotiate<N, K> {
         args: &InitializeSecurityContext<'_>,
     ) -> Result<Progressing, Refusal>
         // The step, and what a refused one leaves.
-        ensures step { Does N.meaning K.meaning (ruled (rule_url (values_of self.old) name.now) (values_of self.old) (step_args args.now))
+        ensures step { Does N.meaning K.meaning
+            (ruled (rule_url (values_of self.old) name.now) (values_of self.old)
+            (step_args args.now))
             self.old (answer_of (answered result)) self.new }
         ensures stays { OnErr result (Stays (values_of self.old) (values_of self.new)) }
-        ensures begun { self.old.state ≡ states.Initial → OnErr result (MayBegin (hand N.meaning K.meaning)
+        ensures begun { self.old.state ≡ states.Initial →
+            OnErr result (MayBegin (hand N.meaning K.meaning)
             ⊥ (rule_url (values_of self.old) name.now) (step_args args.now) self.old self.new) }
         // What every answer keeps.
         ensures unused { StaysSilent N.meaning K.meaning self.old self.new }
         ensures first { self.old.state ≡ states.Initial →
             StaysFirst N.meaning K.meaning (step_args args.now) self.old self.new }
         ensures need { let v = values_of self.old in self.old.state ≢ states.Initial →
-            StaysNeeded (excuses_guest (chosen_at self.old.state args.now.input.now) v (step_args args.now)) v (values_of self.new) }
+            StaysNeeded (excuses_guest (chosen_at self.old.state args.now.input.now) v
+            (step_args args.now)) v (values_of self.new) }
         ensures held { let v = values_of self.old in self.old.state ≢ states.Initial →
             MayHave ⊥ (rule_url v name.now) (chosen_at v.state args.now.input.now) v
             (values_of self.new) }
@@ -294,18 +332,21 @@ impl<N: Mechanism, K: Mechanism> Negotiate<N, K> {
     #[tactic(auto, unfolding(crate::specs::Client::client_at))]
     fn step_at(&mut self, args: &InitializeSecurityContext<'_>) -> Result<Progressing, Refusal>
         // The step, and what a refused one leaves.
-        ensures step { Does N.meaning K.meaning (client_at self.old.state (values_of self.old) (step_args args.now))
+        ensures step { Does N.meaning K.meaning
+            (client_at self.old.state (values_of self.old) (step_args args.now))
             self.old (answer_of (answered result)) self.new }
         ensures stays { OnErr result (Stays (values_of self.old) (values_of self.new)) }
         ensures begun { self.old.state ≡ states.Initial →
-            OnErr result (FallsBy (Falls (hand N.meaning K.meaning) self.old.mech (step_args args.now))
+            OnErr result (FallsBy (Falls (hand N.meaning K.meaning) self.old.mech
+            (step_args args.now))
             (values_of self.old) (values_of self.new)) }
         // What every answer keeps.
         ensures unused { StaysSilent N.meaning K.meaning self.old self.new }
         ensures first { self.old.state ≡ states.Initial →
             StaysFirst N.meaning K.meaning (step_args args.now) self.old self.new }
         ensures need { let v = values_of self.old in self.old.state ≢ states.Initial →
-            StaysNeeded (excuses_guest (chosen_at self.old.state args.now.input.now) v (step_args args.now)) v (values_of self.new) }
+            StaysNeeded (excuses_guest (chosen_at self.old.state args.now.input.now) v
+            (step_args args.now)) v (values_of self.new) }
         ensures held { let v = values_of self.old in self.old.state ≢ states.Initial →
             MayHave ⊥ None (chosen_at v.state args.now.input.now) v (values_of self.new) }
         ensures kept { self.new.kept ≡ self.old.kept }

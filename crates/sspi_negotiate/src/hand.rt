@@ -1,16 +1,20 @@
 //! The selected mechanism: its calls, and how one takes the place of another.
 
-ghost use Rattle.std.specs.Prelude.{◌≡◌, ◌≢◌, ◌<◌, [], ◌∷◌, true, false, IsTrue, IsErr, IfOk, IfErr};
+ghost use Rattle.std.specs.Prelude.{◌≡◌, ◌≢◌, ◌<◌, [], ◌∷◌, true, false, IsTrue, IsErr, IfOk};
+ghost use Rattle.std.specs.Prelude.{IfErr};
 ghost use Rattle.std.specs.Prelude.{OnOk, OnErr, Some, None, option_copied};
 ghost use Rattle.sspi_types.specs.Errors.{memory_error};
 ghost use Rattle.sspi_mech.specs.Answers.{IfRefused};
-ghost use Rattle.sspi_mech.specs.Calls.{step_args, accept_args, no_counts, one_sealing, one_unsealing, one_signing, one_verification};
-ghost use Rattle.sspi_mech.specs.Calls.{ToAcquire, ToName, ToIdentify, ToComplete, ToSeal, ToUnseal, ToSign, ToVerify};
+ghost use Rattle.sspi_mech.specs.Calls.{step_args, accept_args, no_counts, one_sealing};
+ghost use Rattle.sspi_mech.specs.Calls.{one_unsealing, one_signing, one_verification};
+ghost use Rattle.sspi_mech.specs.Calls.{ToAcquire, ToName, ToIdentify, ToComplete, ToSeal};
+ghost use Rattle.sspi_mech.specs.Calls.{ToUnseal, ToSign, ToVerify};
 ghost use Rattle.sspi_mech.specs.Context.{NeitherSealsNorOpens};
 ghost use Rattle.sspi_mech.specs.Refusals.{refusal_of};
 ghost use Rattle.sspi_mech.specs.Answered.{IsRefusedAs, answered};
 ghost use Rattle.sspi_negotiate.specs.declared.protocol.Protocol.TheVariants as protocols;
-ghost use Rattle.sspi_negotiate.specs.Hand.{InPlaceOfNtlm, in_place_of_kerberos, hand, hand_of, asks_left};
+ghost use Rattle.sspi_negotiate.specs.Hand.{InPlaceOfNtlm, in_place_of_kerberos, hand, hand_of};
+ghost use Rattle.sspi_negotiate.specs.Hand.{asks_left};
 ghost use Rattle.sspi_negotiate.specs.Identity.{is_refused_identity};
 ghost use Rattle.sspi_negotiate.specs.Verified.{HasNoMic};
 
@@ -50,7 +54,8 @@ fn kerberos_config(
 impl<N: Mechanism, K: Mechanism> NegotiatedProtocol<N, K> {
     /// NTLM that comes in for Kerberos.
     pub(crate) fn new_ntlm(alloc: Global, client_computer_name: &Text) -> Result<Self, Refusal>
-        ensures made { IfOk result (λ it. (hand N.meaning K.meaning).made (in_place_of_kerberos client_computer_name.now) it) }
+        ensures made { IfOk result (λ it. (hand N.meaning K.meaning).made
+            (in_place_of_kerberos client_computer_name.now) it) }
         ensures fresh { IfOk result (λ it. (hand N.meaning K.meaning).counts it ≡ no_counts) }
         ensures named { IfOk result (λ it. hand_of it ≡ protocols.Ntlm) }
         ensures err { IfErr result (λ error. error ≡ refusal_of memory_error) }
@@ -85,14 +90,17 @@ impl<N: Mechanism, K: Mechanism> NegotiatedProtocol<N, K> {
     ) -> Result<Option<CredentialsBuffers>, Refusal>
         // What `Ok` holds.
         ensures acquired { IfOk result (λ buffers.
-            (hand N.meaning K.meaning).acquires self.old credential_use (option_copied auth_data.entry) buffers self.new) }
+            (hand N.meaning K.meaning).acquires self.old credential_use
+            (option_copied auth_data.entry) buffers self.new) }
         // What holds of every answer.
-        ensures count { (hand N.meaning K.meaning).counts self.new ≡ (hand N.meaning K.meaning).counts self.old }
+        ensures count { (hand N.meaning K.meaning).counts
+            self.new ≡ (hand N.meaning K.meaning).counts self.old }
         ensures named { hand_of self.new ≡ hand_of self.old }
         // What a refusal says, and what it leaves.
         ensures err { OnErr result (self.new ≡ self.old) }
         ensures cause { IfErr result (λ error. error.error_type ≢ ErrorKind.InsufficientMemory →
-            (hand N.meaning K.meaning).refuses self.old (ToAcquire credential_use (option_copied auth_data.entry)) error.error_type) }
+            (hand N.meaning K.meaning).refuses self.old
+            (ToAcquire credential_use (option_copied auth_data.entry)) error.error_type) }
     {
         match self {
             NegotiatedProtocol::Ntlm(mechanism) => Ok(mechanism.acquire(
@@ -108,10 +116,13 @@ impl<N: Mechanism, K: Mechanism> NegotiatedProtocol<N, K> {
 
     pub(crate) fn initialize(&mut self, args: &InitializeSecurityContext<'_>) -> Answer
         // The step.
-        ensures step { (hand N.meaning K.meaning).steps self.old (step_args args.now) result self.new }
+        ensures step { (hand N.meaning K.meaning).steps self.old (step_args args.now) result
+            self.new }
         // What every answer keeps, and that a refusal has no code.
-        ensures unused { let c = hand N.meaning K.meaning in NeitherSealsNorOpens (c.counts self.old) (c.counts self.new) }
-        ensures unmarked { HasNoMic ((hand N.meaning K.meaning).counts self.old) → HasNoMic ((hand N.meaning K.meaning).counts self.new) }
+        ensures unused { let c = hand N.meaning K.meaning in NeitherSealsNorOpens
+            (c.counts self.old) (c.counts self.new) }
+        ensures unmarked { HasNoMic ((hand N.meaning K.meaning).counts self.old) →
+            HasNoMic ((hand N.meaning K.meaning).counts self.new) }
         ensures named { hand_of self.new ≡ hand_of self.old }
         ensures codeless { IfRefused result (λ error. error.nstatus ≡ None) }
     {
@@ -125,8 +136,10 @@ impl<N: Mechanism, K: Mechanism> NegotiatedProtocol<N, K> {
         // The step.
         ensures step { (hand N.meaning K.meaning).resumes self.old reply.now result self.new }
         // What every answer keeps, and that a refusal has no code.
-        ensures unused { let c = hand N.meaning K.meaning in NeitherSealsNorOpens (c.counts self.old) (c.counts self.new) }
-        ensures unmarked { HasNoMic ((hand N.meaning K.meaning).counts self.old) → HasNoMic ((hand N.meaning K.meaning).counts self.new) }
+        ensures unused { let c = hand N.meaning K.meaning in NeitherSealsNorOpens
+            (c.counts self.old) (c.counts self.new) }
+        ensures unmarked { HasNoMic ((hand N.meaning K.meaning).counts self.old) →
+            HasNoMic ((hand N.meaning K.meaning).counts self.new) }
         ensures named { hand_of self.new ≡ hand_of self.old }
         ensures codeless { IfRefused result (λ error. error.nstatus ≡ None) }
     {
@@ -138,10 +151,13 @@ impl<N: Mechanism, K: Mechanism> NegotiatedProtocol<N, K> {
 
     pub(crate) fn accept(&mut self, args: &AcceptSecurityContext<'_>) -> Result<Step, Refusal>
         // The step.
-        ensures step { (hand N.meaning K.meaning).accepts self.old (accept_args args.now) (answered result) self.new }
+        ensures step { (hand N.meaning K.meaning).accepts self.old (accept_args args.now)
+            (answered result) self.new }
         // What every answer keeps.
-        ensures unused { let c = hand N.meaning K.meaning in NeitherSealsNorOpens (c.counts self.old) (c.counts self.new) }
-        ensures unmarked { HasNoMic ((hand N.meaning K.meaning).counts self.old) → HasNoMic ((hand N.meaning K.meaning).counts self.new) }
+        ensures unused { let c = hand N.meaning K.meaning in NeitherSealsNorOpens
+            (c.counts self.old) (c.counts self.new) }
+        ensures unmarked { HasNoMic ((hand N.meaning K.meaning).counts self.old) →
+            HasNoMic ((hand N.meaning K.meaning).counts self.new) }
         ensures named { hand_of self.new ≡ hand_of self.old }
     {
         match self {
@@ -164,7 +180,8 @@ impl<N: Mechanism, K: Mechanism> NegotiatedProtocol<N, K> {
     pub(crate) fn complete(&mut self) -> Result<SecurityStatus, Refusal>
         // What stays, and what `Ok` holds.
         ensures same { self.new ≡ self.old }
-        ensures keyed { IsTrue ((hand N.meaning K.meaning).keyed self.old) → result ≡ Ok SecurityStatus.Ok }
+        ensures keyed { IsTrue ((hand N.meaning K.meaning).keyed self.old) →
+            result ≡ Ok SecurityStatus.Ok }
         ensures permitted { OnOk result ((hand N.meaning K.meaning).permits self.old ToComplete) }
         // What a refusal says.
         ensures cause { IfErr result (λ error. error.error_type ≢ ErrorKind.InsufficientMemory →
@@ -177,7 +194,8 @@ impl<N: Mechanism, K: Mechanism> NegotiatedProtocol<N, K> {
     }
 
     pub(crate) fn names(&self) -> Result<Username, Refusal>
-        ensures named { IfOk result (λ name. (hand N.meaning K.meaning).names self.now ≡ Some name) }
+        ensures named { IfOk result (λ name. (hand N.meaning K.meaning).names self.now ≡ Some
+            name) }
         ensures cause { IfErr result (λ error. error.error_type ≢ ErrorKind.InsufficientMemory →
             (hand N.meaning K.meaning).refuses self.now ToName error.error_type) }
     {
@@ -189,14 +207,17 @@ impl<N: Mechanism, K: Mechanism> NegotiatedProtocol<N, K> {
 
     pub(crate) fn set_identities(&mut self, identities: Vec<Credentials>) -> Result<(), Refusal>
         // What `Ok` holds.
-        ensures identified { OnOk result ((hand N.meaning K.meaning).identifies self.old identities.items self.new) }
+        ensures identified { OnOk result ((hand N.meaning K.meaning).identifies self.old
+            identities.items self.new) }
         // What holds of every answer.
-        ensures count { (hand N.meaning K.meaning).counts self.new ≡ (hand N.meaning K.meaning).counts self.old }
+        ensures count { (hand N.meaning K.meaning).counts
+            self.new ≡ (hand N.meaning K.meaning).counts self.old }
         ensures named { hand_of self.new ≡ hand_of self.old }
         // What a refusal says, and what it leaves.
         ensures err { OnErr result (self.new ≡ self.old) }
         ensures cause { let c = hand N.meaning K.meaning in IfErr result (λ error.
-            IsRefusedAs (c.permits self.old (ToIdentify identities.items)) (c.refuses self.old (ToIdentify identities.items))
+            IsRefusedAs (c.permits self.old (ToIdentify identities.items))
+            (c.refuses self.old (ToIdentify identities.items))
             error.error_type) }
     {
         match self {
@@ -212,14 +233,18 @@ impl<N: Mechanism, K: Mechanism> NegotiatedProtocol<N, K> {
     /// The same of one identity. A keytab is refused while NTLM is selected.
     pub(crate) fn set_identity(&mut self, identity: &Credentials) -> Result<(), Refusal>
         // What `Ok` holds.
-        ensures identified { OnOk result ((hand N.meaning K.meaning).identifies self.old (identity.now ∷ []) self.new) }
+        ensures identified { OnOk result ((hand N.meaning K.meaning).identifies self.old
+            (identity.now ∷ []) self.new) }
         // What holds of every answer.
-        ensures count { (hand N.meaning K.meaning).counts self.new ≡ (hand N.meaning K.meaning).counts self.old }
+        ensures count { (hand N.meaning K.meaning).counts
+            self.new ≡ (hand N.meaning K.meaning).counts self.old }
         // What a refusal says, and what it leaves.
         ensures err { OnErr result (self.new ≡ self.old) }
         ensures keytab { is_refused_identity (hand_of self.old) identity.now ≡ true →
-            IfErr result (λ error. error.error_type ≡ ErrorKind.IncompleteCredentials) × IsErr result }
-        ensures cause { let c = hand N.meaning K.meaning in is_refused_identity (hand_of self.old) identity.now ≡ false →
+            IfErr result (λ error. error.error_type ≡ ErrorKind.IncompleteCredentials) ×
+            IsErr result }
+        ensures cause { let c = hand N.meaning K.meaning in is_refused_identity (hand_of self.old)
+            identity.now ≡ false →
             IfErr result (λ error. IsRefusedAs (c.permits self.old (ToIdentify (identity.now ∷ [])))
             (c.refuses self.old (ToIdentify (identity.now ∷ []))) error.error_type) }
     {
@@ -240,10 +265,14 @@ impl<N: Mechanism, K: Mechanism> NegotiatedProtocol<N, K> {
     pub(crate) fn seal(&mut self, text: &[u8]) -> Result<Vec<u8>, Refusal>
         // What `Ok` holds.
         ensures blob { let c = hand N.meaning K.meaning in
-            IfOk result (λ blob. c.seals self.new (c.counts self.old).sealings text.now blob.items) }
-        ensures ok { let c = hand N.meaning K.meaning in OnOk result (self.new ≡ c.counted self.old (one_sealing (c.counts self.old))) }
-        ensures count { let c = hand N.meaning K.meaning in OnOk result (c.counts self.new ≡ one_sealing (c.counts self.old)) }
-        ensures permitted { OnOk result ((hand N.meaning K.meaning).permits self.old (ToSeal text.now)) }
+            IfOk result (λ blob. c.seals self.new (c.counts self.old).sealings text.now
+            blob.items) }
+        ensures ok { let c = hand N.meaning K.meaning in OnOk result
+            (self.new ≡ c.counted self.old (one_sealing (c.counts self.old))) }
+        ensures count { let c = hand N.meaning K.meaning in OnOk result
+            (c.counts self.new ≡ one_sealing (c.counts self.old)) }
+        ensures permitted { OnOk result ((hand N.meaning K.meaning).permits self.old
+            (ToSeal text.now)) }
         // What a refusal says, and what it leaves.
         ensures err { OnErr result (self.new ≡ self.old) }
         ensures cause { IfErr result (λ error. error.error_type ≢ ErrorKind.InsufficientMemory →
@@ -258,14 +287,19 @@ impl<N: Mechanism, K: Mechanism> NegotiatedProtocol<N, K> {
     pub(crate) fn unseal(&mut self, blob: &[u8]) -> Result<Vec<u8>, Refusal>
         // What `Ok` holds.
         ensures text { let c = hand N.meaning K.meaning in
-            IfOk result (λ text. c.opens self.new (c.counts self.old).unsealings blob.now text.items) }
-        ensures ok { let c = hand N.meaning K.meaning in OnOk result (self.new ≡ c.counted self.old (one_unsealing (c.counts self.old))) }
-        ensures count { let c = hand N.meaning K.meaning in OnOk result (c.counts self.new ≡ one_unsealing (c.counts self.old)) }
-        ensures permitted { OnOk result ((hand N.meaning K.meaning).permits self.old (ToUnseal blob.now)) }
+            IfOk result (λ text. c.opens self.new (c.counts self.old).unsealings blob.now
+            text.items) }
+        ensures ok { let c = hand N.meaning K.meaning in OnOk result
+            (self.new ≡ c.counted self.old (one_unsealing (c.counts self.old))) }
+        ensures count { let c = hand N.meaning K.meaning in OnOk result
+            (c.counts self.new ≡ one_unsealing (c.counts self.old)) }
+        ensures permitted { OnOk result ((hand N.meaning K.meaning).permits self.old
+            (ToUnseal blob.now)) }
         // What a refusal says, and what it leaves.
         ensures err { OnErr result (self.new ≡ self.old) }
         ensures cause { let c = hand N.meaning K.meaning in IfErr result (λ error.
-            IsRefusedAs (c.permits self.old (ToUnseal blob.now)) (c.refuses self.old (ToUnseal blob.now)) error.error_type) }
+            IsRefusedAs (c.permits self.old (ToUnseal blob.now))
+            (c.refuses self.old (ToUnseal blob.now)) error.error_type) }
     {
         match self {
             NegotiatedProtocol::Ntlm(mechanism) => Ok(mechanism.unseal(blob)?),
@@ -273,16 +307,20 @@ impl<N: Mechanism, K: Mechanism> NegotiatedProtocol<N, K> {
         }
     }
 
-    /// The MIC of a text for the peer, as the next of its MICs (MakeSignature). With the plain mechanisms `OutOfSequence`
-    /// before there is a key, `ContextExpired` once all numbers of MICs are used.
+    /// The MIC of a text for the peer, as the next of its MICs (MakeSignature). With the plain
+    /// mechanisms `OutOfSequence` before there is a key, `ContextExpired` once all numbers of MICs
+    /// are used.
     pub fn generate_mic_token(&mut self, text: &[u8]) -> Result<Vec<u8>, Error>
         // What `Ok` holds, and that the mechanism is the same.
         ensures mic { let c = hand N.meaning K.meaning in
             IfOk result (λ mic. c.signs self.new (c.counts self.old).signings text.now mic.items) }
-        ensures ok { let c = hand N.meaning K.meaning in OnOk result (self.new ≡ c.counted self.old (one_signing (c.counts self.old))) }
-        ensures count { let c = hand N.meaning K.meaning in OnOk result (c.counts self.new ≡ one_signing (c.counts self.old)) }
+        ensures ok { let c = hand N.meaning K.meaning in OnOk result
+            (self.new ≡ c.counted self.old (one_signing (c.counts self.old))) }
+        ensures count { let c = hand N.meaning K.meaning in OnOk result
+            (c.counts self.new ≡ one_signing (c.counts self.old)) }
         ensures named { hand_of self.new ≡ hand_of self.old }
-        ensures permitted { OnOk result ((hand N.meaning K.meaning).permits self.old (ToSign text.now)) }
+        ensures permitted { OnOk result ((hand N.meaning K.meaning).permits self.old
+            (ToSign text.now)) }
         // What a refusal says, and what it leaves.
         ensures err { OnErr result (self.new ≡ self.old) }
         ensures codeless { IfErr result (λ error. error.nstatus ≡ None) }
@@ -295,23 +333,26 @@ impl<N: Mechanism, K: Mechanism> NegotiatedProtocol<N, K> {
         }
     }
 
-    /// Whether `token` is the MIC that the peer made of `text` as the next of its MICs (VerifySignature). With the plain
-    /// mechanisms `MessageAltered` where it is not, also where it has another length; `OutOfSequence` and `ContextExpired` as
-    /// `generate_mic_token`.
+    /// Whether `token` is the MIC that the peer made of `text` as the next of its MICs
+    /// (VerifySignature). With the plain mechanisms `MessageAltered` where it is not, also where it
+    /// has another length; `OutOfSequence` and `ContextExpired` as `generate_mic_token`.
     pub fn verify_mic_token(&mut self, token: &[u8], text: &[u8]) -> Result<(), Error>
         // What `Ok` holds, and that the mechanism is the same.
         ensures mic { let c = hand N.meaning K.meaning in
             OnOk result (c.verifies self.new (c.counts self.old).verifications token.now text.now) }
         ensures ok { let c = hand N.meaning K.meaning in
             OnOk result (self.new ≡ c.counted self.old (one_verification (c.counts self.old))) }
-        ensures count { let c = hand N.meaning K.meaning in OnOk result (c.counts self.new ≡ one_verification (c.counts self.old)) }
+        ensures count { let c = hand N.meaning K.meaning in OnOk result
+            (c.counts self.new ≡ one_verification (c.counts self.old)) }
         ensures named { hand_of self.new ≡ hand_of self.old }
-        ensures permitted { OnOk result ((hand N.meaning K.meaning).permits self.old (ToVerify token.now text.now)) }
+        ensures permitted { OnOk result ((hand N.meaning K.meaning).permits self.old
+            (ToVerify token.now text.now)) }
         // What a refusal says, and what it leaves.
         ensures err { OnErr result (self.new ≡ self.old) }
         ensures codeless { IfErr result (λ error. error.nstatus ≡ None) }
         ensures cause { IfErr result (λ error.
-            (hand N.meaning K.meaning).refuses self.old (ToVerify token.now text.now) error.error_type) }
+            (hand N.meaning K.meaning).refuses self.old (ToVerify token.now text.now)
+            error.error_type) }
     {
         match self {
             NegotiatedProtocol::Ntlm(mechanism) => mechanism.verify(token, text),

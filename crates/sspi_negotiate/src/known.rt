@@ -40,7 +40,8 @@ pub(crate) fn named(
     name: &Username,
     known: &[AuthIdentity],
 ) -> Result<Vec<Credentials>, AllocError>
-    ensures { IfOk result (λ found. found.items ≡ map credentials.AuthIdentity (named name.now known.now)) }
+    ensures { IfOk result (λ found. found.items ≡ map credentials.AuthIdentity
+        (named name.now known.now)) }
 {
     copy_named(alloc, name, known)?
         .into_iter()

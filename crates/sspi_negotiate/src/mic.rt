@@ -9,7 +9,8 @@ ghost use Rattle.sspi_names.specs.declared.credentials.Credentials.TheVariants a
 ghost use Rattle.sspi_negotiate.specs.Does.{Does, Stays, StaysPicked, StaysSilent, told};
 ghost use Rattle.sspi_negotiate.specs.Passes.{Passes};
 ghost use Rattle.sspi_negotiate.specs.Rows.{identifies_among, identifies, verifies, checks};
-ghost use Rattle.sspi_negotiate.specs.Rows.{writes, targ, if_some, answers_signed, completes_signed, hands_mic};
+ghost use Rattle.sspi_negotiate.specs.Rows.{writes, targ, if_some, answers_signed};
+ghost use Rattle.sspi_negotiate.specs.Rows.{completes_signed, hands_mic};
 ghost use Rattle.sspi_negotiate.specs.Known.{is_named, named};
 ghost use Rattle.sspi_negotiate.specs.Plan.{Identifies, Verifies, Signs};
 ghost use Rattle.sspi_negotiate.specs.Values.{values_of};
@@ -34,9 +35,11 @@ fn sign_with<N: Mechanism, K: Mechanism>(
         IfOk result (λ mic. c.signs protocol.new (c.counts protocol.old).signings text.now mic) }
     ensures ok { let c = hand N.meaning K.meaning in
         OnOk result (protocol.new ≡ c.counted protocol.old (one_signing (c.counts protocol.old))) }
-    ensures count { let c = hand N.meaning K.meaning in OnOk result (c.counts protocol.new ≡ one_signing (c.counts protocol.old)) }
+    ensures count { let c = hand N.meaning K.meaning in OnOk result
+        (c.counts protocol.new ≡ one_signing (c.counts protocol.old)) }
     ensures named { hand_of protocol.new ≡ hand_of protocol.old }
-    ensures permitted { OnOk result ((hand N.meaning K.meaning).permits protocol.old (ToSign text.now)) }
+    ensures permitted { OnOk result ((hand N.meaning K.meaning).permits protocol.old
+        (ToSign text.now)) }
     // What a refusal says, and what it leaves.
     ensures err { OnErr result (protocol.new ≡ protocol.old) }
     ensures cause { IfErr result (λ error. error.error_type ≢ ErrorKind.InsufficientMemory →
@@ -77,7 +80,8 @@ impl<N: Mechanism, K: Mechanism> Negotiate<N, K> {
     /// Takes the MIC of the client, of whom a server must know the identity first.
     pub(crate) fn check(&mut self, mic: &Bytes) -> Result<(), Refusal>
         // The step.
-        ensures step { Passes N.meaning K.meaning (checks mic.now (values_of self.old)) (values_of self.old) self.old
+        ensures step { Passes N.meaning K.meaning (checks mic.now (values_of self.old))
+            (values_of self.old) self.old
             (answered result) self.new }
         // What every answer keeps.
         ensures stays { Stays (values_of self.old) (values_of self.new) }
@@ -91,7 +95,8 @@ impl<N: Mechanism, K: Mechanism> Negotiate<N, K> {
 
     fn identify(&mut self) -> Result<(), Refusal>
         // The step.
-        ensures step { Passes N.meaning K.meaning (identifies (values_of self.old)) (values_of self.old) self.old
+        ensures step { Passes N.meaning K.meaning (identifies (values_of self.old))
+            (values_of self.old) self.old
             (answered result) self.new }
         // What every answer keeps.
         ensures stays { Stays (values_of self.old) (values_of self.new) }
@@ -106,7 +111,8 @@ impl<N: Mechanism, K: Mechanism> Negotiate<N, K> {
     fn identify_as(&mut self, name: &Username) -> Result<(), Refusal>
         // The step.
         ensures step { Passes N.meaning K.meaning
-            (λ rest. identifies_among (map credentials.AuthIdentity (named name.now self.old.known)) (values_of self.old) rest)
+            (λ rest. identifies_among (map credentials.AuthIdentity (named name.now self.old.known))
+            (values_of self.old) rest)
             (values_of self.old) self.old (answered result) self.new }
         ensures exact { list_any (is_named name.now) self.old.known ≡ false →
             IfErr result (λ error. error.error_type ≡ ErrorKind.NoCredentials) }
@@ -140,7 +146,8 @@ impl<N: Mechanism, K: Mechanism> Negotiate<N, K> {
     /// Takes the peer's MIC, which must be over the list as it is kept.
     pub(crate) fn verify(&mut self, mic: &Bytes) -> Result<(), Refusal>
         // The step.
-        ensures step { Passes N.meaning K.meaning (verifies mic.now (values_of self.old)) (values_of self.old) self.old
+        ensures step { Passes N.meaning K.meaning (verifies mic.now (values_of self.old))
+            (values_of self.old) self.old
             (answered result) self.new }
         // What every answer keeps.
         ensures stays { Stays (values_of self.old) (values_of self.new) }
@@ -179,7 +186,8 @@ impl<N: Mechanism, K: Mechanism> Negotiate<N, K> {
     ) -> Result<Step, Refusal>
         // The step, and what a refused one leaves.
         ensures step { Does N.meaning K.meaning
-            (answers_signed result_field state status (values_of self.old) token) self.old (told (answered result)) self.new }
+            (answers_signed result_field state status (values_of self.old) token) self.old
+            (told (answered result)) self.new }
         ensures stays { OnErr result (Stays (values_of self.old) (values_of self.new)) }
         // What every answer keeps.
         ensures unused { StaysSilent N.meaning K.meaning self.old self.new }
@@ -200,7 +208,8 @@ impl<N: Mechanism, K: Mechanism> Negotiate<N, K> {
     ) -> Result<Step, Refusal>
         // The step, and what a refused one leaves.
         ensures step { let v = values_of self.old in Does N.meaning K.meaning
-            (Signs text.now v (λ mic. writes (targ result_field None (if_some token) (Some mic)) v (record v { state = state }) status))
+            (Signs text.now v (λ mic. writes (targ result_field None (if_some token) (Some mic)) v
+            (record v { state = state }) status))
             self.old (told (answered result)) self.new }
         ensures stays { OnErr result (Stays (values_of self.old) (values_of self.new)) }
         // What every answer keeps.
@@ -221,7 +230,8 @@ impl<N: Mechanism, K: Mechanism> Negotiate<N, K> {
     /// Both MICs are made.
     pub(crate) fn complete_signed(&mut self, token: Bytes) -> Result<Step, Refusal>
         // The step, and what a refused one leaves.
-        ensures step { Does N.meaning K.meaning (completes_signed (values_of self.old) token) self.old (told (answered result)) self.new }
+        ensures step { Does N.meaning K.meaning (completes_signed (values_of self.old) token)
+            self.old (told (answered result)) self.new }
         ensures stays { OnErr result (Stays (values_of self.old) (values_of self.new)) }
         // What every answer keeps.
         ensures unused { StaysSilent N.meaning K.meaning self.old self.new }
@@ -239,7 +249,8 @@ impl<N: Mechanism, K: Mechanism> Negotiate<N, K> {
     /// The own MIC goes first, and the peer's is to come.
     pub(crate) fn hand_mic(&mut self, token: Bytes) -> Result<Step, Refusal>
         // The step, and what a refused one leaves.
-        ensures step { Does N.meaning K.meaning (hands_mic (values_of self.old) token) self.old (told (answered result)) self.new }
+        ensures step { Does N.meaning K.meaning (hands_mic (values_of self.old) token) self.old
+            (told (answered result)) self.new }
         ensures stays { OnErr result (Stays (values_of self.old) (values_of self.new)) }
         // What every answer keeps.
         ensures unused { StaysSilent N.meaning K.meaning self.old self.new }

@@ -27,11 +27,13 @@ use sspi_types::{Bytes, SecurityStatus, Text};
 use std::alloc::Global;
 use std::marker::Model;
 
-/// One end of a negotiation (RFC 4178, section 5; MS-SPNG), over any two mechanisms in the places of NTLM and Kerberos.
+/// One end of a negotiation (RFC 4178, section 5; MS-SPNG), over any two mechanisms in the places
+/// of NTLM and Kerberos.
 ///
-/// A client offers mechanisms with a first token of the one that it likes best; a server picks one; that one then
-/// authenticates inside the tokens of the negotiation. Where the pick could have been forged, each end sends a MIC over the
-/// list of what was offered, and no end that needs the other's MIC ends without it.
+/// A client offers mechanisms with a first token of the one that it likes best; a server picks one;
+/// that one then authenticates inside the tokens of the negotiation. Where the pick could have been
+/// forged, each end sends a MIC over the list of what was offered, and no end that needs the
+/// other's MIC ends without it.
 #[derive(Drop)]
 pub struct Negotiate<N, K> {
     pub(crate) alloc: Global,
@@ -70,7 +72,8 @@ impl<N, K> Model for Negotiate<N, K> {
 }
 
 impl<N, K> Negotiate<N, K> {
-    /// Whether MICs over the mechanism list are needed, as far as it is known; true in a new object.
+    /// Whether MICs over the mechanism list are needed, as far as it is known; true in a new
+    /// object.
     pub fn mic_needed(&self) -> bool
         ensures { result ≡ self.now.need }
     {
@@ -103,10 +106,13 @@ impl<N: Mechanism, K: Mechanism> Negotiate<N, K> {
     /// Selects a new NTLM in the place of Kerberos.
     pub(crate) fn take_ntlm(&mut self) -> Result<(), Refusal>
         // The step.
-        ensures step { Passes N.meaning K.meaning (in_ntlm (hand_of self.old.mech) self.old.computer)
-            (record (values_of self.old) { hand = protocols.Ntlm }) self.old (answered result) self.new }
+        ensures step { Passes N.meaning K.meaning
+            (in_ntlm (hand_of self.old.mech) self.old.computer)
+            (record (values_of self.old) { hand = protocols.Ntlm }) self.old (answered result)
+            self.new }
         // What every answer keeps.
-        ensures stays { self.old.packages.ntlm ≡ true → Stays (values_of self.old) (values_of self.new) }
+        ensures stays { self.old.packages.ntlm ≡ true →
+            Stays (values_of self.old) (values_of self.new) }
         ensures unused { StaysSilent N.meaning K.meaning self.old self.new }
         ensures unmarked { StaysUnmarked N.meaning K.meaning self.old self.new }
         ensures configured { StaysConfigured (values_of self.old) (values_of self.new) }
@@ -123,9 +129,11 @@ impl<N: Mechanism, K: Mechanism> Negotiate<N, K> {
     fn replace_kerberos(&mut self) -> Result<(), Refusal>
         // The step.
         ensures step { Passes N.meaning K.meaning (in_ntlm protocols.Kerberos self.old.computer)
-            (record (values_of self.old) { hand = protocols.Ntlm }) self.old (answered result) self.new }
+            (record (values_of self.old) { hand = protocols.Ntlm }) self.old (answered result)
+            self.new }
         // What every answer keeps.
-        ensures stays { self.old.packages.ntlm ≡ true → Stays (values_of self.old) (values_of self.new) }
+        ensures stays { self.old.packages.ntlm ≡ true →
+            Stays (values_of self.old) (values_of self.new) }
         ensures unused { StaysSilent N.meaning K.meaning self.old self.new }
         ensures unmarked { StaysUnmarked N.meaning K.meaning self.old self.new }
         ensures configured { StaysConfigured (values_of self.old) (values_of self.new) }
@@ -147,7 +155,8 @@ impl<N: Mechanism, K: Mechanism> Negotiate<N, K> {
     ) -> Result<Step, Refusal>
         // The step, and what a refused one leaves.
         ensures step { Does N.meaning K.meaning
-            (writes token.now (values_of self.old) (record (values_of self.old) { need = need; state = state }) status)
+            (writes token.now (values_of self.old)
+            (record (values_of self.old) { need = need; state = state }) status)
             self.old (told (answered result)) self.new }
         ensures stays { OnErr result (Stays (values_of self.old) (values_of self.new)) }
         ensures need { OnErr result (self.new.need ≡ self.old.need) }
@@ -167,7 +176,8 @@ impl<N: Mechanism, K: Mechanism> Negotiate<N, K> {
     #[tactic(auto, unfolding(crate::specs::Rows::completes))]
     pub(crate) fn complete(&mut self, token: Bytes, need: bool) -> Result<Step, Refusal>
         // The step, and what a refused one leaves.
-        ensures step { Does N.meaning K.meaning (completes (values_of self.old) token need) self.old (told (answered result)) self.new }
+        ensures step { Does N.meaning K.meaning (completes (values_of self.old) token need) self.old
+            (told (answered result)) self.new }
         ensures stays { OnErr result (Stays (values_of self.old) (values_of self.new)) }
         ensures need { OnErr result (self.new.need ≡ self.old.need) }
         ensures same { need ≡ self.old.need → self.new.need ≡ self.old.need }
@@ -188,7 +198,8 @@ impl<N: Mechanism, K: Mechanism> Negotiate<N, K> {
     pub(crate) fn end(&mut self) -> Result<Step, Refusal>
         // The step, and what a refused one leaves.
         ensures step { Does N.meaning K.meaning
-            (Goes (record (values_of self.old) { state = states.Ok }) (record { status = statuses.Ok; output = [] }))
+            (Goes (record (values_of self.old) { state = states.Ok })
+            (record { status = statuses.Ok; output = [] }))
             self.old (told (answered result)) self.new }
         ensures stays { OnErr result (Stays (values_of self.old) (values_of self.new)) }
         // What every answer keeps.
@@ -207,7 +218,8 @@ impl<N: Mechanism, K: Mechanism> Negotiate<N, K> {
     #[tactic(auto, unfolding(crate::specs::Rows::carries_on))]
     pub(crate) fn carry_on(&mut self, token: Bytes, status: SecurityStatus) -> Result<Step, Refusal>
         // The step, and what a refused one leaves.
-        ensures step { Does N.meaning K.meaning (carries_on (values_of self.old) token status) self.old (told (answered result)) self.new }
+        ensures step { Does N.meaning K.meaning (carries_on (values_of self.old) token status)
+            self.old (told (answered result)) self.new }
         ensures stays { OnErr result (Stays (values_of self.old) (values_of self.new)) }
         // What every answer keeps.
         ensures unused { StaysSilent N.meaning K.meaning self.old self.new }

@@ -12,7 +12,8 @@ use std::alloc::{AllocError, Global};
 pub struct NegotiateConfig {
     /// The mechanism that it begins with.
     pub protocol_config: ProtocolConfig,
-    /// Which packages it may use, as `PackageListConfig::parse` reads it; all of them where there is no list.
+    /// Which packages it may use, as `PackageListConfig::parse` reads it; all of them where there
+    /// is no list.
     pub package_list: Option<Text>,
     /// The name of the client's computer, for the mechanisms that are taken later.
     pub client_computer_name: Text,

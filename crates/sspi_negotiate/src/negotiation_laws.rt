@@ -10,7 +10,8 @@ ghost use Rattle.sspi_mech.specs.Context.{IsContext};
 ghost use Rattle.sspi_negotiate.specs.declared.protocol.NegotiatedProtocol.{NegotiatedProtocol};
 ghost use Rattle.sspi_negotiate.specs.Does.{StaysNeeded, StaysPicked, StaysConfigured};
 ghost use Rattle.sspi_negotiate.specs.Does.{UnlessMemory, told};
-ghost use Rattle.sspi_negotiate.specs.Choices.{chosen_in, chosen_at, excuses_guest, other_protocol, UnlessRefused};
+ghost use Rattle.sspi_negotiate.specs.Choices.{chosen_in, chosen_at, excuses_guest, other_protocol};
+ghost use Rattle.sspi_negotiate.specs.Choices.{UnlessRefused};
 ghost use Rattle.sspi_negotiate.specs.declared.protocol.Protocol.{Protocol};
 ghost use Rattle.sspi_mech.specs.declared.step.Answer.TheVariants as answers;
 ghost use Rattle.sspi_negotiate.specs.declared.state.NegotiateState.TheVariants as states;
@@ -26,13 +27,15 @@ ghost use Rattle.sspi_negotiate.specs.Negotiate.{negotiate};
 
 use sspi_mech::Mechanism;
 
-/// A negotiation over any two mechanisms keeps what every context keeps: where nothing was sealed nothing is, and each
-/// further question to a KDC is one fewer to come, also where NTLM took the place of Kerberos in between.
+/// A negotiation over any two mechanisms keeps what every context keeps: where nothing was sealed
+/// nothing is, and each further question to a KDC is one fewer to come, also where NTLM took the
+/// place of Kerberos in between.
 pub fn negotiation_is_context<N: Mechanism, K: Mechanism>()
     ensures { IsContext (negotiate N.REQUESTS N.meaning K.meaning) }
 {}
 
-/// No step enables a package again or leaves a selected mechanism that may not be used, whatever it answers, out of memory too.
+/// No step enables a package again or leaves a selected mechanism that may not be used, whatever it
+/// answers, out of memory too.
 pub fn packages_are_kept<N: Mechanism, K: Mechanism>()
     ensures client { (old new : Negotiation (NegotiatedProtocol N K)) (args : StepArgs)
         (answer : Answer) →
@@ -48,12 +51,13 @@ pub fn packages_are_kept<N: Mechanism, K: Mechanism>()
         KeepsPackages old.packages (hand_of old.mech) new.packages (hand_of new.mech) }
 {}
 
-/// No step replaces the list of mechanisms that the client once offered, beside what `packages_are_kept` says; out of memory
-/// apart, in which `Stays` says what stays.
+/// No step replaces the list of mechanisms that the client once offered, beside what
+/// `packages_are_kept` says; out of memory apart, in which `Stays` says what stays.
 pub fn steps_keep<N: Mechanism, K: Mechanism>()
     ensures client { (old new : Negotiation (NegotiatedProtocol N K)) (args : StepArgs)
         (answer : Answer) →
-        (negotiate N.REQUESTS N.meaning K.meaning).steps old args answer new → UnlessMemory answer (Keeps (values_of old) (values_of new)) }
+        (negotiate N.REQUESTS N.meaning K.meaning).steps old args answer new →
+        UnlessMemory answer (Keeps (values_of old) (values_of new)) }
     ensures resumed { (old new : Negotiation (NegotiatedProtocol N K)) (reply : Reply)
         (answer : Answer) →
         (negotiate N.REQUESTS N.meaning K.meaning).resumes old reply answer new →
@@ -64,16 +68,23 @@ pub fn steps_keep<N: Mechanism, K: Mechanism>()
         UnlessMemory (told result) (Keeps (values_of old) (values_of new)) }
 {}
 
-/// A server's choice stays: in a later step that takes it the client disables the other mechanism, and it takes no choice of one that
-/// is disabled. No package is enabled again (`packages_are_kept`), so once Kerberos was chosen a choice of NTLM is refused, and the
-/// other way round.
+/// A server's choice stays: in a later step that takes it the client disables the other mechanism,
+/// and it takes no choice of one that is disabled. No package is enabled again
+/// (`packages_are_kept`), so once Kerberos was chosen a choice of NTLM is refused, and the other
+/// way round.
 pub fn choices_are_kept<N: Mechanism, K: Mechanism>()
-    ensures disables { (old new : Negotiation (NegotiatedProtocol N K)) (args : StepArgs) (answer : Answer) (protocol : Protocol) →
-        (negotiate N.REQUESTS N.meaning K.meaning).steps old args answer new → old.state ≡ states.InProgress →
-        chosen_in args.input ≡ Some protocol → UnlessRefused answer (may_use new.packages (other_protocol protocol) ≡ false) }
-    ensures refused { (old new : Negotiation (NegotiatedProtocol N K)) (args : StepArgs) (answer : Answer) (protocol : Protocol) →
-        (negotiate N.REQUESTS N.meaning K.meaning).steps old args answer new → old.state ≡ states.InProgress →
-        chosen_in args.input ≡ Some protocol → may_use old.packages protocol ≡ false → UnlessRefused answer ⊥ }
+    ensures disables { (old new : Negotiation (NegotiatedProtocol N K)) (args : StepArgs)
+        (answer : Answer) (protocol : Protocol) →
+        (negotiate N.REQUESTS N.meaning K.meaning).steps old args answer new →
+        old.state ≡ states.InProgress →
+        chosen_in args.input ≡ Some protocol →
+        UnlessRefused answer (may_use new.packages (other_protocol protocol) ≡ false) }
+    ensures refused { (old new : Negotiation (NegotiatedProtocol N K)) (args : StepArgs)
+        (answer : Answer) (protocol : Protocol) →
+        (negotiate N.REQUESTS N.meaning K.meaning).steps old args answer new →
+        old.state ≡ states.InProgress →
+        chosen_in args.input ≡ Some protocol → may_use old.packages protocol ≡ false →
+        UnlessRefused answer ⊥ }
 {}
 
 /// What is selected, allowed and kept, out of memory included. Behind the first step, a client's
@@ -111,7 +122,8 @@ pub fn hand_is_kept<N: Mechanism, K: Mechanism>()
         (result : Result Step Error) →
         (negotiate N.REQUESTS N.meaning K.meaning).accepts old args result new → StaysConfigured
         (values_of old) (values_of new) }
-    ensures server_lives { (old new : Negotiation (NegotiatedProtocol N K)) (args : AcceptArgs) (result : Result Step Error) →
+    ensures server_lives { (old new : Negotiation (NegotiatedProtocol N K)) (args : AcceptArgs)
+        (result : Result Step Error) →
         (negotiate N.REQUESTS N.meaning K.meaning).accepts old args result new →
         old.state ≢ states.Initial → LivesOn (hand N.meaning K.meaning) args old.mech new.mech }
 {}
@@ -136,57 +148,74 @@ pub fn refusals_are_exact<N: Mechanism, K: Mechanism>()
         TellsKind (server_refusal old.role old.state args.input) (told result) }
 {}
 
-/// Where MICs are needed they stay so, out of memory included: a server's refused step leaves the need as it was, and so does a
-/// resumed step, whatever it answers. A client's first step leaves it, or makes it what the flags
-/// of the step say. Behind the first step, a client's step takes it away only by the server's
-/// choice of NTLM, which may be used, for a guest, and a server's only where the peer is a guest by
-/// the name that the mechanism then selected gives.
+/// Where MICs are needed they stay so, out of memory included: a server's refused step leaves the
+/// need as it was, and so does a resumed step, whatever it answers. A client's first step leaves
+/// it, or makes it what the flags of the step say. Behind the first step, a client's step takes it
+/// away only by the server's choice of NTLM, which may be used, for a guest, and a server's only
+/// where the peer is a guest by the name that the mechanism then selected gives.
 pub fn mic_need_is_kept<N: Mechanism, K: Mechanism>()
     ensures client { (old new : Negotiation (NegotiatedProtocol N K)) (args : StepArgs)
         (answer : Answer) →
         (negotiate N.REQUESTS N.meaning K.meaning).steps old args answer new →
         old.state ≢ states.Initial →
-        StaysNeeded (excuses_guest (chosen_at old.state args.input) (values_of old) args) (values_of old) (values_of new) }
+        StaysNeeded (excuses_guest (chosen_at old.state args.input) (values_of old) args)
+        (values_of old) (values_of new) }
     ensures client_first { (old new : Negotiation (NegotiatedProtocol N K)) (args : StepArgs)
         (answer : Answer) →
         (negotiate N.REQUESTS N.meaning K.meaning).steps old args answer new →
         old.state ≡ states.Initial → MayNeed args.requirements old.need new.need }
     ensures resumed { (old new : Negotiation (NegotiatedProtocol N K)) (reply : Reply)
         (answer : Answer) →
-        (negotiate N.REQUESTS N.meaning K.meaning).resumes old reply answer new → new.need ≡ old.need }
+        (negotiate N.REQUESTS N.meaning K.meaning).resumes old reply answer new →
+        new.need ≡ old.need }
     ensures server { (old new : Negotiation (NegotiatedProtocol N K)) (args : AcceptArgs)
         (result : Result Step Error) →
-        (negotiate N.REQUESTS N.meaning K.meaning).accepts old args result new → OnErr result (new.need ≡ old.need) }
-    ensures server_done { (old new : Negotiation (NegotiatedProtocol N K)) (args : AcceptArgs) (step : Step) →
+        (negotiate N.REQUESTS N.meaning K.meaning).accepts old args result new →
+        OnErr result (new.need ≡ old.need) }
+    ensures server_done { (old new : Negotiation (NegotiatedProtocol N K)) (args : AcceptArgs)
+        (step : Step) →
         (negotiate N.REQUESTS N.meaning K.meaning).accepts old args (Ok step) new →
         old.state ≢ states.Initial → old.need ≡ true →
         (new.need ≡ true) ⊎ IsGuestNamed (hand N.meaning K.meaning) new.mech }
 {}
 
-/// An end that needs MICs comes to its end only where, in that very step, the mechanism that is left selected verified the
-/// peer's next MIC over the list of mechanisms as it is kept, and since then made at most its own (RFC 4178, section 5). That holds
-/// where MICs are needed after the step, and, behind the first step, where they were needed before it: but on a client where the
-/// server chose NTLM, which may be used, for a guest, and on a server where the mechanism names its peer as a guest.
+/// An end that needs MICs comes to its end only where, in that very step, the mechanism that is
+/// left selected verified the peer's next MIC over the list of mechanisms as it is kept, and since
+/// then made at most its own (RFC 4178, section 5). That holds where MICs are needed after the
+/// step, and, behind the first step, where they were needed before it: but on a client where the
+/// server chose NTLM, which may be used, for a guest, and on a server where the mechanism names its
+/// peer as a guest.
 pub fn mics_protect_the_list<N: Mechanism, K: Mechanism>()
-    ensures client { (old new : Negotiation (NegotiatedProtocol N K)) (args : StepArgs) (step : Step) →
+    ensures client { (old new : Negotiation (NegotiatedProtocol N K)) (args : StepArgs)
+        (step : Step) →
         (negotiate N.REQUESTS N.meaning K.meaning).steps old args (answers.Done step) new →
-        new.state ≡ states.Ok → new.need ≡ true → IsVerified (hand N.meaning K.meaning) new.list new.mech }
-    ensures resumed { (old new : Negotiation (NegotiatedProtocol N K)) (reply : Reply) (step : Step) → old.state ≢ states.Ok →
+        new.state ≡ states.Ok → new.need ≡ true →
+        IsVerified (hand N.meaning K.meaning) new.list new.mech }
+    ensures resumed { (old new : Negotiation (NegotiatedProtocol N K)) (reply : Reply)
+        (step : Step) → old.state ≢ states.Ok →
         (negotiate N.REQUESTS N.meaning K.meaning).resumes old reply (answers.Done step) new →
-        new.state ≡ states.Ok → new.need ≡ true → IsVerified (hand N.meaning K.meaning) new.list new.mech }
-    ensures server { (old new : Negotiation (NegotiatedProtocol N K)) (args : AcceptArgs) (step : Step) →
+        new.state ≡ states.Ok → new.need ≡ true →
+        IsVerified (hand N.meaning K.meaning) new.list new.mech }
+    ensures server { (old new : Negotiation (NegotiatedProtocol N K)) (args : AcceptArgs)
+        (step : Step) →
         (negotiate N.REQUESTS N.meaning K.meaning).accepts old args (Ok step) new →
-        new.state ≡ states.Ok → new.need ≡ true → IsVerified (hand N.meaning K.meaning) new.list new.mech }
-    ensures client_before { (old new : Negotiation (NegotiatedProtocol N K)) (args : StepArgs) (step : Step) →
+        new.state ≡ states.Ok → new.need ≡ true →
+        IsVerified (hand N.meaning K.meaning) new.list new.mech }
+    ensures client_before { (old new : Negotiation (NegotiatedProtocol N K)) (args : StepArgs)
+        (step : Step) →
         (negotiate N.REQUESTS N.meaning K.meaning).steps old args (answers.Done step) new →
         new.state ≡ states.Ok → old.state ≢ states.Initial → old.need ≡ true →
         excuses_guest (chosen_at old.state args.input) (values_of old) args ≡ false →
         IsVerified (hand N.meaning K.meaning) new.list new.mech }
-    ensures resumed_before { (old new : Negotiation (NegotiatedProtocol N K)) (reply : Reply) (step : Step) → old.state ≢ states.Ok →
+    ensures resumed_before { (old new : Negotiation (NegotiatedProtocol N K)) (reply : Reply)
+        (step : Step) → old.state ≢ states.Ok →
         (negotiate N.REQUESTS N.meaning K.meaning).resumes old reply (answers.Done step) new →
-        new.state ≡ states.Ok → old.need ≡ true → IsVerified (hand N.meaning K.meaning) new.list new.mech }
-    ensures server_before { (old new : Negotiation (NegotiatedProtocol N K)) (args : AcceptArgs) (step : Step) →
+        new.state ≡ states.Ok → old.need ≡ true →
+        IsVerified (hand N.meaning K.meaning) new.list new.mech }
+    ensures server_before { (old new : Negotiation (NegotiatedProtocol N K)) (args : AcceptArgs)
+        (step : Step) →
         (negotiate N.REQUESTS N.meaning K.meaning).accepts old args (Ok step) new →
         new.state ≡ states.Ok → old.state ≢ states.Initial → old.need ≡ true →
-        IsVerified (hand N.meaning K.meaning) new.list new.mech ⊎ IsGuestNamed (hand N.meaning K.meaning) new.mech }
+        IsVerified (hand N.meaning K.meaning) new.list new.mech ⊎
+        IsGuestNamed (hand N.meaning K.meaning) new.mech }
 {}

@@ -3,7 +3,8 @@
 ghost use Rattle.std.specs.Prelude.{◌≡◌, ◌≢◌, None, IfOk, IfErr};
 ghost use Rattle.sspi_mech.specs.Calls.{no_counts};
 ghost use Rattle.sspi_negotiate.specs.Hand.{hand};
-ghost use Rattle.sspi_negotiate.specs.New.{ForClient, ForServer, packages_in, without_ntlm, without_kerberos};
+ghost use Rattle.sspi_negotiate.specs.New.{ForClient, ForServer, packages_in, without_ntlm};
+ghost use Rattle.sspi_negotiate.specs.New.{without_kerberos};
 ghost use Rattle.sspi_negotiate.specs.New.{first_by, first_in_hand, IsFirst, IsUnmade, TellsUnmade};
 ghost use Rattle.sspi_negotiate.specs.New.{Begins, MadeOf, UnmadeOf};
 
@@ -37,7 +38,8 @@ fn make_without_ntlm<N: Mechanism, K: Mechanism>(
     config: &NegotiateConfig,
     kerberos: bool,
 ) -> Result<NegotiatedProtocol<N, K>, Refusal>
-    ensures made { IfOk result (λ it. IsFirst (hand N.meaning K.meaning) (without_ntlm role config.now kerberos) it) }
+    ensures made { IfOk result (λ it. IsFirst (hand N.meaning K.meaning)
+        (without_ntlm role config.now kerberos) it) }
     ensures fresh { IfOk result (λ it. (hand N.meaning K.meaning).counts it ≡ no_counts) }
     ensures cause { IfErr result (λ error. error.error_type ≢ ErrorKind.InsufficientMemory →
         IsUnmade (without_ntlm role config.now kerberos) error.error_type) }
@@ -66,7 +68,8 @@ fn make_without_kerberos<N: Mechanism, K: Mechanism>(
     config: &NegotiateConfig,
     ntlm: bool,
 ) -> Result<NegotiatedProtocol<N, K>, Refusal>
-    ensures made { IfOk result (λ it. IsFirst (hand N.meaning K.meaning) (without_kerberos config.now ntlm) it) }
+    ensures made { IfOk result (λ it. IsFirst (hand N.meaning K.meaning)
+        (without_kerberos config.now ntlm) it) }
     ensures fresh { IfOk result (λ it. (hand N.meaning K.meaning).counts it ≡ no_counts) }
     ensures cause { IfErr result (λ error. error.error_type ≢ ErrorKind.InsufficientMemory →
         IsUnmade (without_kerberos config.now ntlm) error.error_type) }
@@ -88,12 +91,14 @@ fn make_first<N: Mechanism, K: Mechanism>(
     packages: PackageListConfig,
 ) -> Result<NegotiatedProtocol<N, K>, Refusal>
     ensures made { IfOk result (λ it.
-        IsFirst (hand N.meaning K.meaning) (first_by role config.now config.now.protocol_config packages) it) }
+        IsFirst (hand N.meaning K.meaning)
+        (first_by role config.now config.now.protocol_config packages) it) }
     ensures fresh { IfOk result (λ it. (hand N.meaning K.meaning).counts it ≡ no_counts) }
     ensures cause { IfErr result (λ error. error.error_type ≢ ErrorKind.InsufficientMemory →
         IsUnmade (first_by role config.now config.now.protocol_config packages) error.error_type) }
     ensures exact { IfErr result (λ error.
-        TellsUnmade (first_by role config.now config.now.protocol_config packages) error.error_type) }
+        TellsUnmade (first_by role config.now config.now.protocol_config packages)
+        error.error_type) }
 {
     match &config.protocol_config {
         ProtocolConfig::Ntlm(_) => {
@@ -156,9 +161,10 @@ fn begin<N: Mechanism, K: Mechanism>(
 impl<N: Mechanism, K: Mechanism> Negotiate<N, K> {
     /// The client of a negotiation.
     ///
-    /// It begins with the mechanism of its configuration where the list of packages enables that, else with the other one. An
-    /// NTLM in that place is of the configuration's computer name; a Kerberos is of that and of its KDCs, without a URL of its
-    /// own. `NoCredentials` exactly where no package is enabled.
+    /// It begins with the mechanism of its configuration where the list of packages enables that,
+    /// else with the other one. An NTLM in that place is of the configuration's computer name; a
+    /// Kerberos is of that and of its KDCs, without a URL of its own. `NoCredentials` exactly where
+    /// no package is enabled.
     pub fn new_client(alloc: Global, config: &NegotiateConfig) -> Result<Self, Error>
         ensures made { IfOk result (λ it. MadeOf N.meaning K.meaning (ForClient config.now) it) }
         ensures fresh { IfOk result (λ it. (hand N.meaning K.meaning).counts it.mech ≡ no_counts) }
@@ -173,14 +179,15 @@ impl<N: Mechanism, K: Mechanism> Negotiate<N, K> {
 
     /// The server of a negotiation, which knows these identities of its peers.
     ///
-    /// As `new_client`, but no Kerberos takes the place of an NTLM: `InternalError` where it is configured with NTLM, which is
-    /// disabled, and Kerberos is enabled.
+    /// As `new_client`, but no Kerberos takes the place of an NTLM: `InternalError` where it is
+    /// configured with NTLM, which is disabled, and Kerberos is enabled.
     pub fn new_server(
         alloc: Global,
         config: &NegotiateConfig,
         auth_data: Vec<AuthIdentity>,
     ) -> Result<Self, Error>
-        ensures made { IfOk result (λ it. MadeOf N.meaning K.meaning (ForServer config.now auth_data.items) it) }
+        ensures made { IfOk result (λ it. MadeOf N.meaning K.meaning
+            (ForServer config.now auth_data.items) it) }
         ensures fresh { IfOk result (λ it. (hand N.meaning K.meaning).counts it.mech ≡ no_counts) }
         ensures codeless { IfErr result (λ error. error.nstatus ≡ None) }
         ensures cause { IfErr result (λ error. error.error_type ≢ ErrorKind.InsufficientMemory →

@@ -10,7 +10,8 @@ ghost use Rattle.sspi_negotiate.specs.Beginning.{SameHand, FallsBy, Falls, Falls
 ghost use Rattle.sspi_negotiate.specs.Client.{at_initial, first_step, has_begun, begun, offers};
 ghost use Rattle.sspi_negotiate.specs.Client.{falls, falls_back};
 ghost use Rattle.sspi_negotiate.specs.Client.{steps_again, handle_for, passwords, resumes_opening};
-ghost use Rattle.sspi_negotiate.specs.Does.{Does, Stays, StaysUnmarked, StaysSilent, UnlessMemory, WaitsOn, told};
+ghost use Rattle.sspi_negotiate.specs.Does.{Does, Stays, StaysUnmarked, StaysSilent, UnlessMemory};
+ghost use Rattle.sspi_negotiate.specs.Does.{WaitsOn, told};
 ghost use Rattle.sspi_negotiate.specs.Exact.{TellsKind, kind_if};
 ghost use Rattle.sspi_negotiate.specs.Hand.{hand, hand_of, is_kerberos_hand};
 ghost use Rattle.sspi_negotiate.specs.Holding.{MayNeed};
@@ -47,10 +48,14 @@ pub(crate) fn step_with<N: Mechanism, K: Mechanism>(
 ) -> Answer
     // The step.
     ensures step { (hand N.meaning K.meaning).steps protocol.old
-        (record (step_args args.now) { handle = handle_for (hand_of protocol.old) kept.now (option_copied args.now.credentials_handle) })
+        (record (step_args args.now) {
+          handle = handle_for (hand_of protocol.old) kept.now
+              (option_copied args.now.credentials_handle);
+        })
         result protocol.new }
     // What every answer keeps, and that a refusal has no code.
-    ensures unused { let c = hand N.meaning K.meaning in NeitherSealsNorOpens (c.counts protocol.old) (c.counts protocol.new) }
+    ensures unused { let c = hand N.meaning K.meaning in NeitherSealsNorOpens
+        (c.counts protocol.old) (c.counts protocol.new) }
     ensures unmarked { HasNoMic ((hand N.meaning K.meaning).counts protocol.old)
         → HasNoMic ((hand N.meaning K.meaning).counts protocol.new) }
     ensures named { hand_of protocol.new ≡ hand_of protocol.old }
@@ -81,7 +86,8 @@ fn step_again<N: Mechanism, K: Mechanism>(
       input = first.now.input;
     }) result protocol.new }
     // What every answer keeps, and that a refusal has no code.
-    ensures unused { let c = hand N.meaning K.meaning in NeitherSealsNorOpens (c.counts protocol.old) (c.counts protocol.new) }
+    ensures unused { let c = hand N.meaning K.meaning in NeitherSealsNorOpens
+        (c.counts protocol.old) (c.counts protocol.new) }
     ensures unmarked { HasNoMic ((hand N.meaning K.meaning).counts protocol.old)
         → HasNoMic ((hand N.meaning K.meaning).counts protocol.new) }
     ensures named { hand_of protocol.new ≡ hand_of protocol.old }
@@ -107,10 +113,12 @@ impl<N: Mechanism, K: Mechanism> Negotiate<N, K> {
         args: &InitializeSecurityContext<'_>,
     ) -> Result<Progressing, Refusal>
         // The step, and what a refused one leaves.
-        ensures step { Does N.meaning K.meaning (at_initial (values_of self.old) (step_args args.now))
+        ensures step { Does N.meaning K.meaning
+            (at_initial (values_of self.old) (step_args args.now))
             self.old (answer_of (answered result)) self.new }
         ensures stays { OnErr result (Stays (values_of self.old) (values_of self.new)) }
-        ensures held { OnErr result (FallsBy (Falls (hand N.meaning K.meaning) self.old.mech (step_args args.now))
+        ensures held { OnErr result
+            (FallsBy (Falls (hand N.meaning K.meaning) self.old.mech (step_args args.now))
             (values_of self.old) (values_of self.new)) }
         // What every answer keeps.
         ensures unused { StaysSilent N.meaning K.meaning self.old self.new }
@@ -130,10 +138,12 @@ impl<N: Mechanism, K: Mechanism> Negotiate<N, K> {
         args: &InitializeSecurityContext<'_>,
     ) -> Result<Progressing, Refusal>
         // The step, and what a refused one leaves.
-        ensures step { Does N.meaning K.meaning (first_step first (values_of self.old) (step_args args.now))
+        ensures step { Does N.meaning K.meaning
+            (first_step first (values_of self.old) (step_args args.now))
             self.old (answer_of (answered result)) self.new }
         ensures stays { OnErr result (Stays (values_of self.old) (values_of self.new)) }
-        ensures held { OnErr result (FallsBy (Falls (hand N.meaning K.meaning) self.old.mech (step_args args.now))
+        ensures held { OnErr result
+            (FallsBy (Falls (hand N.meaning K.meaning) self.old.mech (step_args args.now))
             (values_of self.old) (values_of self.new)) }
         // What every answer keeps.
         ensures unused { StaysSilent N.meaning K.meaning self.old self.new }
@@ -153,7 +163,8 @@ impl<N: Mechanism, K: Mechanism> Negotiate<N, K> {
 
     fn begin(&mut self, step: Step) -> Result<Step, Refusal>
         // The step, and what a refused one leaves.
-        ensures step { Does N.meaning K.meaning (begun (values_of self.old) step) self.old (told (answered result)) self.new }
+        ensures step { Does N.meaning K.meaning (begun (values_of self.old) step) self.old
+            (told (answered result)) self.new }
         ensures stays { OnErr result (Stays (values_of self.old) (values_of self.new)) }
         ensures exact { TellsKind (kind_if (not (has_begun step.status)) ErrorKind.InternalError)
             (told (answered result)) }
@@ -174,7 +185,8 @@ impl<N: Mechanism, K: Mechanism> Negotiate<N, K> {
     #[tactic(auto, unfolding(crate::specs::Client::offers))]
     fn offer(&mut self, token: Bytes) -> Result<Step, Refusal>
         // The step, and what a refused one leaves.
-        ensures step { Does N.meaning K.meaning (offers (values_of self.old) token) self.old (told (answered result)) self.new }
+        ensures step { Does N.meaning K.meaning (offers (values_of self.old) token) self.old
+            (told (answered result)) self.new }
         ensures stays { OnErr result (Stays (values_of self.old) (values_of self.new)) }
         // What every answer keeps.
         ensures unused { StaysSilent N.meaning K.meaning self.old self.new }
@@ -199,7 +211,8 @@ impl<N: Mechanism, K: Mechanism> Negotiate<N, K> {
 
     /// Whether NTLM takes the place of Kerberos after this refusal.
     fn falls_back(&self, refusal: &Refusal) -> bool
-        ensures { result ≡ (is_fallback refusal.now.error_type && is_kerberos_hand (hand_of self.now.mech) && self.now.packages.ntlm) }
+        ensures { result ≡ (is_fallback refusal.now.error_type &&
+            is_kerberos_hand (hand_of self.now.mech) && self.now.packages.ntlm) }
     {
         is_fallback(refusal.error_type) && self.protocol.is_kerberos() && self.packages.ntlm
     }
@@ -207,17 +220,20 @@ impl<N: Mechanism, K: Mechanism> Negotiate<N, K> {
     #[tactic(auto, using(crate::proofs::Tokens::fallback_is_other))]
     fn fall(&mut self, refusal: Refusal, first: Opening) -> Result<Progressing, Refusal>
         // The step, and what a refused one leaves.
-        ensures step { Does N.meaning K.meaning (falls (values_of self.old) (values_of self.old) first refusal.error_type)
+        ensures step { Does N.meaning K.meaning
+            (falls (values_of self.old) (values_of self.old) first refusal.error_type)
             self.old (answer_of (answered result)) self.new }
         ensures stays { OnErr result (Stays (values_of self.old) (values_of self.new)) }
-        ensures held { OnErr result (FallsBy ((is_fallback refusal.error_type ≡ true) × (is_kerberos_hand (hand_of self.old.mech) ≡ true))
+        ensures held { OnErr result (FallsBy ((is_fallback refusal.error_type ≡ true) ×
+            (is_kerberos_hand (hand_of self.old.mech) ≡ true))
             (values_of self.old) (values_of self.new)) }
         // What every answer keeps.
         ensures unused { StaysSilent N.meaning K.meaning self.old self.new }
         ensures unmarked { StaysUnmarked N.meaning K.meaning self.old self.new }
         ensures kept { self.new.kept ≡ self.old.kept }
         ensures need { self.new.need ≡ self.old.need }
-        ensures other { UnlessMemory (answer_of (answered result)) (refusal.error_type ≢ ErrorKind.InsufficientMemory) }
+        ensures other { UnlessMemory (answer_of (answered result))
+            (refusal.error_type ≢ ErrorKind.InsufficientMemory) }
     {
         if self.falls_back(&refusal) {
             self.fall_back(first, false)
@@ -230,17 +246,21 @@ impl<N: Mechanism, K: Mechanism> Negotiate<N, K> {
     fn fall_waiting(&mut self, refusal: Refusal, first: Opening) -> Result<Progressing, Refusal>
         // The step, and what a refused one leaves.
         ensures step { Does N.meaning K.meaning
-            (falls (record (values_of self.old) { branch = branches.Opening first }) (values_of self.old) first refusal.error_type)
+            (falls (record (values_of self.old) { branch = branches.Opening first })
+            (values_of self.old) first refusal.error_type)
             self.old (answer_of (answered result)) self.new }
-        ensures stays { OnErr result (WaitsOn (record self.old { branch = branches.Opening first }) self.old self.new) }
-        ensures held { OnErr result (FallsBy ((is_fallback refusal.error_type ≡ true) × (is_kerberos_hand (hand_of self.old.mech) ≡ true))
+        ensures stays { OnErr result (WaitsOn (record self.old { branch = branches.Opening first })
+            self.old self.new) }
+        ensures held { OnErr result (FallsBy ((is_fallback refusal.error_type ≡ true) ×
+            (is_kerberos_hand (hand_of self.old.mech) ≡ true))
             (values_of self.old) (values_of self.new)) }
         // What every answer keeps.
         ensures unused { StaysSilent N.meaning K.meaning self.old self.new }
         ensures unmarked { StaysUnmarked N.meaning K.meaning self.old self.new }
         ensures kept { self.new.kept ≡ self.old.kept }
         ensures need { self.new.need ≡ self.old.need }
-        ensures other { UnlessMemory (answer_of (answered result)) (refusal.error_type ≢ ErrorKind.InsufficientMemory) }
+        ensures other { UnlessMemory (answer_of (answered result))
+            (refusal.error_type ≢ ErrorKind.InsufficientMemory) }
     {
         if self.falls_back(&refusal) {
             self.fall_back(first, true)
@@ -250,14 +270,18 @@ impl<N: Mechanism, K: Mechanism> Negotiate<N, K> {
         }
     }
 
-    /// NTLM makes the step. Where there is no memory for it, a step that waited for a KDC waits still.
+    /// NTLM makes the step. Where there is no memory for it, a step that waited for a KDC waits
+    /// still.
     #[tactic(auto, unfolding(crate::specs::Client::falls_back))]
     fn fall_back(&mut self, first: Opening, waited: bool) -> Result<Progressing, Refusal>
         // The step, and what a refused one leaves.
-        ensures step { Does N.meaning K.meaning (falls_back (values_of self.old) first) self.old (answer_of (answered result)) self.new }
-        ensures stays { self.old.packages.ntlm ≡ true → waited ≡ false → OnErr result (Stays (values_of self.old) (values_of self.new)) }
+        ensures step { Does N.meaning K.meaning (falls_back (values_of self.old) first) self.old
+            (answer_of (answered result)) self.new }
+        ensures stays { self.old.packages.ntlm ≡ true → waited ≡ false →
+            OnErr result (Stays (values_of self.old) (values_of self.new)) }
         ensures waits { self.old.packages.ntlm ≡ true → waited ≡ true →
-            OnErr result (WaitsOn (record self.old { branch = branches.Opening first }) self.old self.new) }
+            OnErr result (WaitsOn (record self.old { branch = branches.Opening first }) self.old
+            self.new) }
         ensures held { OnErr result (FallsBy (Unit {0}) (values_of self.old) (values_of self.new)) }
         // What every answer keeps.
         ensures unused { StaysSilent N.meaning K.meaning self.old self.new }
@@ -283,7 +307,8 @@ impl<N: Mechanism, K: Mechanism> Negotiate<N, K> {
     #[tactic(auto, unfolding(crate::specs::Client::steps_again))]
     fn open_again(&mut self, first: Opening) -> Result<Progressing, Refusal>
         // The step, and what a refused one leaves.
-        ensures step { Does N.meaning K.meaning (steps_again (values_of self.old) first) self.old (answer_of (answered result)) self.new }
+        ensures step { Does N.meaning K.meaning (steps_again (values_of self.old) first) self.old
+            (answer_of (answered result)) self.new }
         ensures stays { OnErr result (Stays (values_of self.old) (values_of self.new)) }
         // What every answer keeps.
         ensures unused { StaysSilent N.meaning K.meaning self.old self.new }
@@ -309,10 +334,13 @@ impl<N: Mechanism, K: Mechanism> Negotiate<N, K> {
         reply: &Reply,
     ) -> Result<Progressing, Refusal>
         // The step, and what a refused one leaves.
-        ensures step { Does N.meaning K.meaning (resumes_opening first (values_of self.old) reply.now)
+        ensures step { Does N.meaning K.meaning
+            (resumes_opening first (values_of self.old) reply.now)
             self.old (answer_of (answered result)) self.new }
-        ensures stays { OnErr result (WaitsOn (record self.old { branch = branches.Opening first }) self.old self.new) }
-        ensures held { OnErr result (FallsBy (FallsResumed (hand N.meaning K.meaning) self.old.mech reply.now)
+        ensures stays { OnErr result (WaitsOn (record self.old { branch = branches.Opening first })
+            self.old self.new) }
+        ensures held { OnErr result
+            (FallsBy (FallsResumed (hand N.meaning K.meaning) self.old.mech reply.now)
             (values_of self.old) (values_of self.new)) }
         // What every answer keeps.
         ensures unused { StaysSilent N.meaning K.meaning self.old self.new }

@@ -1,7 +1,8 @@
 //! Which mechanism a server picks of a client's list.
 
 ghost use Rattle.std.specs.Prelude.{◌≡◌, IfOk};
-ghost use Rattle.sspi_negotiate.specs.Pick.{oid_of, is_kind, place_of, found_or, picked_or, pick, offered};
+ghost use Rattle.sspi_negotiate.specs.Pick.{oid_of, is_kind, place_of, found_or, picked_or, pick};
+ghost use Rattle.sspi_negotiate.specs.Pick.{offered};
 
 use crate::package_list::PackageListConfig;
 use crate::protocol::Protocol;

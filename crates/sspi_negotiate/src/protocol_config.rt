@@ -26,8 +26,10 @@ impl ProtocolConfig {
         &self,
         alloc: Global,
     ) -> Result<NegotiatedProtocol<N, K>, Error>
-        ensures made { IfOk result (λ protocol. (hand N.meaning K.meaning).made (Configured self.now) protocol) }
-        ensures fresh { IfOk result (λ protocol. (hand N.meaning K.meaning).counts protocol ≡ no_counts) }
+        ensures made { IfOk result (λ protocol. (hand N.meaning K.meaning).made
+            (Configured self.now) protocol) }
+        ensures fresh { IfOk result (λ protocol. (hand N.meaning K.meaning).counts
+            protocol ≡ no_counts) }
         ensures err { IfErr result (λ error. error ≡ memory_error) }
     {
         match self {

@@ -28,13 +28,16 @@ impl<N: Mechanism, K: Mechanism> Negotiate<N, K> {
         }
     }
 
-    /// The session key of the selected mechanism. With the plain mechanisms `OutOfSequence` before there is one.
+    /// The session key of the selected mechanism. With the plain mechanisms `OutOfSequence` before
+    /// there is one.
     pub fn query_context_session_key(&self) -> Result<SessionKeys, Error>
         ensures key { IfOk result (λ keys.
-            (negotiate N.REQUESTS N.meaning K.meaning).session_key self.now ≡ Some keys.session_key.value) }
+            (negotiate N.REQUESTS N.meaning K.meaning).session_key self.now ≡ Some
+            keys.session_key.value) }
         ensures codeless { IfErr result (λ error. error.nstatus ≡ None) }
         ensures cause { IfErr result (λ error. error.error_type ≢ ErrorKind.InsufficientMemory →
-            (negotiate N.REQUESTS N.meaning K.meaning).refuses self.now ToShowKey error.error_type) }
+            (negotiate N.REQUESTS N.meaning K.meaning).refuses self.now ToShowKey
+            error.error_type) }
     {
         match &self.protocol {
             NegotiatedProtocol::Ntlm(mechanism) => mechanism.session_key(),
@@ -44,7 +47,8 @@ impl<N: Mechanism, K: Mechanism> Negotiate<N, K> {
 
     /// The entry of Negotiate, whichever mechanism is selected. Refused only when out of memory.
     pub fn query_context_package_info(&self) -> Result<PackageInfo, Error>
-        ensures entry { IfOk result (λ info. info ≡ (negotiate N.REQUESTS N.meaning K.meaning).entry self.now) }
+        ensures entry { IfOk result (λ info. info ≡ (negotiate N.REQUESTS N.meaning K.meaning).entry
+            self.now) }
         ensures own { IfOk result (λ info. info ≡ negotiate_entry) }
         ensures memory { IfErr result (λ error. error ≡ memory_error) }
     {
@@ -53,7 +57,8 @@ impl<N: Mechanism, K: Mechanism> Negotiate<N, K> {
 
     /// The entry of the selected mechanism.
     pub fn query_context_negotiation_package(&self) -> Result<PackageInfo, Error>
-        ensures entry { IfOk result (λ info. info ≡ (hand N.meaning K.meaning).entry self.now.mech) }
+        ensures entry { IfOk result (λ info. info ≡ (hand N.meaning K.meaning).entry
+            self.now.mech) }
         ensures codeless { IfErr result (λ error. error.nstatus ≡ None) }
         ensures cause { IfErr result (λ error. error.error_type ≢ ErrorKind.InsufficientMemory →
             (hand N.meaning K.meaning).refuses self.now.mech ToDescribe error.error_type) }

@@ -2,7 +2,8 @@
 
 ghost use Rattle.std.specs.Prelude.{◌≡◌, IfOk, option_copied};
 ghost use Rattle.sspi_negotiate.specs.Client.{is_guest, is_ok, has_begun, passwords, handle_for};
-ghost use Rattle.sspi_negotiate.specs.Rows.{client_wants_mic, server_wants_mic, is_over, is_complete, is_guest_text, if_some};
+ghost use Rattle.sspi_negotiate.specs.Rows.{client_wants_mic, server_wants_mic, is_over};
+ghost use Rattle.sspi_negotiate.specs.Rows.{is_complete, is_guest_text, if_some};
 
 use crate::protocol::Protocol;
 use bitflags::Flags;
@@ -93,7 +94,8 @@ pub(crate) fn handle_for<'a>(
     kept: Option<&'a CredentialsBuffers>,
     handle: Option<&'a CredentialsBuffers>,
 ) -> Option<&'a CredentialsBuffers>
-    ensures { option_copied result ≡ handle_for protocol (option_copied kept.entry) (option_copied handle.entry) }
+    ensures { option_copied result ≡ handle_for protocol (option_copied kept.entry)
+        (option_copied handle.entry) }
 {
     match protocol {
         Protocol::Ntlm => passwords(kept),

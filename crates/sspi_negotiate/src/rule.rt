@@ -42,11 +42,13 @@ impl<N: Mechanism, K: Mechanism> Negotiate<N, K> {
         name: &Username,
     ) -> Result<Option<NegotiatedProtocol<N, K>>, Refusal>
         // What `Ok` holds.
-        ensures taken { IfOk result (λ kerberos. TakenBy (hand N.meaning K.meaning) (rule_url (values_of self.now) name.now)
+        ensures taken { IfOk result (λ kerberos. TakenBy (hand N.meaning K.meaning)
+            (rule_url (values_of self.now) name.now)
             self.now.kdcs self.now.computer self.now.mech (unwrap_or kerberos self.now.mech)) }
         ensures named { IfOk result (λ kerberos. hand_of (unwrap_or kerberos self.now.mech) ≡
             (ruled_values (rule_url (values_of self.now) name.now) (values_of self.now)).hand) }
-        ensures fresh { IfOk result (λ kerberos. IfSome kerberos (λ it. (hand N.meaning K.meaning).counts it ≡ no_counts)) }
+        ensures fresh { IfOk result (λ kerberos. IfSome kerberos
+            (λ it. (hand N.meaning K.meaning).counts it ≡ no_counts)) }
         // What a refusal says.
         ensures err { IfErr result (λ error. error.error_type ≡ kinds.InsufficientMemory) }
     {
@@ -68,8 +70,10 @@ impl<N: Mechanism, K: Mechanism> Negotiate<N, K> {
     pub(crate) fn take_by_rule(&mut self, name: &Username) -> Result<(), Refusal>
         // What `Ok` holds.
         ensures taken { OnOk result (TakenBy (hand N.meaning K.meaning)
-            (rule_url (values_of self.old) name.now) self.old.kdcs self.old.computer self.old.mech self.new.mech) }
-        ensures named { OnOk result (values_of self.new ≡ ruled_values (rule_url (values_of self.old) name.now) (values_of self.old)) }
+            (rule_url (values_of self.old) name.now) self.old.kdcs self.old.computer self.old.mech
+            self.new.mech) }
+        ensures named { OnOk result (values_of self.new ≡ ruled_values
+            (rule_url (values_of self.old) name.now) (values_of self.old)) }
         // What holds of every answer.
         ensures rest { self.new ≡ record self.old { mech = self.new.mech } }
         ensures need { self.new.need ≡ self.old.need }

@@ -14,8 +14,10 @@ ghost use Rattle.sspi_negotiate.specs.Negotiate.{negotiate};
 ghost use Rattle.sspi_negotiate.specs.Pick.{pick, oid_of};
 ghost use Rattle.sspi_negotiate.specs.Plan.{Accepts, Pairs};
 ghost use Rattle.sspi_negotiate.specs.Rows.{targ, or_empty, in_ntlm};
-ghost use Rattle.sspi_negotiate.specs.Server.{drops, goes_on_with, waits_for_token, goes_on, awaits_mic, ends_at_once, opens, needs_mic};
-ghost use Rattle.sspi_negotiate.specs.Server.{first_token, placed, takes_pick, picks, reads_list, at_initial, spnego_server};
+ghost use Rattle.sspi_negotiate.specs.Server.{drops, goes_on_with, waits_for_token, goes_on};
+ghost use Rattle.sspi_negotiate.specs.Server.{awaits_mic, ends_at_once, opens, needs_mic};
+ghost use Rattle.sspi_negotiate.specs.Server.{first_token, placed, takes_pick, picks, reads_list};
+ghost use Rattle.sspi_negotiate.specs.Server.{at_initial, spnego_server};
 ghost use Rattle.sspi_negotiate.specs.Usable.{OnNtlm, IsUsable};
 ghost use Rattle.sspi_negotiate.specs.Values.{values_of};
 ghost use Rattle.sspi_negotiate.specs.declared.state.NegotiateState.TheVariants as states;
@@ -41,9 +43,11 @@ pub(crate) fn accept_with<N: Mechanism, K: Mechanism>(
 ) -> Result<Step, Refusal>
     // The step.
     ensures step { (hand N.meaning K.meaning).accepts protocol.old
-        (record (accept_args args.now) { input = or_empty token.now }) (answered result) protocol.new }
+        (record (accept_args args.now) { input = or_empty token.now }) (answered result)
+        protocol.new }
     // What every answer keeps.
-    ensures unused { let c = hand N.meaning K.meaning in NeitherSealsNorOpens (c.counts protocol.old) (c.counts protocol.new) }
+    ensures unused { let c = hand N.meaning K.meaning in NeitherSealsNorOpens
+        (c.counts protocol.old) (c.counts protocol.new) }
     ensures unmarked { HasNoMic ((hand N.meaning K.meaning).counts protocol.old)
         → HasNoMic ((hand N.meaning K.meaning).counts protocol.new) }
     ensures named { hand_of protocol.new ≡ hand_of protocol.old }
@@ -81,15 +85,17 @@ fn picked_targ(
 impl<N: Mechanism, K: Mechanism> Negotiate<N, K> {
     /// A server's step (AcceptSecurityContext).
     ///
-    /// `OutOfSequence` for a client, and once the negotiation has ended. `InvalidToken` for a token of another form than the state has, for a
-    /// list that is absent or has nothing to pick, and where a MIC is missing that is needed. `NoCredentials` where no known
-    /// identity has the peer's name. `InternalError` for a token past `sspi_ber::MAX_CONTENT`, 1048576 octets. Else the refusals of the
-    /// selected mechanism, which may have moved then; the state stays.
+    /// `OutOfSequence` for a client, and once the negotiation has ended. `InvalidToken` for a token
+    /// of another form than the state has, for a list that is absent or has nothing to pick, and
+    /// where a MIC is missing that is needed. `NoCredentials` where no known identity has the
+    /// peer's name. `InternalError` for a token past `sspi_ber::MAX_CONTENT`, 1048576 octets. Else
+    /// the refusals of the selected mechanism, which may have moved then; the state stays.
     pub fn accept_security_context(
         &mut self,
         args: &AcceptSecurityContext<'_>,
     ) -> Result<Step, Error>
-        ensures step { (negotiate N.REQUESTS N.meaning K.meaning).accepts self.old (accept_args args.now) result self.new }
+        ensures step { (negotiate N.REQUESTS N.meaning K.meaning).accepts self.old
+            (accept_args args.now) result self.new }
         ensures codeless { IfErr result (λ error. error.nstatus ≡ None) }
     {
         Ok(self.accept_at(args)?)
@@ -97,7 +103,8 @@ impl<N: Mechanism, K: Mechanism> Negotiate<N, K> {
 
     fn accept_at(&mut self, args: &AcceptSecurityContext<'_>) -> Result<Step, Refusal>
         // The step, and what a refused one leaves.
-        ensures step { Does N.meaning K.meaning (spnego_server (values_of self.old) (accept_args args.now))
+        ensures step { Does N.meaning K.meaning
+            (spnego_server (values_of self.old) (accept_args args.now))
             self.old (told (answered result)) self.new }
         ensures stays { OnErr result (Stays (values_of self.old) (values_of self.new)) }
         ensures need { OnErr result (self.new.need ≡ self.old.need) }
@@ -105,8 +112,10 @@ impl<N: Mechanism, K: Mechanism> Negotiate<N, K> {
             (told (answered result)) }
         // What every answer keeps.
         ensures unused { StaysSilent N.meaning K.meaning self.old self.new }
-        ensures first { self.old.state ≡ states.Initial → StaysUnmarked N.meaning K.meaning self.old self.new }
-        ensures picked { self.old.state ≢ states.Initial → StaysPicked (values_of self.old) (values_of self.new) }
+        ensures first { self.old.state ≡ states.Initial →
+            StaysUnmarked N.meaning K.meaning self.old self.new }
+        ensures picked { self.old.state ≢ states.Initial →
+            StaysPicked (values_of self.old) (values_of self.new) }
         ensures configured { StaysConfigured (values_of self.old) (values_of self.new) }
     {
         match self.role {
@@ -124,7 +133,8 @@ impl<N: Mechanism, K: Mechanism> Negotiate<N, K> {
         // What must hold before.
         requires server { self.now.role ≡ roles.Server }
         // The step, and what a refused one leaves.
-        ensures step { Does N.meaning K.meaning (at_initial (init_of args.now.input.now) (values_of self.old) (accept_args args.now))
+        ensures step { Does N.meaning K.meaning
+            (at_initial (init_of args.now.input.now) (values_of self.old) (accept_args args.now))
             self.old (told (answered result)) self.new }
         ensures stays { OnErr result (Stays (values_of self.old) (values_of self.new)) }
         ensures need { OnErr result (self.new.need ≡ self.old.need) }
@@ -149,7 +159,8 @@ impl<N: Mechanism, K: Mechanism> Negotiate<N, K> {
         // What must hold before.
         requires server { self.now.role ≡ roles.Server }
         // The step, and what a refused one leaves.
-        ensures step { Does N.meaning K.meaning (reads_list list token (values_of self.old) (accept_args args.now))
+        ensures step { Does N.meaning K.meaning
+            (reads_list list token (values_of self.old) (accept_args args.now))
             self.old (told (answered result)) self.new }
         ensures stays { OnErr result (Stays (values_of self.old) (values_of self.new)) }
         ensures need { OnErr result (self.new.need ≡ self.old.need) }
@@ -179,9 +190,11 @@ impl<N: Mechanism, K: Mechanism> Negotiate<N, K> {
         // What must hold before.
         requires server { self.now.role ≡ roles.Server }
         // The step, and what a refused one leaves.
-        ensures step { Does N.meaning K.meaning (picks picked list token (values_of self.old) (accept_args args.now))
+        ensures step { Does N.meaning K.meaning
+            (picks picked list token (values_of self.old) (accept_args args.now))
             self.old (told (answered result)) self.new }
-        ensures stays { IsUsable self.old.packages picked → OnErr result (Stays (values_of self.old) (values_of self.new)) }
+        ensures stays { IsUsable self.old.packages picked →
+            OnErr result (Stays (values_of self.old) (values_of self.new)) }
         ensures need { OnErr result (self.new.need ≡ self.old.need) }
         ensures exact { TellsKind (unread_refusal picked) (told (answered result)) }
         // What every answer keeps.
@@ -205,7 +218,8 @@ impl<N: Mechanism, K: Mechanism> Negotiate<N, K> {
         args: &AcceptSecurityContext<'_>,
     ) -> Result<Step, Refusal>
         // The step, and what a refused one leaves.
-        ensures step { Does N.meaning K.meaning (takes_pick picked.choice token picked (values_of self.old) (accept_args args.now))
+        ensures step { Does N.meaning K.meaning
+            (takes_pick picked.choice token picked (values_of self.old) (accept_args args.now))
             self.old (told (answered result)) self.new }
         ensures stays { OnNtlm picked.choice (self.old.packages.ntlm ≡ true) →
             OnErr result (Stays (values_of self.old) (values_of self.new)) }
@@ -230,9 +244,11 @@ impl<N: Mechanism, K: Mechanism> Negotiate<N, K> {
     ) -> Result<Step, Refusal>
         // The step, and what a refused one leaves.
         ensures step { Does N.meaning K.meaning (in_ntlm (hand_of self.old.mech) self.old.computer
-            (placed token picked (record (values_of self.old) { hand = protocols.Ntlm }) (accept_args args.now)))
+            (placed token picked (record (values_of self.old) { hand = protocols.Ntlm })
+            (accept_args args.now)))
             self.old (told (answered result)) self.new }
-        ensures stays { self.old.packages.ntlm ≡ true → OnErr result (Stays (values_of self.old) (values_of self.new)) }
+        ensures stays { self.old.packages.ntlm ≡ true →
+            OnErr result (Stays (values_of self.old) (values_of self.new)) }
         ensures need { OnErr result (self.new.need ≡ self.old.need) }
         // What every answer keeps.
         ensures unused { StaysSilent N.meaning K.meaning self.old self.new }
@@ -251,7 +267,8 @@ impl<N: Mechanism, K: Mechanism> Negotiate<N, K> {
         args: &AcceptSecurityContext<'_>,
     ) -> Result<Step, Refusal>
         // The step, and what a refused one leaves.
-        ensures step { Does N.meaning K.meaning (placed token picked (values_of self.old) (accept_args args.now))
+        ensures step { Does N.meaning K.meaning
+            (placed token picked (values_of self.old) (accept_args args.now))
             self.old (told (answered result)) self.new }
         ensures stays { OnErr result (Stays (values_of self.old) (values_of self.new)) }
         ensures need { OnErr result (self.new.need ≡ self.old.need) }
@@ -276,7 +293,8 @@ impl<N: Mechanism, K: Mechanism> Negotiate<N, K> {
         state: NegotiateState,
     ) -> Result<Step, Refusal>
         // The step, and what a refused one leaves.
-        ensures step { Does N.meaning K.meaning (goes_on_with picked token need state (values_of self.old))
+        ensures step { Does N.meaning K.meaning
+            (goes_on_with picked token need state (values_of self.old))
             self.old (told (answered result)) self.new }
         ensures stays { OnErr result (Stays (values_of self.old) (values_of self.new)) }
         ensures need { OnErr result (self.new.need ≡ self.old.need) }
@@ -293,7 +311,8 @@ impl<N: Mechanism, K: Mechanism> Negotiate<N, K> {
     #[tactic(auto, unfolding(crate::specs::Server::drops))]
     fn drop_token(&mut self, picked: Picked) -> Result<Step, Refusal>
         // The step, and what a refused one leaves.
-        ensures step { Does N.meaning K.meaning (drops picked (values_of self.old)) self.old (told (answered result)) self.new }
+        ensures step { Does N.meaning K.meaning (drops picked (values_of self.old)) self.old
+            (told (answered result)) self.new }
         ensures stays { OnErr result (Stays (values_of self.old) (values_of self.new)) }
         ensures need { OnErr result (self.new.need ≡ self.old.need) }
         // What every answer keeps.
@@ -312,7 +331,8 @@ impl<N: Mechanism, K: Mechanism> Negotiate<N, K> {
         args: &AcceptSecurityContext<'_>,
     ) -> Result<Step, Refusal>
         // The step, and what a refused one leaves.
-        ensures step { Does N.meaning K.meaning (first_token token picked (values_of self.old) (accept_args args.now))
+        ensures step { Does N.meaning K.meaning
+            (first_token token picked (values_of self.old) (accept_args args.now))
             self.old (told (answered result)) self.new }
         ensures stays { OnErr result (Stays (values_of self.old) (values_of self.new)) }
         ensures need { OnErr result (self.new.need ≡ self.old.need) }
@@ -328,7 +348,8 @@ impl<N: Mechanism, K: Mechanism> Negotiate<N, K> {
     }
 
     fn needs_mic(&self, args: &AcceptSecurityContext<'_>) -> bool
-        ensures { result ≡ needs_mic (values_of self.now) (accept_args args.now) ((hand N.meaning K.meaning).pairs self.now.mech) }
+        ensures { result ≡ needs_mic (values_of self.now) (accept_args args.now)
+            ((hand N.meaning K.meaning).pairs self.now.mech) }
     {
         self.protocol.is_ntlm()
             || self.protocol.user_to_user()
@@ -343,7 +364,8 @@ impl<N: Mechanism, K: Mechanism> Negotiate<N, K> {
     ) -> Result<Step, Refusal>
         // The step, and what a refused one leaves.
         ensures step { let v = values_of self.old in Does N.meaning K.meaning
-            (Pairs (λ pairs. waits_for_token picked v (needs_mic v (accept_args args.now) pairs))) self.old
+            (Pairs (λ pairs. waits_for_token picked v (needs_mic v (accept_args args.now) pairs)))
+            self.old
             (told (answered result)) self.new }
         ensures stays { OnErr result (Stays (values_of self.old) (values_of self.new)) }
         ensures need { OnErr result (self.new.need ≡ self.old.need) }
@@ -365,7 +387,8 @@ impl<N: Mechanism, K: Mechanism> Negotiate<N, K> {
         // The step, and what a refused one leaves.
         ensures step { let v = values_of self.old in Does N.meaning K.meaning
             (Accepts (record (accept_args args.now) { input = or_empty token }) v
-            (λ step. Pairs (λ pairs. opens picked v step (needs_mic v (accept_args args.now) pairs))))
+            (λ step. Pairs (λ pairs. opens picked v step
+            (needs_mic v (accept_args args.now) pairs))))
             self.old (told (answered result)) self.new }
         ensures stays { OnErr result (Stays (values_of self.old) (values_of self.new)) }
         ensures need { OnErr result (self.new.need ≡ self.old.need) }
@@ -386,7 +409,8 @@ impl<N: Mechanism, K: Mechanism> Negotiate<N, K> {
     ) -> Result<Step, Refusal>
         // The step, and what a refused one leaves.
         ensures step { let v = values_of self.old in Does N.meaning K.meaning
-            (Pairs (λ pairs. opens picked v step (needs_mic v (accept_args args.now) pairs))) self.old (told (answered result)) self.new }
+            (Pairs (λ pairs. opens picked v step (needs_mic v (accept_args args.now) pairs)))
+            self.old (told (answered result)) self.new }
         ensures stays { OnErr result (Stays (values_of self.old) (values_of self.new)) }
         ensures need { OnErr result (self.new.need ≡ self.old.need) }
         // What every answer keeps.
@@ -400,7 +424,8 @@ impl<N: Mechanism, K: Mechanism> Negotiate<N, K> {
 
     fn open_by_need(&mut self, picked: Picked, step: Step, need: bool) -> Result<Step, Refusal>
         // The step, and what a refused one leaves.
-        ensures step { Does N.meaning K.meaning (opens picked (values_of self.old) step need) self.old (told (answered result)) self.new }
+        ensures step { Does N.meaning K.meaning (opens picked (values_of self.old) step need)
+            self.old (told (answered result)) self.new }
         ensures stays { OnErr result (Stays (values_of self.old) (values_of self.new)) }
         ensures need { OnErr result (self.new.need ≡ self.old.need) }
         // What every answer keeps.
@@ -422,7 +447,8 @@ impl<N: Mechanism, K: Mechanism> Negotiate<N, K> {
     #[tactic(auto, unfolding(crate::specs::Server::goes_on))]
     fn go_on(&mut self, picked: Picked, step: Step, need: bool) -> Result<Step, Refusal>
         // The step, and what a refused one leaves.
-        ensures step { Does N.meaning K.meaning (goes_on picked (values_of self.old) need step) self.old (told (answered result)) self.new }
+        ensures step { Does N.meaning K.meaning (goes_on picked (values_of self.old) need step)
+            self.old (told (answered result)) self.new }
         ensures stays { OnErr result (Stays (values_of self.old) (values_of self.new)) }
         ensures need { OnErr result (self.new.need ≡ self.old.need) }
         // What every answer keeps.
@@ -436,7 +462,8 @@ impl<N: Mechanism, K: Mechanism> Negotiate<N, K> {
     #[tactic(auto, unfolding(crate::specs::Server::awaits_mic))]
     fn await_mic(&mut self, picked: Picked, step: Step) -> Result<Step, Refusal>
         // The step, and what a refused one leaves.
-        ensures step { Does N.meaning K.meaning (awaits_mic picked (values_of self.old) step) self.old (told (answered result)) self.new }
+        ensures step { Does N.meaning K.meaning (awaits_mic picked (values_of self.old) step)
+            self.old (told (answered result)) self.new }
         ensures stays { OnErr result (Stays (values_of self.old) (values_of self.new)) }
         ensures need { OnErr result (self.new.need ≡ self.old.need) }
         // What every answer keeps.
@@ -450,7 +477,8 @@ impl<N: Mechanism, K: Mechanism> Negotiate<N, K> {
     #[tactic(auto, unfolding(crate::specs::Server::ends_at_once))]
     fn end_at_once(&mut self, picked: Picked, step: Step) -> Result<Step, Refusal>
         // The step, and what a refused one leaves.
-        ensures step { Does N.meaning K.meaning (ends_at_once picked (values_of self.old) step) self.old (told (answered result)) self.new }
+        ensures step { Does N.meaning K.meaning (ends_at_once picked (values_of self.old) step)
+            self.old (told (answered result)) self.new }
         ensures stays { OnErr result (Stays (values_of self.old) (values_of self.new)) }
         ensures need { OnErr result (self.new.need ≡ self.old.need) }
         // What every answer keeps.

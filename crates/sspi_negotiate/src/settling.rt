@@ -9,7 +9,8 @@ ghost use Rattle.sspi_negotiate.specs.Does.{Does, Stays, StaysPicked, StaysSilen
 ghost use Rattle.sspi_negotiate.specs.Exact.{TellsKind, kind_if, unread_refusal};
 ghost use Rattle.sspi_negotiate.specs.Plan.{Accepts, Names, Goes};
 ghost use Rattle.sspi_negotiate.specs.Rows.{or_empty, is_guest_text, checks, completes_signed};
-ghost use Rattle.sspi_negotiate.specs.Server.{excuses, without_mic, settles, accepted, at_progress, last_mic, at_verify_mic};
+ghost use Rattle.sspi_negotiate.specs.Server.{excuses, without_mic, settles, accepted, at_progress};
+ghost use Rattle.sspi_negotiate.specs.Server.{last_mic, at_verify_mic};
 ghost use Rattle.sspi_negotiate.specs.Values.{values_of};
 ghost use Rattle.sspi_negotiate.specs.declared.state.NegotiateState.TheVariants as states;
 ghost use Rattle.sspi_types.specs.declared.security_status.SecurityStatus.TheVariants as statuses;
@@ -29,7 +30,8 @@ impl<N: Mechanism, K: Mechanism> Negotiate<N, K> {
         args: &AcceptSecurityContext<'_>,
     ) -> Result<Step, Refusal>
         // The step, and what a refused one leaves.
-        ensures step { Does N.meaning K.meaning (at_progress (targ_of args.now.input.now) (values_of self.old) (accept_args args.now))
+        ensures step { Does N.meaning K.meaning
+            (at_progress (targ_of args.now.input.now) (values_of self.old) (accept_args args.now))
             self.old (told (answered result)) self.new }
         ensures stays { OnErr result (Stays (values_of self.old) (values_of self.new)) }
         ensures need { OnErr result (self.new.need ≡ self.old.need) }
@@ -50,7 +52,8 @@ impl<N: Mechanism, K: Mechanism> Negotiate<N, K> {
     ) -> Result<Step, Refusal>
         // The step, and what a refused one leaves.
         ensures step { Does N.meaning K.meaning
-            (Accepts (record (accept_args args.now) { input = or_empty token.response_token }) (values_of self.old)
+            (Accepts (record (accept_args args.now) { input = or_empty token.response_token })
+            (values_of self.old)
             (λ step. accepted token (values_of self.old) step))
             self.old (told (answered result)) self.new }
         ensures stays { OnErr result (Stays (values_of self.old) (values_of self.new)) }
@@ -65,7 +68,8 @@ impl<N: Mechanism, K: Mechanism> Negotiate<N, K> {
 
     fn respond(&mut self, token: NegTokenTarg, step: Step) -> Result<Step, Refusal>
         // The step, and what a refused one leaves.
-        ensures step { Does N.meaning K.meaning (accepted token (values_of self.old) step) self.old (told (answered result)) self.new }
+        ensures step { Does N.meaning K.meaning (accepted token (values_of self.old) step) self.old
+            (told (answered result)) self.new }
         ensures stays { OnErr result (Stays (values_of self.old) (values_of self.new)) }
         ensures need { OnErr result (self.new.need ≡ self.old.need) }
         // What every answer keeps.
@@ -88,7 +92,8 @@ impl<N: Mechanism, K: Mechanism> Negotiate<N, K> {
         token: Bytes,
     ) -> Result<Step, Refusal>
         // The step, and what a refused one leaves.
-        ensures step { Does N.meaning K.meaning (settles need mic complete (values_of self.old) token) self.old
+        ensures step { Does N.meaning K.meaning
+            (settles need mic complete (values_of self.old) token) self.old
             (told (answered result)) self.new }
         ensures stays { OnErr result (Stays (values_of self.old) (values_of self.new)) }
         ensures need { OnErr result (self.new.need ≡ self.old.need) }
@@ -108,7 +113,8 @@ impl<N: Mechanism, K: Mechanism> Negotiate<N, K> {
 
     fn check_and_sign(&mut self, mic: &Bytes, token: Bytes) -> Result<Step, Refusal>
         // The step, and what a refused one leaves.
-        ensures step { Does N.meaning K.meaning (checks mic.now (values_of self.old) (completes_signed (values_of self.old) token))
+        ensures step { Does N.meaning K.meaning
+            (checks mic.now (values_of self.old) (completes_signed (values_of self.old) token))
             self.old (told (answered result)) self.new }
         ensures stays { OnErr result (Stays (values_of self.old) (values_of self.new)) }
         ensures need { OnErr result (self.new.need ≡ self.old.need) }
@@ -123,7 +129,8 @@ impl<N: Mechanism, K: Mechanism> Negotiate<N, K> {
     #[tactic(auto, unfolding(crate::specs::Server::without_mic))]
     fn go_without_mic(&mut self, complete: bool, token: Bytes) -> Result<Step, Refusal>
         // The step, and what a refused one leaves.
-        ensures step { Does N.meaning K.meaning (without_mic complete (values_of self.old) token) self.old
+        ensures step { Does N.meaning K.meaning (without_mic complete (values_of self.old) token)
+            self.old
             (told (answered result)) self.new }
         ensures stays { OnErr result (Stays (values_of self.old) (values_of self.new)) }
         ensures need { OnErr result (self.new.need ≡ self.old.need) }
@@ -140,7 +147,8 @@ impl<N: Mechanism, K: Mechanism> Negotiate<N, K> {
 
     fn excuse(&mut self, token: Bytes) -> Result<Step, Refusal>
         // The step, and what a refused one leaves.
-        ensures step { Does N.meaning K.meaning (Names (values_of self.old) (λ name. excuses (values_of self.old) token name))
+        ensures step { Does N.meaning K.meaning
+            (Names (values_of self.old) (λ name. excuses (values_of self.old) token name))
             self.old (told (answered result)) self.new }
         ensures stays { OnErr result (Stays (values_of self.old) (values_of self.new)) }
         ensures need { OnErr result (self.new.need ≡ self.old.need) }
@@ -154,7 +162,8 @@ impl<N: Mechanism, K: Mechanism> Negotiate<N, K> {
 
     fn excuse_name(&mut self, token: Bytes, name: &Username) -> Result<Step, Refusal>
         // The step, and what a refused one leaves.
-        ensures step { Does N.meaning K.meaning (excuses (values_of self.old) token name.now) self.old (told (answered result)) self.new }
+        ensures step { Does N.meaning K.meaning (excuses (values_of self.old) token name.now)
+            self.old (told (answered result)) self.new }
         ensures stays { OnErr result (Stays (values_of self.old) (values_of self.new)) }
         ensures need { OnErr result (self.new.need ≡ self.old.need) }
         ensures exact { TellsKind
@@ -173,7 +182,8 @@ impl<N: Mechanism, K: Mechanism> Negotiate<N, K> {
 
     pub(crate) fn read_last(&mut self, args: &AcceptSecurityContext<'_>) -> Result<Step, Refusal>
         // The step, and what a refused one leaves.
-        ensures step { Does N.meaning K.meaning (at_verify_mic (targ_of args.now.input.now) (values_of self.old))
+        ensures step { Does N.meaning K.meaning
+            (at_verify_mic (targ_of args.now.input.now) (values_of self.old))
             self.old (told (answered result)) self.new }
         ensures stays { OnErr result (Stays (values_of self.old) (values_of self.new)) }
         ensures need { OnErr result (self.new.need ≡ self.old.need) }
@@ -189,7 +199,8 @@ impl<N: Mechanism, K: Mechanism> Negotiate<N, K> {
 
     fn take_last(&mut self, mic: Option<Bytes>) -> Result<Step, Refusal>
         // The step, and what a refused one leaves.
-        ensures step { Does N.meaning K.meaning (last_mic mic (values_of self.old)) self.old (told (answered result)) self.new }
+        ensures step { Does N.meaning K.meaning (last_mic mic (values_of self.old)) self.old
+            (told (answered result)) self.new }
         ensures stays { OnErr result (Stays (values_of self.old) (values_of self.new)) }
         ensures need { OnErr result (self.new.need ≡ self.old.need) }
         ensures exact { TellsKind (unread_refusal mic) (told (answered result)) }
@@ -207,7 +218,8 @@ impl<N: Mechanism, K: Mechanism> Negotiate<N, K> {
         // The step, and what a refused one leaves.
         ensures step { Does N.meaning K.meaning
             (checks mic.now (values_of self.old)
-            (Goes (record (values_of self.old) { state = states.Ok }) (record { status = statuses.Ok; output = [] })))
+            (Goes (record (values_of self.old) { state = states.Ok })
+            (record { status = statuses.Ok; output = [] })))
             self.old (told (answered result)) self.new }
         ensures stays { OnErr result (Stays (values_of self.old) (values_of self.new)) }
         ensures need { OnErr result (self.new.need ≡ self.old.need) }

@@ -1,6 +1,7 @@
 //! Which targets are named by an IP address.
 
-ghost use Rattle.std.specs.Prelude.{◌≡◌, ◌↔◌, ◌+◌, ◌<◌, false, IsTrue, MatchOption, length, drop, slice_index, option_copied};
+ghost use Rattle.std.specs.Prelude.{◌≡◌, ◌↔◌, ◌+◌, ◌<◌, false, IsTrue, MatchOption, length, drop};
+ghost use Rattle.std.specs.Prelude.{slice_index, option_copied};
 ghost use Rattle.std.specs.List.{list_any};
 ghost use Rattle.sspi_names.specs.Places.{IsLast};
 ghost use Rattle.sspi_negotiate.specs.Target.{IsNamedByIp, host_of, is_slash};
@@ -19,7 +20,8 @@ pub(crate) fn is_named_by_ip(target: Option<&str>) -> bool
 
 #[tactic(auto, using(crate::proofs::Slash::last_slash_found))]
 fn last_slash(target: &str) -> Option<usize>
-    ensures { MatchOption result (list_any is_slash target.now ≡ false) (λ at. IsLast 47 target.now at) }
+    ensures { MatchOption result (list_any is_slash target.now ≡ false)
+        (λ at. IsLast 47 target.now at) }
 {
     target.rfind('/')
 }

@@ -1,5 +1,6 @@
 -- Of what an end over the host's mechanisms makes its negotiation.
-use Rattle.std.specs.Prelude.{◌≡◌, ℕ, List, [], codes, replicate, Bool, true, false, Option, None, Some, if◌then◌else◌}
+use Rattle.std.specs.Prelude.{◌≡◌, ℕ, List, [], codes, replicate, Bool, true, false, Option, None}
+use Rattle.std.specs.Prelude.{Some, if◌then◌else◌}
 use Rattle.sspi_names.specs.declared.identity.AuthIdentity.{AuthIdentity}
 use Rattle.sspi_negotiate.specs.declared.negotiate_config.NegotiateConfig.{NegotiateConfig}
 use Rattle.sspi_negotiate.specs.declared.package_list.PackageListConfig.{PackageListConfig}
@@ -20,7 +21,11 @@ list_by false false = Some []
 
 -- Kerberos comes first, where it may be used; what the mechanisms are made of is not looked at
 abbrev pub begins_with : Bool → ProtocolConfig
-begins_with true = configs.Kerberos (record { kdc_url = None; kdcs = []; client_computer_name = [] })
+begins_with true = configs.Kerberos (record {
+  kdc_url = None;
+  kdcs = [];
+  client_computer_name = [];
+})
 begins_with false = configs.Ntlm (record { client_computer_name = None; challenge = replicate 8 0 })
 
 abbrev pub configured : PackageListConfig → NegotiateConfig
@@ -41,4 +46,5 @@ abbrev pub CourseBegins : Type 0
 CourseBegins = (packages : PackageListConfig) (ip : Bool) (known : List AuthIdentity) (s : Hosts) →
     (MadeOf outside_meaning outside_meaning (ForServer (configured packages) known) s →
     course_of ip (values_of s) ≡ new_course packages ip) ×
-    (MadeOf outside_meaning outside_meaning (ForClient (configured packages)) s → course_of ip (values_of s) ≡ new_course packages ip)
+    (MadeOf outside_meaning outside_meaning (ForClient (configured packages)) s →
+    course_of ip (values_of s) ≡ new_course packages ip)

@@ -1,5 +1,6 @@
 -- What the host of a negotiation knows of it, and what it is told to do before each step.
-use Rattle.std.specs.Prelude.{◌≡◌, ℕ, ◌==◌, ◌&&◌, List, [], Bool, true, false, Option, None, Some, option_map, if◌then◌else◌}
+use Rattle.std.specs.Prelude.{◌≡◌, ℕ, ◌==◌, ◌&&◌, List, [], Bool, true, false, Option, None, Some}
+use Rattle.std.specs.Prelude.{option_map, if◌then◌else◌}
 use Rattle.sspi_types.specs.declared.security_status.SecurityStatus.{SecurityStatus}
 use Rattle.sspi_tokens.specs.declared.neg_token_init.NegTokenInit.{NegTokenInit}
 use Rattle.sspi_tokens.specs.declared.neg_token_targ.NegTokenTarg.{NegTokenTarg}
@@ -27,7 +28,13 @@ pub record Asking : Type 0 where
 
 -- what a host knows of these values; `ip` is whether the target is named by its IP address
 abbrev pub course_of : Bool → Values → Course
-course_of ip v = record { state = v.state; hand = v.hand; packages = v.packages; list = v.list; by_address = ip }
+course_of ip v = record {
+  state = v.state;
+  hand = v.hand;
+  packages = v.packages;
+  list = v.list;
+  by_address = ip;
+}
 
 -- an end that begins with Kerberos where it may be used
 abbrev pub first_hand : PackageListConfig → Protocol
@@ -35,7 +42,13 @@ first_hand packages = if packages.kerberos then protocols.Kerberos else protocol
 
 abbrev pub new_course : PackageListConfig → Bool → Course
 new_course packages ip =
-    record { state = states.Initial; hand = first_hand packages; packages = packages; list = []; by_address = ip }
+    record {
+      state = states.Initial;
+      hand = first_hand packages;
+      packages = packages;
+      list = [];
+      by_address = ip;
+    }
 
 -- ---- a server's first step
 
@@ -47,7 +60,8 @@ taken choices.Ntlm held = protocols.Ntlm
 -- the mechanism that is picked steps with the client's token, where the client likes it best
 abbrev pub due_if : Bool → Choice → Option (List ℕ) → Protocol → Option Asking
 due_if best choice None held = None
-due_if best choice (Some token) held = if best then Some (record { mechanism = taken choice held; token = token }) else None
+due_if best choice (Some token) held = if best
+    then Some (record { mechanism = taken choice held; token = token }) else None
 
 abbrev pub due_of_pick : Option Picked → Option (List ℕ) → Protocol → Option Asking
 due_of_pick None token held = None
@@ -77,7 +91,9 @@ take_offer offer c = takes_list offer.mech_types c
 -- a target that is named by its IP address is for NTLM alone, where that may be used
 abbrev pub addressed : Course → Course
 addressed c =
-    if c.by_address && c.packages.ntlm then record c { hand = protocols.Ntlm; packages = record c.packages { kerberos = false } } else c
+    if c.by_address && c.packages.ntlm
+    then record c { hand = protocols.Ntlm; packages = record c.packages { kerberos = false } }
+    else c
 
 -- the first step: the selected mechanism's, whose token stands in the client's offer
 abbrev pub make_offer : Course → Course
@@ -87,11 +103,14 @@ make_offer c = record c { state = states.InProgress; list = offered c.hand c.pac
 abbrev pub chooses : Option MechKind → Course → Option Course
 chooses None c = Some c
 chooses (Some kinds.MsKerberos) c = if c.packages.kerberos then
-    Some (record c { hand = protocols.Kerberos; packages = record c.packages { ntlm = false } }) else None
+    Some (record c { hand = protocols.Kerberos; packages = record c.packages { ntlm = false } })
+    else None
 chooses (Some kinds.Kerberos) c = if c.packages.kerberos then
-    Some (record c { hand = protocols.Kerberos; packages = record c.packages { ntlm = false } }) else None
+    Some (record c { hand = protocols.Kerberos; packages = record c.packages { ntlm = false } })
+    else None
 chooses (Some kinds.Ntlm) c = if c.packages.ntlm then
-    Some (record c { hand = protocols.Ntlm; packages = record c.packages { kerberos = false } }) else None
+    Some (record c { hand = protocols.Ntlm; packages = record c.packages { kerberos = false } })
+    else None
 chooses (Some kinds.Other) c = None
 
 abbrev pub take_choice : Option (List ℕ) → Course → Option Course
@@ -118,7 +137,8 @@ answer_due c token = chosen_due (take_choice token.supported_mech c) token
 
 -- where the negotiation is then: over, or awaiting the MIC of its peer once the mechanism has ended
 abbrev pub next : Bool → SecurityStatus → NegotiateState
-next ended status = if is_ok status then states.Ok else if ended then states.VerifyMic else states.InProgress
+next ended status = if is_ok status then states.Ok else if ended then states.VerifyMic
+    else states.InProgress
 
 abbrev pub go_on : Bool → SecurityStatus → Course → Course
 go_on ended status c = record c { state = next ended status }

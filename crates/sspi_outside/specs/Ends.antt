@@ -24,7 +24,8 @@ server_said (Ok state) = Ok tt
 server_said (Err refusal) = Err refusal.error
 
 -- one call of `CredSspClient::process`, of which the end keeps what it came to
-pub record ClientCalled {C : Type 0} (c : Meaning ContextSetting C) (old : ClientView C) (d : TsRequest) (result : Result (Unit {0}) Error)
+pub record ClientCalled {C : Type 0} (c : Meaning ContextSetting C) (old : ClientView C)
+    (d : TsRequest) (result : Result (Unit {0}) Error)
     (new : ClientView C) (last : Last) : Type 0 where
   pub answer : Result Progress Error
   pub call : ClientCall c old d answer new
@@ -32,7 +33,8 @@ pub record ClientCalled {C : Type 0} (c : Meaning ContextSetting C) (old : Clien
   pub said : result ≡ client_said answer
 
 -- the same of `CredSspServer::process`
-pub record ServerCalled {C P : Type 0} (c : Meaning ContextSetting C) (p : ProxyMeaning P) (old : ServerView C P) (d : TsRequest)
+pub record ServerCalled {C P : Type 0} (c : Meaning ContextSetting C) (p : ProxyMeaning P)
+    (old : ServerView C P) (d : TsRequest)
     (result : Result (Unit {0}) Error) (new : ServerView C P) (last : Last) : Type 0 where
   pub answer : Result ServerState ServerError
   pub call : ServerCall c p old d answer new

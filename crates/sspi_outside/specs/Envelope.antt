@@ -1,11 +1,13 @@
--- What the host of an `Outside` hands in: in the place of a token an envelope, in the place of a sealed blob sixteen zeros and the text.
+-- What the host of an `Outside` hands in: in the place of a token an envelope, in the place of a
+-- sealed blob sixteen zeros and the text.
 --
---     step    = %x00 token / %x01 token / %x02 4OCTET     the context has ended / goes on / refused, by a code of winerror.h
---     client  = step
---     server  = 2OCTET name step                          how many bytes the name has, the name of the peer in UTF-16, no name where it has none
+--     step    = %x00 token / %x01 token / %x02 4OCTET     the context has ended / goes on /
+--     refused, by a code of winerror.h client  = step server  = 2OCTET name step
+--     how many bytes the name has, the name of the peer in UTF-16, no name where it has none
 --
 -- The low byte of each number stands first.
-use Rattle.std.specs.Prelude.{◌≡◌, ℕ, ◌+◌, ◌*◌, ◌==◌, List, [], ◌∷◌, take, drop, length, replicate, nat_lt}
+use Rattle.std.specs.Prelude.{◌≡◌, ℕ, ◌+◌, ◌*◌, ◌==◌, List, [], ◌∷◌, take, drop, length, replicate}
+use Rattle.std.specs.Prelude.{nat_lt}
 use Rattle.std.specs.Prelude.{Option, None, Some, unwrap_or, Result, Ok, Err, if◌then◌else◌}
 use Rattle.std.specs.Int.{w32, from_le_bytes}
 use Rattle.std.specs.Str.{bytes_eq}
@@ -30,7 +32,8 @@ abbrev pub denied_by : List ℕ → Said
 denied_by code = if length code == 4 then Denied (from_le_bytes w32 code) else Unsaid
 
 abbrev pub said_by : ℕ → List ℕ → Said
-said_by status rest = if status == 0 then Ended rest else if status == 1 then GoesOn rest else if status == 2 then denied_by rest else Unsaid
+said_by status rest = if status == 0 then Ended rest else if status == 1 then GoesOn rest
+    else if status == 2 then denied_by rest else Unsaid
 
 unfoldable pub said : List ℕ → Said
 said [] = Unsaid
@@ -38,7 +41,8 @@ said (status ∷ rest) = said_by status rest
 
 -- the kind that a code names, and InvalidToken where it names none
 abbrev pub IsKindOf : ℕ → ErrorKind → Type 0
-IsKindOf code kind = (read : Option ErrorKind) × ReadsNumber error_kind_number code read × (kind ≡ unwrap_or read InvalidToken)
+IsKindOf code kind = (read : Option ErrorKind) × ReadsNumber error_kind_number code read ×
+    (kind ≡ unwrap_or read InvalidToken)
 
 -- ---- what a server's envelope begins with
 
@@ -47,7 +51,8 @@ pub record Introduced : Type 0 where
   pub step : List ℕ
 
 abbrev pub introduced_at : ℕ → List ℕ → Option Introduced
-introduced_at n rest = if nat_lt (length rest) n then None else Some (record { name = take n rest; step = drop n rest })
+introduced_at n rest = if nat_lt (length rest) n then None
+    else Some (record { name = take n rest; step = drop n rest })
 
 unfoldable pub introduced : List ℕ → Option Introduced
 introduced [] = None

@@ -1,5 +1,7 @@
--- What the host of an end over `Outside` reports of a message, and what it has to seal of the answer.
-use Rattle.std.specs.Prelude.{ℕ, ◌++◌, List, ◌∷◌, drop, length, nat_lt, Option, None, Some, Result, Ok, Err, if◌then◌else◌}
+-- What the host of an end over `Outside` reports of a message, and what it has to seal of the
+-- answer.
+use Rattle.std.specs.Prelude.{ℕ, ◌++◌, List, ◌∷◌, drop, length, nat_lt, Option, None, Some, Result}
+use Rattle.std.specs.Prelude.{Ok, Err, if◌then◌else◌}
 use Rattle.sspi_types.specs.declared.error.Error.{Error}
 use Rattle.sspi_tsreq.specs.declared.request.TsRequest.{TsRequest}
 use Rattle.sspi_credssp.specs.Requests.{unless_empty}
@@ -12,7 +14,8 @@ use Rattle.sspi_credssp.specs.declared.server_state.ServerState.{ServerState}
 use Rattle.sspi_credssp.specs.declared.server_state.ServerState.TheVariants as server
 use Rattle.sspi_outside.specs.Envelope.{no_tag, text_in}
 use Rattle.sspi_outside.specs.declared.last.Last.{Last}
-use Rattle.sspi_outside.specs.declared.last.Last.TheVariants.{Nothing, Reply, Final, Finished, Asks, Refused}
+use Rattle.sspi_outside.specs.declared.last.Last.TheVariants.{Nothing, Reply, Final, Finished, Asks}
+use Rattle.sspi_outside.specs.declared.last.Last.TheVariants.{Refused}
 use Rattle.sspi_outside.specs.declared.last.Owed.{Owed}
 use Rattle.sspi_outside.specs.declared.last.Owed.TheVariants as owed
 use Rattle.sspi_outside.specs.declared.opened.Opened.{Opened}
@@ -40,7 +43,8 @@ shown text None = None
 shown None (Some blob) = Some (closed blob)
 shown (Some text) (Some blob) = Some (no_tag ++ text)
 
--- the request with the envelope of the step, if one was made, and with what was opened: nothing of it stands there as it came
+-- the request with the envelope of the step, if one was made, and with what was opened: nothing of
+-- it stands there as it came
 abbrev pub handed : TsRequest → List ℕ → Option (List ℕ) → Option (List ℕ) → TsRequest
 handed r step proof credentials = record r {
   nego_tokens = unless_empty step;

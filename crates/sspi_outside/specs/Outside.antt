@@ -1,11 +1,14 @@
 -- What a mechanism means whose steps are made, and whose texts are sealed and opened, by the host.
-use Rattle.std.specs.Prelude.{◌≡◌, ◌≢◌, ◌++◌, ℕ, List, [], ◌∷◌, Bool, true, false, length, nat_lt, Option, None, Some, is_some}
+use Rattle.std.specs.Prelude.{◌≡◌, ◌≢◌, ◌++◌, ℕ, List, [], ◌∷◌, Bool, true, false, length, nat_lt}
+use Rattle.std.specs.Prelude.{Option, None, Some, is_some}
 use Rattle.std.specs.Prelude.{Result, Ok, Err, if◌then◌else◌}
 use Rattle.std.specs.Str.{bytes_eq}
 use Rattle.sspi_types.specs.declared.error.Error.{Error}
 use Rattle.sspi_types.specs.declared.error_kind.ErrorKind.{ErrorKind}
-use Rattle.sspi_types.specs.declared.error_kind.ErrorKind.TheVariants.{OutOfSequence, InvalidToken, MessageAltered}
-use Rattle.sspi_types.specs.declared.error_kind.ErrorKind.TheVariants.{UnsupportedFunction, InsufficientMemory}
+use Rattle.sspi_types.specs.declared.error_kind.ErrorKind.TheVariants.{OutOfSequence, InvalidToken}
+use Rattle.sspi_types.specs.declared.error_kind.ErrorKind.TheVariants.{MessageAltered}
+use Rattle.sspi_types.specs.declared.error_kind.ErrorKind.TheVariants.{UnsupportedFunction}
+use Rattle.sspi_types.specs.declared.error_kind.ErrorKind.TheVariants.{InsufficientMemory}
 use Rattle.sspi_types.specs.declared.security_status.SecurityStatus.TheVariants as status
 use Rattle.sspi_types.specs.Packages.{ntlm_entry}
 use Rattle.sspi_names.specs.declared.credentials.Credentials.{Credentials}
@@ -16,13 +19,15 @@ use Rattle.sspi_mech.specs.declared.step.Answer.{Answer}
 use Rattle.sspi_mech.specs.declared.step.Answer.TheVariants.{Done, Ask, Refused}
 use Rattle.sspi_mech.specs.declared.step.Reply.{Reply}
 use Rattle.sspi_mech.specs.declared.step.Step.{Step}
-use Rattle.sspi_mech.specs.Calls.{StepArgs, Counts, no_counts, Call, ToAcquire, ToName, ToIdentify, ToComplete, ToSeal, ToUnseal}
+use Rattle.sspi_mech.specs.Calls.{StepArgs, Counts, no_counts, Call, ToAcquire, ToName, ToIdentify}
+use Rattle.sspi_mech.specs.Calls.{ToComplete, ToSeal, ToUnseal}
 use Rattle.sspi_mech.specs.Calls.{ToSign, ToVerify, ToDescribe, ToShowKey}
 use Rattle.sspi_mech.specs.Meaning.{Meaning}
 use Rattle.sspi_mech.specs.Ntlm.{ntlm_sizes, absence}
 use Rattle.sspi_mech.specs.Protection.{unless_spent}
 use Rattle.sspi_mech.specs.Settings.{Setting}
-use Rattle.sspi_outside.specs.Envelope.{Said, Ended, GoesOn, Denied, Unsaid, said, IsKindOf, Introduced, introduced, name_of, no_tag, text_in}
+use Rattle.sspi_outside.specs.Envelope.{Said, Ended, GoesOn, Denied, Unsaid, said, IsKindOf}
+use Rattle.sspi_outside.specs.Envelope.{Introduced, introduced, name_of, no_tag, text_in}
 
 pub record OutsideState : Type 0 where
   -- whether the host said that its context has ended
@@ -49,8 +54,10 @@ latest (Some name) before = Some name
 -- what the host said of a step, and of the peer's name
 abbrev pub takes : OutsideState → Option Name → Said → Outcome
 takes m heard (Ended token) =
-    Goes (record m { ended = true; peer = latest heard m.peer }) (record { status = status.Ok; output = token })
-takes m heard (GoesOn token) = Goes (record m { peer = latest heard m.peer }) (record { status = status.ContinueNeeded; output = token })
+    Goes (record m { ended = true; peer = latest heard m.peer })
+    (record { status = status.Ok; output = token })
+takes m heard (GoesOn token) = Goes (record m { peer = latest heard m.peer })
+    (record { status = status.ContinueNeeded; output = token })
 takes m heard (Denied code) = Denies code
 takes m heard Unsaid = Stops InvalidToken
 
@@ -82,7 +89,8 @@ IsStopped (Denies code) kind = IsKindOf code kind
 
 abbrev pub Steps : Outcome → OutsideState → Result Step Error → OutsideState → Type 0
 Steps outcome m (Ok step) m2 = outcome ≡ Goes m2 step
-Steps outcome m (Err error) m2 = (error.error_type ≢ InsufficientMemory → IsStopped outcome error.error_type) × (m2 ≡ m)
+Steps outcome m (Err error) m2 = (error.error_type ≢ InsufficientMemory →
+    IsStopped outcome error.error_type) × (m2 ≡ m)
 
 abbrev pub OutsideSteps : OutsideState → StepArgs → Answer → OutsideState → Type 0
 OutsideSteps m args (Done step) m2 = Steps (client_step m args.input) m (Ok step) m2
@@ -105,7 +113,8 @@ abbrev pub unless_early : OutsideState → ℕ → Option ErrorKind → Option E
 unless_early m n refusal = if m.ended then unless_spent n refusal else Some OutOfSequence
 
 abbrev pub unopened : List ℕ → Option ErrorKind
-unopened blob = if nat_lt (length blob) 16 then Some InvalidToken else if is_some (text_in blob) then None else Some MessageAltered
+unopened blob = if nat_lt (length blob) 16 then Some InvalidToken else if is_some (text_in blob)
+    then None else Some MessageAltered
 
 abbrev pub is_text : Option (List ℕ) → List ℕ → Bool
 is_text None text = false

@@ -1,5 +1,6 @@
 -- A mechanism of the host is a mechanism.
-use Rattle.std.specs.Prelude.{◌≡◌, ℕ, ◌≤◌, ◌++◌, List, [], ◌∷◌, length, Bool, true, false, Option, None, Some, Result, Ok, Err, refl}
+use Rattle.std.specs.Prelude.{◌≡◌, ℕ, ◌≤◌, ◌++◌, List, [], ◌∷◌, length, Bool, true, false, Option}
+use Rattle.std.specs.Prelude.{None, Some, Result, Ok, Err, refl}
 use Rattle.std.specs.Prelude.{if◌then◌else◌}
 use Rattle.std.proofs.Common.{ap, subst, arith, length-append}
 use Rattle.std.proofs.lemmas.List.{length-replicate}
@@ -11,8 +12,10 @@ use Rattle.sspi_mech.specs.declared.step.Reply.{Reply}
 use Rattle.sspi_mech.specs.declared.step.Step.{Step}
 use Rattle.sspi_mech.specs.Calls.{StepArgs}
 use Rattle.sspi_mech.specs.Laws.{IsMechanism}
-use Rattle.sspi_outside.specs.Envelope.{Said, Ended, GoesOn, Denied, Unsaid, said, Introduced, introduced, name_of, no_tag}
-use Rattle.sspi_outside.specs.Outside.{OutsideState, outside_meaning, Outcome, Goes, Stops, Denies, Steps, takes, hears_of, hears_name, hears}
+use Rattle.sspi_outside.specs.Envelope.{Said, Ended, GoesOn, Denied, Unsaid, said, Introduced}
+use Rattle.sspi_outside.specs.Envelope.{introduced, name_of, no_tag}
+use Rattle.sspi_outside.specs.Outside.{OutsideState, outside_meaning, Outcome, Goes, Stops, Denies}
+use Rattle.sspi_outside.specs.Outside.{Steps, takes, hears_of, hears_name, hears}
 use Rattle.sspi_outside.specs.Outside.{client_step, server_step, OutsideSteps, OutsideResumes}
 
 -- an outcome keeps the counts of the object that it is of
@@ -27,7 +30,8 @@ takes_keeps m heard (GoesOn token) = refl
 takes_keeps m heard (Denied code) = tt
 takes_keeps m heard Unsaid = tt
 
-hears_of_keeps : (m : OutsideState) (heard : Option Name) (step : List ℕ) → Keeps m (hears_of m heard step)
+hears_of_keeps : (m : OutsideState) (heard : Option Name) (step : List ℕ) →
+    Keeps m (hears_of m heard step)
 hears_of_keeps m None step = tt
 hears_of_keeps m (Some name) step = takes_keeps m (Some name) (said step)
 
@@ -39,7 +43,8 @@ hears_keeps : (m : OutsideState) (it : Option Introduced) → Keeps m (hears m i
 hears_keeps m None = tt
 hears_keeps m (Some it) = hears_name_keeps m it.name it.step
 
-either_keeps : (m : OutsideState) (ended : Bool) (stop go : Outcome) → Keeps m stop → Keeps m go → Keeps m (if ended then stop else go)
+either_keeps : (m : OutsideState) (ended : Bool) (stop go : Outcome) → Keeps m stop → Keeps m go →
+    Keeps m (if ended then stop else go)
 either_keeps m true stop go a b = a
 either_keeps m false stop go a b = b
 
@@ -49,23 +54,28 @@ client_keeps m envelope = either_keeps m m.ended _ _ tt (takes_keeps m None (sai
 server_keeps : (m : OutsideState) (envelope : List ℕ) → Keeps m (server_step m envelope)
 server_keeps m envelope = either_keeps m m.ended _ _ tt (hears_keeps m (introduced envelope))
 
-steps_keep : (outcome : Outcome) (m m2 : OutsideState) (r : Result Step Error) → Keeps m outcome → Steps outcome m r m2 →
+steps_keep : (outcome : Outcome) (m m2 : OutsideState) (r : Result Step Error) → Keeps m outcome →
+    Steps outcome m r m2 →
     m2.counts ≡ m.counts
 steps_keep outcome m m2 (Ok s) keeps stepped = subst (Keeps m) stepped keeps
 steps_keep outcome m m2 (Err e) keeps stepped = ap (λ (x : OutsideState). x.counts) stepped.1
 
-step_counts : (m m2 : OutsideState) (a : StepArgs) (r : Answer) → OutsideSteps m a r m2 → m2.counts ≡ m.counts
+step_counts : (m m2 : OutsideState) (a : StepArgs) (r : Answer) → OutsideSteps m a r m2 →
+    m2.counts ≡ m.counts
 step_counts m m2 a (Done s) stepped = steps_keep _ m m2 (Ok s) (client_keeps m a.input) stepped
 step_counts m m2 a (Ask q) stepped = absurd stepped
 step_counts m m2 a (Refused e) stepped = steps_keep _ m m2 (Err e) (client_keeps m a.input) stepped
 
-resume_counts : (m m2 : OutsideState) (b : Reply) (r : Answer) → OutsideResumes m b r m2 → m2.counts ≡ m.counts
+resume_counts : (m m2 : OutsideState) (b : Reply) (r : Answer) → OutsideResumes m b r m2 →
+    m2.counts ≡ m.counts
 resume_counts m m2 b (Done s) resumed = absurd resumed
 resume_counts m m2 b (Ask q) resumed = absurd resumed
 resume_counts m m2 b (Refused e) resumed = ap (λ (x : OutsideState). x.counts) resumed.1
 
-long_blob : (m : OutsideState) (i : ℕ) (text blob : List ℕ) → blob ≡ no_tag ++ text → 16 ≤ length blob
-long_blob m i text blob sealed = rw sealed (omega (arith, length-append no_tag text, length-replicate {A = ℕ} 16 0))
+long_blob : (m : OutsideState) (i : ℕ) (text blob : List ℕ) → blob ≡ no_tag ++ text →
+    16 ≤ length blob
+long_blob m i text blob sealed = rw sealed
+    (omega (arith, length-append no_tag text, length-replicate {A = ℕ} 16 0))
 
 pub outside_laws : IsMechanism 0 outside_meaning
 outside_laws = record {

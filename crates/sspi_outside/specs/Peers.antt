@@ -9,4 +9,8 @@ without_password name = record { username = name; password = record { value = []
 
 -- whoever is named has one identity; there is no list of all
 abbrev pub any_tells : ProxyTells
-any_tells = record { entries = None; answers = λ name. Some (without_password name ∷ []); failing = Some [] }
+any_tells = record {
+  entries = None;
+  answers = λ name. Some (without_password name ∷ []);
+  failing = Some [];
+}

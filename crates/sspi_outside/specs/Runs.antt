@@ -1,5 +1,6 @@
 -- That the host was told what a step of its negotiation asks.
-use Rattle.std.specs.Prelude.{◌≡◌, ℕ, List, [], ◌∷◌, Bool, true, false, Option, None, Some, unwrap_or}
+use Rattle.std.specs.Prelude.{◌≡◌, ℕ, List, [], ◌∷◌, Bool, true, false, Option, None, Some}
+use Rattle.std.specs.Prelude.{unwrap_or}
 use Rattle.sspi_types.specs.declared.security_status.SecurityStatus.{SecurityStatus}
 use Rattle.sspi_names.specs.Name.{Name}
 use Rattle.sspi_mech.specs.Calls.{StepArgs, AcceptArgs}
@@ -15,11 +16,13 @@ use Rattle.sspi_negotiate.specs.declared.state.NegotiateState.TheVariants as sta
 use Rattle.sspi_negotiate.specs.declared.state.Role.TheVariants.{Server}
 use Rattle.sspi_negotiate.specs.Client.{is_ok, spnego_client}
 use Rattle.sspi_negotiate.specs.Hand.{Origin, Configured, InPlaceOfNtlm}
-use Rattle.sspi_negotiate.specs.Plan.{Plan, Goes, Stops, Takes, Steps, Resumes, Accepts, Pairs, Names, Identifies, Signs, Verifies}
+use Rattle.sspi_negotiate.specs.Plan.{Plan, Goes, Stops, Takes, Steps, Resumes, Accepts, Pairs}
+use Rattle.sspi_negotiate.specs.Plan.{Names, Identifies, Signs, Verifies}
 use Rattle.sspi_negotiate.specs.Rows.{is_over}
 use Rattle.sspi_negotiate.specs.Server.{spnego_server}
 use Rattle.sspi_negotiate.specs.Values.{Values}
-use Rattle.sspi_outside.specs.Course.{Asking, course_of, offer_due, take_offer, addressed, make_offer, answer_due, take_choice, continuation_due, go_on}
+use Rattle.sspi_outside.specs.Course.{Asking, course_of, offer_due, take_offer, addressed}
+use Rattle.sspi_outside.specs.Course.{make_offer, answer_due, take_choice, continuation_due, go_on}
 use Rattle.sspi_outside.specs.Negotiated.{handed_offer, handed_response}
 use Rattle.sspi_outside.specs.declared.course.Course.{Course}
 
@@ -30,23 +33,27 @@ named_by (Configured (configs.Kerberos config)) = protocols.Kerberos
 named_by (Configured (configs.KerberosServer config server)) = protocols.Kerberos
 named_by (InPlaceOfNtlm url kdcs computer) = protocols.Kerberos
 
--- A step by this plan, where no question of it is refused: of the mechanisms one steps as told, or none, and no other one; each MIC
--- that is made or verified is over this list; and what is known afterwards, by whether a mechanism has ended in the step and by what
--- the step answers, is what the end then has.
+-- A step by this plan, where no question of it is refused: of the mechanisms one steps as told, or
+-- none, and no other one; each MIC that is made or verified is over this list; and what is known
+-- afterwards, by whether a mechanism has ended in the step and by what the step answers, is what
+-- the end then has.
 module _ (ip : Bool) (list : Option (List ℕ)) (known : Bool → SecurityStatus → Course) where
   abbrev pub Runs : Option Asking → Bool → Protocol → Plan → Type 0
   Runs due ended held (Goes v step) = (due ≡ None) × (course_of ip v ≡ known ended step.status)
   Runs due ended held (Stops v kind) = Unit {0}
   Runs due ended held (Takes origin p) = Runs due ended (named_by origin) p
   Runs due ended held (Steps args v go fall) =
-      (due ≡ Some (record { mechanism = held; token = args.input })) × ((step : Step) → Runs None (is_ok step.status) held (go step))
+      (due ≡ Some (record { mechanism = held; token = args.input })) ×
+      ((step : Step) → Runs None (is_ok step.status) held (go step))
   Runs due ended held (Resumes reply v go fall) = ⊥
   Runs due ended held (Accepts args v go) =
-      (due ≡ Some (record { mechanism = held; token = args.input })) × ((step : Step) → Runs None (is_over step.status) held (go step))
+      (due ≡ Some (record { mechanism = held; token = args.input })) ×
+      ((step : Step) → Runs None (is_over step.status) held (go step))
   Runs due ended held (Pairs go) = (pairs : Bool) → Runs due ended held (go pairs)
   Runs due ended held (Names v go) = (name : Name) → Runs due ended held (go name)
   Runs due ended held (Identifies identities v p) = Runs due ended held p
-  Runs due ended held (Signs text v go) = (list ≡ Some text) × ((mic : List ℕ) → Runs due ended held (go mic))
+  Runs due ended held (Signs text v go) = (list ≡ Some text) ×
+      ((mic : List ℕ) → Runs due ended held (go mic))
   Runs due ended held (Verifies mic text v p) = (list ≡ Some text) × Runs due ended held p
 
 -- the step that was told, with the envelope that the host made of it; an empty one is none
@@ -67,44 +74,59 @@ stepped_with envelope (Some due) = Some (record { mechanism = due.mechanism; tok
 
 -- a server's first step, on the offer that was handed in
 abbrev pub OfferIsStepped : Type 0
-OfferIsStepped = (v : Values) (args : AcceptArgs) (offer : NegTokenInit) (envelope : List ℕ) → v.role ≡ Server →
+OfferIsStepped = (v : Values) (args : AcceptArgs) (offer : NegTokenInit) (envelope : List ℕ) →
+    v.role ≡ Server →
     v.state ≡ states.Initial → init_of args.input ≡ Some (handed_offer offer envelope) →
     let c = take_offer offer (course_of false v) in
-    Runs false (spelled_list c.list) (λ ended status. go_on ended status c) (made_of envelope (offer_due (course_of false v) offer)) false
+    Runs false (spelled_list c.list) (λ ended status. go_on ended status c)
+    (made_of envelope (offer_due (course_of false v) offer)) false
     v.hand (spnego_server v args)
 
 -- its later steps; once the mechanism has ended, none steps
 abbrev pub ContinuationIsStepped : Type 0
-ContinuationIsStepped = (v : Values) (args : AcceptArgs) (token : NegTokenTarg) (envelope : List ℕ) (verified : Option (List ℕ)) →
-    v.role ≡ Server → v.state ≡ states.InProgress → targ_of args.input ≡ Some (handed_response token envelope verified) →
+ContinuationIsStepped = (v : Values) (args : AcceptArgs) (token : NegTokenTarg) (envelope : List ℕ)
+    (verified : Option (List ℕ)) →
+    v.role ≡ Server → v.state ≡ states.InProgress →
+    targ_of args.input ≡ Some (handed_response token envelope verified) →
     Runs false (spelled_list v.list) (λ ended status. go_on ended status (course_of false v))
-    (stepped_with envelope (continuation_due (course_of false v) token)) false v.hand (spnego_server v args)
+    (stepped_with envelope (continuation_due (course_of false v) token)) false v.hand
+    (spnego_server v args)
 
 abbrev pub LastIsVerified : Type 0
-LastIsVerified = (v : Values) (args : AcceptArgs) (token : NegTokenTarg) (envelope : List ℕ) (verified : Option (List ℕ)) →
-    v.role ≡ Server → v.state ≡ states.VerifyMic → targ_of args.input ≡ Some (handed_response token envelope verified) →
+LastIsVerified = (v : Values) (args : AcceptArgs) (token : NegTokenTarg) (envelope : List ℕ)
+    (verified : Option (List ℕ)) →
+    v.role ≡ Server → v.state ≡ states.VerifyMic →
+    targ_of args.input ≡ Some (handed_response token envelope verified) →
     Runs false (spelled_list v.list) (λ ended status. go_on ended status (course_of false v))
-    (stepped_with envelope (continuation_due (course_of false v) token)) true v.hand (spnego_server v args)
+    (stepped_with envelope (continuation_due (course_of false v) token)) true v.hand
+    (spnego_server v args)
 
 -- a client's first step, where no KDC of its own is set; no MIC is made or verified
 abbrev pub FirstIsStepped : Type 0
-FirstIsStepped = (ip : Bool) (v : Values) (args : StepArgs) → v.kdcs ≡ [] → v.state ≡ states.Initial →
+FirstIsStepped = (ip : Bool) (v : Values) (args : StepArgs) → v.kdcs ≡ [] →
+    v.state ≡ states.Initial →
     let c = addressed (course_of ip v) in
-    Runs ip None (λ ended status. make_offer c) (Some (record { mechanism = c.hand; token = args.input })) false v.hand
+    Runs ip None (λ ended status. make_offer c)
+    (Some (record { mechanism = c.hand; token = args.input })) false v.hand
     (spnego_client ip v args)
 
 -- its later steps, where the server's choice was taken
 abbrev pub AnswerIsStepped : Type 0
-AnswerIsStepped = (ip : Bool) (v : Values) (args : StepArgs) (token : NegTokenTarg) (envelope : List ℕ) (verified : Option (List ℕ)) →
-    v.kdcs ≡ [] → v.state ≡ states.InProgress → targ_of args.input ≡ Some (handed_response token envelope verified) →
+AnswerIsStepped = (ip : Bool) (v : Values) (args : StepArgs) (token : NegTokenTarg)
+    (envelope : List ℕ) (verified : Option (List ℕ)) →
+    v.kdcs ≡ [] → v.state ≡ states.InProgress →
+    targ_of args.input ≡ Some (handed_response token envelope verified) →
     let c = course_of ip v in
-    Runs ip (spelled_list v.list) (λ ended status. go_on ended status (unwrap_or (take_choice token.supported_mech c) c))
+    Runs ip (spelled_list v.list) (λ ended status. go_on ended status
+    (unwrap_or (take_choice token.supported_mech c) c))
     (stepped_with envelope (answer_due c token)) false v.hand (spnego_client ip v args)
 
 -- once the mechanism has ended, none steps
 abbrev pub ConfirmationIsVerified : Type 0
-ConfirmationIsVerified = (ip : Bool) (v : Values) (args : StepArgs) (token : NegTokenTarg) (envelope : List ℕ)
+ConfirmationIsVerified = (ip : Bool) (v : Values) (args : StepArgs) (token : NegTokenTarg)
+    (envelope : List ℕ)
     (verified : Option (List ℕ)) → v.kdcs ≡ [] → v.state ≡ states.VerifyMic →
     targ_of args.input ≡ Some (handed_response token envelope verified) →
-    Runs ip (spelled_list v.list) (λ ended status. go_on ended status (addressed (course_of ip v))) None true v.hand
+    Runs ip (spelled_list v.list) (λ ended status. go_on ended status (addressed (course_of ip v)))
+    None true v.hand
     (spnego_client ip v args)

@@ -35,7 +35,8 @@ impl<N: Mechanism, K: Mechanism> ClientEnd<N, K> {
 
     /// One call of `CredSspClient::process`.
     pub fn process(&mut self, request: TsRequest) -> Result<(), Error>
-        ensures { ClientCalled (either N.REQUESTS N.meaning K.meaning) self.old.client request result self.new.client self.new.last }
+        ensures { ClientCalled (either N.REQUESTS N.meaning K.meaning) self.old.client request
+            result self.new.client self.new.last }
     {
         match self.client.process(request) {
             Ok(progress) => {

@@ -92,7 +92,8 @@ fn taken(choice: Choice, held: Protocol) -> Protocol
 impl Course {
     ghost use Rattle.std.specs.Prelude.{Some};
     ghost use Rattle.sspi_negotiate.specs.Pick.{pick};
-    ghost use Rattle.sspi_outside.specs.Course.{OfChoice, addressed, chooses, continuation_due, go_on, make_offer, new_course, offer_due};
+    ghost use Rattle.sspi_outside.specs.Course.{OfChoice, addressed, chooses, continuation_due};
+    ghost use Rattle.sspi_outside.specs.Course.{go_on, make_offer, new_course, offer_due};
     ghost use Rattle.sspi_outside.specs.Course.{picks, take_choice, take_offer};
 
     /// Of an end that has made no step. It begins with Kerberos where that may be used.
@@ -118,7 +119,8 @@ impl Course {
     /// steps with the offer's token. None steps where that is not the client's first choice, where
     /// the offer has no token, and where nothing is picked.
     pub fn offer_due<'a>(&self, offer: &'a NegTokenInit) -> Option<Due<'a>>
-        ensures { option_map (λ d. record { mechanism = d.mechanism; token = d.token.now }) result ≡ offer_due self.now offer.now }
+        ensures { option_map (λ d. record { mechanism = d.mechanism; token = d.token.now })
+            result ≡ offer_due self.now offer.now }
     {
         let list = offer.mech_types.as_ref()?;
         let picked = self.picked(list)?;
@@ -145,7 +147,8 @@ impl Course {
     }
 
     fn take_list(&mut self, alloc: Global, list: &MechTypeList) -> Result<(), AllocError>
-        ensures ok { OnOk result (self.new ≡ picks (pick list.now self.old.packages self.old.hand) list.now self.old) }
+        ensures ok { OnOk result (self.new ≡ picks (pick list.now self.old.packages self.old.hand)
+            list.now self.old) }
         ensures err { OnErr result (self.new ≡ self.old) }
     {
         match self.picked(list) {
@@ -227,7 +230,8 @@ impl Course {
     /// Before a later call of an end, once its choice was taken: the selected mechanism steps with
     /// the token that came, or with none, while it authenticates.
     pub fn continuation_due<'a>(&self, token: &'a NegTokenTarg) -> Option<Due<'a>>
-        ensures { option_map (λ d. record { mechanism = d.mechanism; token = d.token.now }) result ≡ continuation_due self.now token.now }
+        ensures { option_map (λ d. record { mechanism = d.mechanism; token = d.token.now })
+            result ≡ continuation_due self.now token.now }
     {
         match self.state {
             NegotiateState::InProgress => Some(Due {

@@ -22,8 +22,8 @@ pub fn continuation_is_stepped_as_told()
     ensures last { LastIsVerified }
 {}
 
-/// In a client's first step `Course::hand` steps, and no MIC is made or verified. Afterwards the end
-/// has what `Course::make_offer` says.
+/// In a client's first step `Course::hand` steps, and no MIC is made or verified. Afterwards the
+/// end has what `Course::make_offer` says.
 pub fn first_is_stepped_as_told()
     ensures { FirstIsStepped }
 {}

@@ -38,10 +38,12 @@ fn read_code(code: &[u8]) -> Envelope<'static>
     }
 }
 
-// The bytes of the name that a server's envelope begins with, and the envelope of the step behind it.
+// The bytes of the name that a server's envelope begins with, and the envelope of the step behind
+// it.
 #[tactic(auto, unfolding(crate::specs::Envelope::introduced))]
 pub fn read_name(envelope: &[u8]) -> Option<(&[u8], &[u8])>
-    ensures { option_map (λ it. record { name = it.0.now; step = it.1.now }) result ≡ introduced envelope.now }
+    ensures { option_map (λ it. record { name = it.0.now; step = it.1.now }) result ≡ introduced
+        envelope.now }
 {
     let [low, high, rest @ ..] = envelope else {
         return None;

@@ -1,6 +1,7 @@
 //! What the last call of an end came to, and what of it is sent.
 ghost use Rattle.std.specs.Prelude.{◌≡◌, Ok, Some, IfOk, option_copied};
-ghost use Rattle.sspi_outside.specs.Hosting.{message_of, owed_text, refusing, sealed_by, sent, text_of};
+ghost use Rattle.sspi_outside.specs.Hosting.{message_of, owed_text, refusing, sealed_by, sent};
+ghost use Rattle.sspi_outside.specs.Hosting.{text_of};
 
 use crate::envelope::read_text;
 use sspi_credssp::{Acts, ClientState, Progress, ServerError, ServerState};
@@ -96,7 +97,8 @@ impl Last {
         }
     }
 
-    /// The message for the peer, with the sealed blob in the place of the text that was owed, and nothing of what came.
+    /// The message for the peer, with the sealed blob in the place of the text that was owed, and
+    /// nothing of what came.
     pub fn sent(
         &self,
         alloc: Global,

@@ -3,7 +3,8 @@ ghost use Rattle.std.specs.Prelude.{◌≡◌, ◌++◌, ℕ, List, None, Some};
 ghost use Rattle.sspi_outside.specs.Envelope.{no_tag, text_in};
 ghost use Rattle.sspi_outside.specs.Hosting.{closed};
 ghost use Rattle.sspi_outside.specs.Negotiated.{ListToSignIsTheEnds, MicIsGoodAsReported};
-ghost use Rattle.sspi_outside.specs.Reported.{CredentialsAreAwaitedOnceProved, CredentialsFollowTheProof, IdentityIsReported};
+ghost use Rattle.sspi_outside.specs.Reported.{CredentialsAreAwaitedOnceProved};
+ghost use Rattle.sspi_outside.specs.Reported.{CredentialsFollowTheProof, IdentityIsReported};
 ghost use Rattle.sspi_outside.specs.Reported.{ServerProofFollowsTheProof};
 
 use sspi_credssp::CredentialsProxy;
@@ -19,20 +20,22 @@ pub fn unopened_blob_has_no_text()
     ensures { (blob : List ℕ) → text_in (closed blob) ≡ None }
 {}
 
-/// A client owes the seal of its credentials only in a call in which the host reported exactly the proof that the server owes: at the
-/// pinned version, over the client's nonce and the channel's key.
+/// A client owes the seal of its credentials only in a call in which the host reported exactly the
+/// proof that the server owes: at the pinned version, over the client's nonce and the channel's
+/// key.
 pub fn credentials_follow_the_proof()
     ensures { CredentialsFollowTheProof }
 {}
 
-/// A server proves its key only in a call in which the host reported exactly the proof that the client owes, and only such a call
-/// brings it to wait for the credentials.
+/// A server proves its key only in a call in which the host reported exactly the proof that the
+/// client owes, and only such a call brings it to wait for the credentials.
 pub fn server_proof_follows_the_proof<C: CredentialsProxy>()
     ensures proof { ServerProofFollowsTheProof C.meaning }
     ensures state { CredentialsAreAwaitedOnceProved C.meaning }
 {}
 
-/// A server tells an identity only where it waited for the credentials, and of a text that the host reported in that call.
+/// A server tells an identity only where it waited for the credentials, and of a text that the host
+/// reported in that call.
 pub fn identity_is_reported<C: CredentialsProxy>()
     ensures { IdentityIsReported C.meaning }
 {}

@@ -1,6 +1,7 @@
 //! A token of SPNEGO over a mechanism that the host keeps (RFC 4178 5).
 ghost use Rattle.std.specs.Prelude.{◌≡◌, IfOk, option_copied, option_map};
-ghost use Rattle.sspi_outside.specs.Negotiated.{handed_offer, handed_response, list_to_sign, offered, signed};
+ghost use Rattle.sspi_outside.specs.Negotiated.{handed_offer, handed_response, list_to_sign};
+ghost use Rattle.sspi_outside.specs.Negotiated.{offered, signed};
 
 use crate::last::text_of;
 use crate::opened::{show, token_of};
@@ -38,7 +39,8 @@ pub fn handed_response(
     step: &[u8],
     verified: Option<&[u8]>,
 ) -> Result<NegTokenTarg, AllocError>
-    ensures { IfOk result (λ it. it ≡ handed_response token step.now (option_copied verified.entry)) }
+    ensures { IfOk result (λ it. it ≡ handed_response token step.now
+        (option_copied verified.entry)) }
 {
     let mut token = token;
     token.response_token = token_of(alloc, step)?;

@@ -1,7 +1,8 @@
 //! What an end is handed in the place of what came.
 ghost use Rattle.std.specs.Prelude.{◌≡◌, ◌++◌, None, Some, IfOk, OnOk, option_copied};
 ghost use Rattle.sspi_credssp.specs.Requests.{unless_empty};
-ghost use Rattle.sspi_outside.specs.Hosting.{closed, credentials_opened, handed, proof_opened, shown};
+ghost use Rattle.sspi_outside.specs.Hosting.{closed, credentials_opened, handed, proof_opened};
+ghost use Rattle.sspi_outside.specs.Hosting.{shown};
 
 use crate::outside::untagged;
 use sspi_tsreq::TsRequest;
@@ -84,16 +85,18 @@ pub(crate) fn token_of(alloc: Global, step: &[u8]) -> Result<Option<Bytes>, Allo
 
 /// The request that an end over `Outside` is handed for one that came.
 ///
-/// `step` is the envelope of the step that the host's context made with the token that came; empty where it made none. Of the
-/// sealed fields the one that was opened has its text; another one is refused as `MessageAltered` where it is due, or as
-/// `InvalidToken` where it has under 16 bytes. So nothing that came is taken for an envelope or for an opened text.
+/// `step` is the envelope of the step that the host's context made with the token that came; empty
+/// where it made none. Of the sealed fields the one that was opened has its text; another one is
+/// refused as `MessageAltered` where it is due, or as `InvalidToken` where it has under 16 bytes.
+/// So nothing that came is taken for an envelope or for an opened text.
 pub fn handed(
     alloc: Global,
     request: TsRequest,
     step: &[u8],
     opened: Opened<'_>,
 ) -> Result<TsRequest, AllocError>
-    ensures { IfOk result (λ d. d ≡ handed request step.now (proof_opened opened.entry) (credentials_opened opened.entry)) }
+    ensures { IfOk result (λ d. d ≡ handed request step.now (proof_opened opened.entry)
+        (credentials_opened opened.entry)) }
 {
     let mut request = request;
     request.nego_tokens = token_of(alloc, step)?;

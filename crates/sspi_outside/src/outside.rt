@@ -20,24 +20,29 @@ use std::marker::Model;
 
 /// The security context of the host, as an end of CredSSP sees it.
 ///
-/// Before a call of the end the host steps its own context with the token that came, and opens the sealed field that came. In
-/// the place of the token it hands in the *envelope* of the step, in the place of the field sixteen zeros and the text:
+/// Before a call of the end the host steps its own context with the token that came, and opens the
+/// sealed field that came. In the place of the token it hands in the *envelope* of the step, in the
+/// place of the field sixteen zeros and the text:
 ///
-/// - a client's envelope is a status byte, 0 where the context has ended and 1 where it goes on, and the token for the peer; or
-///   2 and a code of winerror.h in four bytes, the low one first, where the context refused the step;
-/// - a server's has before that how many bytes the peer's name has, in two bytes with the low one first, and the name in
-///   UTF-16; no bytes where the name is not known yet.
+/// - a client's envelope is a status byte, 0 where the context has ended and 1 where it goes on,
+///   and the token for the peer; or 2 and a code of winerror.h in four bytes, the low one first,
+///   where the context refused the step;
+/// - a server's has before that how many bytes the peer's name has, in two bytes with the low one
+///   first, and the name in UTF-16; no bytes where the name is not known yet.
 ///
-/// After the call the host seals what stands behind the sixteen zeros of the field that the end made, puts the sealed blob in its
-/// place, and sends. Neither an envelope nor such a field is ever sent, and none may be taken from what came.
+/// After the call the host seals what stands behind the sixteen zeros of the field that the end
+/// made, puts the sealed blob in its place, and sends. Neither an envelope nor such a field is ever
+/// sent, and none may be taken from what came.
 ///
 /// Refusals, of which the first that holds is answered:
-/// - `OutOfSequence`: a step after the one that ended the context; `resume`; completing, sealing, opening, signing and
-///   verifying before it; the name before it was told.
+/// - `OutOfSequence`: a step after the one that ended the context; `resume`; completing, sealing,
+///   opening, signing and verifying before it; the name before it was told.
 /// - `ContextExpired`: a message whose count is `u64::MAX`.
 /// - the kind of the code that the host handed in, `InvalidToken` where the code is of no kind.
-/// - `InvalidToken`: an envelope of another form or with a name that is none; a blob under 16 bytes.
-/// - `MessageAltered`: a blob or a MIC that does not begin with sixteen zeros; a MIC with another text behind them.
+/// - `InvalidToken`: an envelope of another form or with a name that is none; a blob under 16
+///   bytes.
+/// - `MessageAltered`: a blob or a MIC that does not begin with sixteen zeros; a MIC with another
+///   text behind them.
 /// - `UnsupportedFunction`: the session key.
 #[derive(Drop)]
 pub struct Outside {
@@ -106,7 +111,8 @@ fn next(count: u64) -> Result<u64, Refusal>
 }
 
 impl Outside {
-    ghost use Rattle.sspi_outside.specs.Outside.{Steps, takes, hears, hears_name, client_step, server_step, latest, unless_early};
+    ghost use Rattle.sspi_outside.specs.Outside.{Steps, takes, hears, hears_name, client_step};
+    ghost use Rattle.sspi_outside.specs.Outside.{server_step, latest, unless_early};
 
     fn hear(&mut self, heard: Option<Username>)
         ensures { self.new ≡ record self.old { peer = latest heard self.old.peer } }
@@ -118,7 +124,8 @@ impl Outside {
 
     // What the host said of a step, and of the peer's name.
     fn take(&mut self, heard: Option<Username>, envelope: &[u8]) -> Result<Step, Refusal>
-        ensures { Steps (takes self.old heard (said envelope.now)) self.old (answered result) self.new }
+        ensures { Steps (takes self.old heard (said envelope.now)) self.old (answered result)
+            self.new }
     {
         match read_step(envelope) {
             Envelope::Ended(token) => {
@@ -144,7 +151,8 @@ impl Outside {
     }
 
     fn take_named(&mut self, name: &[u8], step: &[u8]) -> Result<Step, Refusal>
-        ensures { Steps (hears_name self.old name.now step.now) self.old (answered result) self.new }
+        ensures { Steps (hears_name self.old name.now step.now) self.old (answered result)
+            self.new }
     {
         if name.is_empty() {
             return self.take(None, step);
@@ -176,8 +184,10 @@ impl Outside {
 
     // The number after this one: `OutOfSequence` before the context has ended.
     fn count_on(&self, count: u64) -> Result<u64, Refusal>
-        ensures ok { IfOk result (λ next. (next ≡ count + 1) × (unless_early self.now count None ≡ None)) }
-        ensures err { IfErr result (λ error. unless_early self.now count None ≡ Some error.error_type) }
+        ensures ok { IfOk result (λ next. (next ≡ count + 1) ×
+            (unless_early self.now count None ≡ None)) }
+        ensures err { IfErr result (λ error. unless_early self.now count None ≡ Some
+            error.error_type) }
     {
         if !self.ended {
             return Err(Refusal::out_of_sequence());

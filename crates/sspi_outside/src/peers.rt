@@ -7,8 +7,9 @@ use sspi_names::{AuthIdentity, Username};
 use sspi_types::{Secret, Text};
 use std::alloc::{AllocError, Global};
 
-/// Whoever the mechanism names: each name has one identity, of that name and without a password. For a mechanism that has
-/// its users in a directory of its own, and names only those that it authenticated.
+/// Whoever the mechanism names: each name has one identity, of that name and without a password.
+/// For a mechanism that has its users in a directory of its own, and names only those that it
+/// authenticated.
 #[derive(Drop)]
 pub struct AnyPeer {
     alloc: Global,

@@ -35,7 +35,8 @@ impl<N: Mechanism, K: Mechanism, C: CredentialsProxy> ServerEnd<N, K, C> {
 
     /// One call of `CredSspServer::process`.
     pub fn process(&mut self, request: TsRequest) -> Result<(), Error>
-        ensures { ServerCalled (either N.REQUESTS N.meaning K.meaning) C.meaning self.old.server request result self.new.server
+        ensures { ServerCalled (either N.REQUESTS N.meaning K.meaning) C.meaning self.old.server
+            request result self.new.server
             self.new.last }
     {
         match self.server.process(request) {

@@ -1,8 +1,11 @@
--- Agreement of a client and a server whose messages an attacker carries, if the mechanism is faithful.
+-- Agreement of a client and a server whose messages an attacker carries, if the mechanism is
+-- faithful.
 --
--- Whatever is delivered to whom: a client that sealed its credentials sealed them for a server that had checked this client's proof
--- over the same key, and what a finishing server holds is what this client sealed.
-use Rattle.std.specs.Prelude.{◌≡◌, ◌<◌, ◌≤◌, ℕ, List, ◌∷◌, ◌++◌, length, Option, None, Some, Ok, true, nat_lt}
+-- Whatever is delivered to whom: a client that sealed its credentials sealed them for a server that
+-- had checked this client's proof over the same key, and what a finishing server holds is what this
+-- client sealed.
+use Rattle.std.specs.Prelude.{◌≡◌, ◌<◌, ◌≤◌, ℕ, List, ◌∷◌, ◌++◌, length, Option, None, Some, Ok}
+use Rattle.std.specs.Prelude.{true, nat_lt}
 use Rattle.sspi_mech.specs.Meaning.{Meaning}
 use Rattle.sspi_names.specs.declared.credentials.Credentials.TheVariants as credentials
 use Rattle.sspi_names.specs.declared.identity.AuthIdentity.{AuthIdentity}
@@ -26,9 +29,11 @@ pub record TurnOf (turns : List Turn) : Type 0 where
 
 -- ---- the premises
 
--- no hash, which has 32 octets, is taken for the echo of a key, which is what a peer below version 5 proves with
+-- no hash, which has 32 octets, is taken for the echo of a key, which is what a peer below version
+-- 5 proves with
 pub data NoEcho {C : Type 0} (client : ClientEnd C) (server : ServerEnd C) : Type 0 where
-  by_length : 32 < length client.settings.public_key → 32 < length server.settings.public_key → NoEcho client server
+  by_length : 32 < length client.settings.public_key → 32 < length server.settings.public_key →
+      NoEcho client server
   by_least_versions : 5 ≤ client.settings.least → 5 ≤ server.settings.least → NoEcho client server
 
 -- ---- what both agree on
@@ -45,7 +50,8 @@ pub record HasProved (turns : List Turn) : Type 0 where
   pub end : at.turn.end ≡ Client
   pub proved : at.turn.acts.proved ≡ true
 
--- the server checked the client's proof in one of these turns, and proved; before it the client had proved
+-- the server checked the client's proof in one of these turns, and proved; before it the client had
+-- proved
 pub record ServerHasProved (turns : List Turn) : Type 0 where
   pub at : TurnOf turns
   pub end : at.turn.end ≡ Server
@@ -66,12 +72,15 @@ module _ {C : Type 0} (client : ClientEnd C) (server : ServerEnd C) where
     pub exchanged : ServerHasProved before
     pub keys : client.settings.public_key ≡ server.settings.public_key
     pub versions : AreAlike
-        (client_noted client.settings.least (client_turns turns)) (server_noted server.settings.least (server_turns turns))
+        (client_noted client.settings.least (client_turns turns))
+        (server_noted server.settings.least (server_turns turns))
     -- from version 5 on the server checked a proof that was made with this client's nonce
-    pub nonce : (version : ℕ) → server_noted server.settings.least (server_turns turns) ≡ Some version → 5 ≤ version →
+    pub nonce : (version : ℕ) → server_noted server.settings.least (server_turns turns) ≡ Some
+        version → 5 ≤ version →
         nonce_of exchanged.at.turn.delivered.client_nonce ≡ client.settings.nonce
 
-  -- of a server that finished with this identity: before it did the client had sealed, and the identity is the one that it sealed
+  -- of a server that finished with this identity: before it did the client had sealed, and the
+  -- identity is the one that it sealed
   pub record HoldsSealed (turns : List Turn) (identity : AuthIdentity) : Type 0 where
     pub at : TurnOf turns
     pub end : at.turn.end ≡ Server
@@ -80,17 +89,22 @@ module _ {C : Type 0} (client : ClientEnd C) (server : ServerEnd C) where
     pub text : List ℕ
     pub delegated : delegated_text client.settings.credentials client.settings.delegation ≡ Ok text
     pub read : delegated_identity text ≡ Ok identity
-    -- so the client has a name and a password; and the identity is its own, unless it keeps its credentials
+    -- so the client has a name and a password; and the identity is its own, unless it keeps its
+    -- credentials
     pub own : AuthIdentity
     pub credentials_are : client.settings.credentials ≡ credentials.AuthIdentity own
     pub identity_is : IsIdentity own → identity ≡ delegated_as client.settings.delegation own
 
   pub record Agreement (turns : List Turn) (identity : Option AuthIdentity) : Type 0 where
-    pub a_client_that_sealed : NoCollision client server turns → NoEcho client server → (at : TurnOf turns) → at.turn.end ≡ Client →
+    pub a_client_that_sealed : NoCollision client server turns → NoEcho client server →
+        (at : TurnOf turns) → at.turn.end ≡ Client →
         at.turn.acts.sealed ≡ true → Agrees turns at.before
-    pub a_server_that_finished : (given : AuthIdentity) → identity ≡ Some given → HoldsSealed turns given
+    pub a_server_that_finished : (given : AuthIdentity) → identity ≡ Some given →
+        HoldsSealed turns given
 
 -- The theorem, of the ends as the play left them.
-abbrev pub AgreesIfFaithful : {C : Type 0} → Meaning ContextSetting C → ClientEnd C → ServerEnd C → List Turn → Option AuthIdentity →
+abbrev pub AgreesIfFaithful : {C : Type 0} → Meaning ContextSetting C → ClientEnd C → ServerEnd C →
+    List Turn → Option AuthIdentity →
     Type 0
-AgreesIfFaithful c client server turns identity = OpensWhatWasSealed c client server turns → Agreement client server turns identity
+AgreesIfFaithful c client server turns identity = OpensWhatWasSealed c client server turns →
+    Agreement client server turns identity

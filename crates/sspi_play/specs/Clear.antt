@@ -1,4 +1,5 @@
--- Of mechanisms that do not encrypt: the texts that an end opened, as they stand in the recorded turns.
+-- Of mechanisms that do not encrypt: the texts that an end opened, as they stand in the recorded
+-- turns.
 use Rattle.std.specs.Prelude.{◌≡◌, ℕ, List, [], ◌∷◌, ◌++◌, drop, Option, None, Some}
 use Rattle.sspi_mech.specs.Meaning.{Meaning}
 use Rattle.sspi_credssp.specs.declared.turn.Turn.{Turn}
@@ -7,7 +8,8 @@ use Rattle.sspi_play.specs.Faithful.{where_done, HaveOpened}
 
 -- what a blob opens to stands behind its tag of 16 octets
 abbrev pub OpensBehindTag : {S C : Type 0} → Meaning S C → Type 0
-OpensBehindTag {S} {C} c = (m : C) (n : ℕ) (blob text : List ℕ) → c.opens m n blob text → text ≡ drop 16 blob
+OpensBehindTag {S} {C} c = (m : C) (n : ℕ) (blob text : List ℕ) → c.opens m n blob text →
+    text ≡ drop 16 blob
 
 abbrev pub behind_tag : Option (List ℕ) → List (List ℕ)
 behind_tag None = []
@@ -24,5 +26,6 @@ shown_texts (t ∷ past) = texts_shown t ++ shown_texts past
 
 -- what these turns have opened is what they show
 abbrev pub OpensWhatIsShown : {C : Type 0} → Meaning ContextSetting C → Type 0
-OpensWhatIsShown {C} c = (context : Option C) (turns : List Turn) (texts : List (List ℕ)) → HaveOpened c context turns texts →
+OpensWhatIsShown {C} c = (context : Option C) (turns : List Turn) (texts : List (List ℕ)) →
+    HaveOpened c context turns texts →
     texts ≡ shown_texts turns

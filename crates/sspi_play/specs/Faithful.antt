@@ -1,7 +1,9 @@
--- What agreement rests on: that in this play the mechanism under both ends is faithful, in what it seals and in what it signs; and that
--- no two texts have one hash. A text that was opened is told by the meaning of the context that opened it, so all this is said of a
--- mechanism that encrypts as of one that does not. Lists are the newest first.
-use Rattle.std.specs.Prelude.{◌≡◌, ◌≤◌, ◌+◌, ℕ, List, [], ◌∷◌, ◌++◌, Option, None, Some, Result, Ok, Err, Bool, true, false}
+-- What agreement rests on: that in this play the mechanism under both ends is faithful, in what it
+-- seals and in what it signs; and that no two texts have one hash. A text that was opened is told
+-- by the meaning of the context that opened it, so all this is said of a mechanism that encrypts as
+-- of one that does not. Lists are the newest first.
+use Rattle.std.specs.Prelude.{◌≡◌, ◌≤◌, ◌+◌, ℕ, List, [], ◌∷◌, ◌++◌, Option, None, Some, Result, Ok}
+use Rattle.std.specs.Prelude.{Err, Bool, true, false}
 use Rattle.sha2.specs.Sha256.{sha256}
 use Rattle.sspi_types.specs.declared.error.Error.{Error}
 use Rattle.sspi_mech.specs.Meaning.{Meaning}
@@ -33,12 +35,15 @@ text_in (Ok text) = text ∷ []
 text_in (Err error) = []
 
 module _ {C : Type 0} where
-  -- a client seals its proof, and then its credentials; the turns before this one say which version it had pinned
+  -- a client seals its proof, and then its credentials; the turns before this one say which version
+  -- it had pinned
   abbrev pub client_texts : ClientEnd C → List Turn → Turn → List (List ℕ)
   client_texts e past t =
-      where_done t.acts.sealed (text_in (delegated_text e.settings.credentials e.settings.delegation))
+      where_done t.acts.sealed
+      (text_in (delegated_text e.settings.credentials e.settings.delegation))
       ++ where_done t.acts.proved
-      (proof_text whose.Client (client_noted e.settings.least (t ∷ past)) e.settings.nonce e.settings.public_key)
+      (proof_text whose.Client (client_noted e.settings.least (t ∷ past)) e.settings.nonce
+      e.settings.public_key)
 
   abbrev pub client_sealed : ClientEnd C → List Turn → List (List ℕ)
   client_sealed e [] = []
@@ -48,7 +53,8 @@ module _ {C : Type 0} where
   abbrev pub server_texts : ServerEnd C → List Turn → Turn → List (List ℕ)
   server_texts e past t =
       where_done t.acts.proved
-      (proof_text whose.Server (server_noted e.settings.least (t ∷ past)) (nonce_of t.delivered.client_nonce) e.settings.public_key)
+      (proof_text whose.Server (server_noted e.settings.least (t ∷ past))
+      (nonce_of t.delivered.client_nonce) e.settings.public_key)
 
   abbrev pub server_sealed : ServerEnd C → List Turn → List (List ℕ)
   server_sealed e [] = []
@@ -57,23 +63,28 @@ module _ {C : Type 0} where
 -- ---- the texts that an end opened, by its context
 
 module _ {C : Type 0} (c : Meaning ContextSetting C) (context : Option C) where
-  -- the text of this field, which has this number among the messages that the context opened; no text where it was not opened
+  -- the text of this field, which has this number among the messages that the context opened; no
+  -- text where it was not opened
   abbrev pub IsOpened : Bool → ℕ → Option (List ℕ) → List (List ℕ) → Type 0
-  IsOpened true n field texts = (text : List ℕ) × OpensIn c context n field text × (texts ≡ text ∷ [])
+  IsOpened true n field texts = (text : List ℕ) × OpensIn c context n field text ×
+      (texts ≡ text ∷ [])
   IsOpened false n field texts = texts ≡ []
 
-  -- a turn before which n messages were opened opens the proof of its peer, or a server's the credentials
+  -- a turn before which n messages were opened opens the proof of its peer, or a server's the
+  -- credentials
   pub record OpensMore (t : Turn) (n : ℕ) (before texts : List (List ℕ)) : Type 0 where
     pub proof : List (List ℕ)
     pub credentials : List (List ℕ)
     pub proof_is : IsOpened t.acts.checked n t.delivered.pub_key_auth proof
-    pub credentials_are : IsOpened t.acts.opened (n + count_of t.acts.checked) t.delivered.auth_info credentials
+    pub credentials_are : IsOpened t.acts.opened (n + count_of t.acts.checked) t.delivered.auth_info
+        credentials
     pub all : texts ≡ credentials ++ proof ++ before
 
   -- the texts that an end has opened in these turns; there is one such list at most
   abbrev pub HaveOpened : List Turn → List (List ℕ) → Type 0
   HaveOpened [] texts = texts ≡ []
-  HaveOpened (t ∷ past) texts = (before : List (List ℕ)) × HaveOpened past before × OpensMore t (opened_in past) before texts
+  HaveOpened (t ∷ past) texts = (before : List (List ℕ)) × HaveOpened past before ×
+      OpensMore t (opened_in past) before texts
 
 -- ---- faithful in what is sealed
 
@@ -84,15 +95,18 @@ AreFirstOf texts all = (later : List (List ℕ)) × (all ≡ later ++ texts)
 module _ {C : Type 0} (c : Meaning ContextSetting C) where
   -- what a context has opened in these turns is what was sealed first
   abbrev pub OpensFirstOf : Option C → List Turn → List (List ℕ) → Type 0
-  OpensFirstOf context turns sealed = (texts : List (List ℕ)) → HaveOpened c context turns texts → AreFirstOf texts sealed
+  OpensFirstOf context turns sealed = (texts : List (List ℕ)) → HaveOpened c context turns texts →
+      AreFirstOf texts sealed
 
   module _ (client : ClientEnd C) (server : ServerEnd C) where
     -- after each turn what an end has opened so far is what its peer sealed first
     abbrev pub OpensWhatWasSealed : List Turn → Type 0
     OpensWhatWasSealed [] = Unit {0}
     OpensWhatWasSealed (t ∷ past) =
-        OpensFirstOf client.context (client_turns (t ∷ past)) (server_sealed server (server_turns (t ∷ past)))
-        × OpensFirstOf server.context (server_turns (t ∷ past)) (client_sealed client (client_turns (t ∷ past)))
+        OpensFirstOf client.context (client_turns (t ∷ past))
+        (server_sealed server (server_turns (t ∷ past)))
+        × OpensFirstOf server.context (server_turns (t ∷ past))
+        (client_sealed client (client_turns (t ∷ past)))
         × OpensWhatWasSealed past
 
 -- ---- faithful in what is signed
@@ -108,7 +122,8 @@ module _ {C : Type 0} (c : Meaning ContextSetting C) where
   verifications_in (Some m) = (c.counts m).verifications
 
 -- where an end verified a MIC, its peer made one, and both keep the same list of mechanisms
-pub record VerifiesWhatWasSigned {N K : Type 0} (c : Meaning ContextSetting (SspiContext N K)) (own peer : Option (SspiContext N K)) :
+pub record VerifiesWhatWasSigned {N K : Type 0} (c : Meaning ContextSetting (SspiContext N K))
+    (own peer : Option (SspiContext N K)) :
     Type 0 where
   pub signed : 1 ≤ verifications_in c own → 1 ≤ signings_in c peer
   pub lists : 1 ≤ verifications_in c own → kept_list own ≡ kept_list peer
@@ -116,14 +131,17 @@ pub record VerifiesWhatWasSigned {N K : Type 0} (c : Meaning ContextSetting (Ssp
 -- ---- what is hashed
 
 module _ {C : Type 0} (client : ClientEnd C) (server : ServerEnd C) (turns : List Turn) where
-  -- so is one of the run's hashes made: an end's magic, a nonce and its own key, joined; a server's nonce is one that was delivered in
-  -- a turn in which it proved its key
+  -- so is one of the run's hashes made: an end's magic, a nonce and its own key, joined; a server's
+  -- nonce is one that was delivered in a turn in which it proved its key
   pub data IsHashed : List ℕ → Type 0 where
-    by_client : (end : EndpointType) → IsHashed (magic end ++ client.settings.nonce ++ client.settings.public_key)
-    by_server : (end : EndpointType) (later before : List Turn) (t : Turn) → server_turns turns ≡ later ++ (t ∷ before) →
+    by_client : (end : EndpointType) →
+        IsHashed (magic end ++ client.settings.nonce ++ client.settings.public_key)
+    by_server : (end : EndpointType) (later before : List Turn) (t : Turn) →
+        server_turns turns ≡ later ++ (t ∷ before) →
         t.acts.proved ≡ true →
         IsHashed (magic end ++ nonce_of t.delivered.client_nonce ++ server.settings.public_key)
 
   -- no two of these texts have one hash
   abbrev pub NoCollision : Type 0
-  NoCollision = (text other : List ℕ) → IsHashed text → IsHashed other → sha256 text ≡ sha256 other → text ≡ other
+  NoCollision = (text other : List ℕ) → IsHashed text → IsHashed other →
+      sha256 text ≡ sha256 other → text ≡ other

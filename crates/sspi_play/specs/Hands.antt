@@ -1,5 +1,6 @@
 -- What one delivery makes of its end.
-use Rattle.std.specs.Prelude.{◌≡◌, ◌≢◌, ℕ, ◌⊎◌, List, [], ◌∷◌, None, Some, Result, Ok, Err, Bool, false}
+use Rattle.std.specs.Prelude.{◌≡◌, ◌≢◌, ℕ, ◌⊎◌, List, [], ◌∷◌, None, Some, Result, Ok, Err, Bool}
+use Rattle.std.specs.Prelude.{false}
 use Rattle.sspi_types.specs.declared.error_kind.ErrorKind.{ErrorKind}
 use Rattle.sspi_types.specs.declared.error_kind.ErrorKind.TheVariants as kinds
 use Rattle.sspi_ber.specs.declared.wire_kind.WireKind.{WireKind}
@@ -25,7 +26,8 @@ use Rattle.sspi_play.specs.declared.hand.Standing.{Standing}
 use Rattle.sspi_play.specs.declared.played.Delivery.{Delivery}
 use Rattle.sspi_play.specs.declared.played.Ending.{Ending}
 use Rattle.sspi_play.specs.declared.played.Ending.TheVariants.{Running, Refused, Unread}
-use Rattle.sspi_play.specs.Plays.{any_for, unread_kind, ending_of, IsGiven, Plays, AllHadMemory, OthersHadMemory, IsNoWant}
+use Rattle.sspi_play.specs.Plays.{any_for, unread_kind, ending_of, IsGiven, Plays, AllHadMemory}
+use Rattle.sspi_play.specs.Plays.{OthersHadMemory, IsNoWant}
 
 -- the request of a delivery, or why it has none
 abbrev pub RequestIs : Bool → List ℕ → Result TsRequest WireKind → Type 0
@@ -48,57 +50,74 @@ EndsBy kind (Err error) = (error ≡ errors.InsufficientMemory) × (kind ≡ kin
 -- one more turn: whose it is, what it was given, and how it ended
 abbrev pub HasTurn : End → Bool → List ℕ → (Outcome → Type 0) → List Turn → List Turn → Type 0
 HasTurn end start bytes P old [] = ⊥
-HasTurn end start bytes P old (t ∷ past) = (past ≡ old) × (t.end ≡ end) × IsGiven start bytes t.delivered × P t.outcome
+HasTurn end start bytes P old (t ∷ past) = (past ≡ old) × (t.end ≡ end) ×
+    IsGiven start bytes t.delivered × P t.outcome
 
 -- a delivery made a turn that ended so
 abbrev pub TurnsSo : End → Bool → List ℕ → (Outcome → Type 0) → List Turn → List Turn → Type 0
-TurnsSo end start bytes P old new = (unread_kind start bytes ≡ None) × HasTurn end start bytes P old new
+TurnsSo end start bytes P old new = (unread_kind start bytes ≡ None) ×
+    HasTurn end start bytes P old new
 
-abbrev pub EndsSo : End → (ErrorKind → Outcome → Type 0) → Bool → List ℕ → Ending → List Turn → List Turn → Type 0
+abbrev pub EndsSo : End → (ErrorKind → Outcome → Type 0) → Bool → List ℕ → Ending → List Turn →
+    List Turn → Type 0
 EndsSo end IsRefusal start bytes Running old new = TurnsSo end start bytes GoesOn old new
 EndsSo end IsRefusal start bytes (Refused kind) old new = (kind ≢ kinds.InsufficientMemory) ×
     TurnsSo end start bytes (IsRefusal kind) old new
-EndsSo end IsRefusal start bytes (Unread kind) old new = (unread_kind start bytes ≡ Some kind) × (new ≡ old)
+EndsSo end IsRefusal start bytes (Unread kind) old new = (unread_kind start bytes ≡ Some kind) ×
+    (new ≡ old)
 
 -- out of memory: no turn was made, or it was refused with that
-pub record LacksSo (end : End) (IsRefusal : ErrorKind → Outcome → Type 0) (start : Bool) (bytes : List ℕ) (error : DelegateError)
+pub record LacksSo (end : End) (IsRefusal : ErrorKind → Outcome →
+    Type 0) (start : Bool) (bytes : List ℕ) (error : DelegateError)
     (old new : List Turn) : Type 0 where
   pub error_is : error ≡ errors.InsufficientMemory
   pub turns : (new ≡ old) ⊎ TurnsSo end start bytes (IsRefusal kinds.InsufficientMemory) old new
 
-abbrev pub ClientHands : Bool → List ℕ → Result Ending DelegateError → List Turn → List Turn → Type 0
-ClientHands start bytes (Ok ending) old new = EndsSo Client IsClientRefusal start bytes ending old new
-ClientHands start bytes (Err error) old new = LacksSo Client IsClientRefusal start bytes error old new
+abbrev pub ClientHands : Bool → List ℕ → Result Ending DelegateError → List Turn → List Turn →
+    Type 0
+ClientHands start bytes (Ok ending) old new =
+    EndsSo Client IsClientRefusal start bytes ending old new
+ClientHands start bytes (Err error) old new =
+    LacksSo Client IsClientRefusal start bytes error old new
 
 abbrev pub ServerHands : List ℕ → Result Handed DelegateError → List Turn → List Turn → Type 0
-ServerHands bytes (Ok (handed.Stands ending)) old new = EndsSo Server IsServerRefusal false bytes ending old new
-ServerHands bytes (Ok (handed.Finished identity)) old new = TurnsSo Server false bytes IsFinished old new
+ServerHands bytes (Ok (handed.Stands ending)) old new =
+    EndsSo Server IsServerRefusal false bytes ending old new
+ServerHands bytes (Ok (handed.Finished identity)) old new =
+    TurnsSo Server false bytes IsFinished old new
 ServerHands bytes (Err error) old new = LacksSo Server IsServerRefusal false bytes error old new
 
 -- a play that stands so after these deliveries and turns
-pub record Stands (deliveries : List Delivery) (turns : List Turn) (standing : Standing) : Type 0 where
-  pub plays : Plays deliveries turns
-  pub memory : AllHadMemory turns
-  pub begun : standing.begun ≡ any_for Client deliveries
-  pub client : standing.played.client ≡ ending_of Client deliveries turns
-  pub server : standing.played.server ≡ ending_of Server deliveries turns
-  pub client_kind : IsNoWant standing.played.client
-  pub server_kind : IsNoWant standing.played.server
+pub record Stands (deliveries : List Delivery) (turns : List Turn) (standing : Standing) : Type 0
+  where
+    pub plays : Plays deliveries turns
+    pub memory : AllHadMemory turns
+    pub begun : standing.begun ≡ any_for Client deliveries
+    pub client : standing.played.client ≡ ending_of Client deliveries turns
+    pub server : standing.played.server ≡ ending_of Server deliveries turns
+    pub client_kind : IsNoWant standing.played.client
+    pub server_kind : IsNoWant standing.played.server
 
 -- a play that this delivery ended by an error: it made a turn, or it made none
 abbrev pub StopsAt : Delivery → List Delivery → List Turn → Type 0
 StopsAt d past turns = (Plays past turns ⊎ Plays (d ∷ past) turns) × OthersHadMemory turns
 
 module _ {C P : Type 0} (c : Meaning ContextSetting C) (p : ProxyMeaning P) where
-  abbrev pub ServerHandPast : ServerView C P → Result Handed DelegateError → List Turn → ServerView C P → Type 0
+  abbrev pub ServerHandPast : ServerView C P → Result Handed DelegateError → List Turn →
+      ServerView C P → Type 0
   ServerHandPast first (Ok (handed.Stands ending)) turns now = ServerHistory c p first turns now
-  ServerHandPast first (Ok (handed.Finished identity)) turns now = ServerGave c p first identity turns now
+  ServerHandPast first (Ok (handed.Finished identity)) turns now =
+      ServerGave c p first identity turns now
   ServerHandPast first (Err error) turns now = ServerHistory c p first turns now
 
-  -- the turn that a delivery made leads from the server as it was to the one that is left; where there was no request, nothing moved it
-  abbrev pub ServerHandMade : ServerView C P → Result Handed DelegateError → List Turn → ServerView C P → Type 0
-  ServerHandMade old (Ok (handed.Stands Running)) turns now = ServerHistory c p old (server_turns (newest_alone turns)) now
-  ServerHandMade old (Ok (handed.Stands (Refused kind))) turns now = ServerHistory c p old (server_turns (newest_alone turns)) now
+  -- the turn that a delivery made leads from the server as it was to the one that is left; where
+  -- there was no request, nothing moved it
+  abbrev pub ServerHandMade : ServerView C P → Result Handed DelegateError → List Turn →
+      ServerView C P → Type 0
+  ServerHandMade old (Ok (handed.Stands Running)) turns now =
+      ServerHistory c p old (server_turns (newest_alone turns)) now
+  ServerHandMade old (Ok (handed.Stands (Refused kind))) turns now =
+      ServerHistory c p old (server_turns (newest_alone turns)) now
   ServerHandMade old (Ok (handed.Stands (Unread kind))) turns now = now ≡ old
   ServerHandMade old (Ok (handed.Finished identity)) turns now = Unit {0}
   ServerHandMade old (Err error) turns now = Unit {0}

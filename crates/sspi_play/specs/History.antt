@@ -23,22 +23,28 @@ IfRefused endings.Running Q = Unit {0}
 IfRefused (endings.Unread kind) Q = Unit {0}
 
 module _ {C D : Type 0} (c : Meaning ContextSetting C) (k : KdcCalls D) where
-  -- the history of a client, by the answer: where there was no memory it may have been left waiting for its KDC, in a turn on what was
-  -- due
-  abbrev pub ClientPlayed : {X : Type 0} → (TsRequest → Type 0) → ClientView C → D → Result X DelegateError → List Turn →
+  -- the history of a client, by the answer: where there was no memory it may have been left waiting
+  -- for its KDC, in a turn on what was due
+  abbrev pub ClientPlayed : {X : Type 0} → (TsRequest → Type 0) → ClientView C → D →
+      Result X DelegateError → List Turn →
       ClientView C → D → Type 0
   ClientPlayed due first kdc (Ok done) turns now kdc2 = ClientHistory c k first kdc turns now kdc2
-  ClientPlayed due first kdc (Err error) turns now kdc2 = ClientLeft c k due first kdc turns now kdc2
+  ClientPlayed due first kdc (Err error) turns now kdc2 =
+      ClientLeft c k due first kdc turns now kdc2
 
   -- the chain of a client's context, by the answer
-  abbrev pub ClientPlayedChain : {X : Type 0} → (TsRequest → Type 0) → ClientView C → D → Result X DelegateError → List Turn →
+  abbrev pub ClientPlayedChain : {X : Type 0} → (TsRequest → Type 0) → ClientView C → D →
+      Result X DelegateError → List Turn →
       ClientStage C D → Type 0
   ClientPlayedChain due first kdc (Ok done) turns now = ClientChain c k first kdc turns now
-  ClientPlayedChain due first kdc (Err error) turns now = ClientChainLeft c k first due kdc turns now
+  ClientPlayedChain due first kdc (Err error) turns now =
+      ClientChainLeft c k first due kdc turns now
 
 module _ {C P : Type 0} (c : Meaning ContextSetting C) (p : ProxyMeaning P) where
-  -- one of these turns of the server finished, and gave this identity; those behind it led to the server that is left
-  pub record GaveIn (first : ServerView C P) (identity : AuthIdentity) (turns : List Turn) (now : ServerView C P) : Type 0 where
+  -- one of these turns of the server finished, and gave this identity; those behind it led to the
+  -- server that is left
+  pub record GaveIn (first : ServerView C P) (identity : AuthIdentity) (turns : List Turn)
+      (now : ServerView C P) : Type 0 where
     pub later : List Turn
     pub turn : Turn
     pub before : List Turn

@@ -1,4 +1,5 @@
--- The list of mechanisms that an end keeps, which the MICs of a negotiation protect; and the identity that a play gave.
+-- The list of mechanisms that an end keeps, which the MICs of a negotiation protect; and the
+-- identity that a play gave.
 use Rattle.std.specs.Prelude.{ℕ, List, [], Option, None, Some, Result, Ok, Err}
 use Rattle.sspi_names.specs.declared.identity.AuthIdentity.{AuthIdentity}
 use Rattle.sspi_credssp.specs.declared.context.SspiContext.{SspiContext}

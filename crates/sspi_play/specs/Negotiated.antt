@@ -1,11 +1,13 @@
--- Agreement on the mechanism that a negotiation chose, between a client and a server whose messages an attacker carries, if the
--- mechanism is faithful in what it signs (RFC 4178, section 5). It supposes nothing of what is sealed, and nothing of hashes.
+-- Agreement on the mechanism that a negotiation chose, between a client and a server whose messages
+-- an attacker carries, if the mechanism is faithful in what it signs (RFC 4178, section 5). It
+-- supposes nothing of what is sealed, and nothing of hashes.
 --
--- A server that verified a MIC of the client has the selected mechanism that it picks, by its own configuration, of the list that
--- the client offered; and a client that verified a MIC of the server keeps the list that the server read. A client that proved its
--- key, or sealed its credentials, has verified one. A server that proved its own, or opened credentials, has too, if the mechanism in
--- hand is NTLM or is not the one that the list that it read begins with. That is so of ends that negotiate, but for a guest, and rests
--- on no premise.
+-- A server that verified a MIC of the client has the selected mechanism that it picks, by its own
+-- configuration, of the list that the client offered; and a client that verified a MIC of the
+-- server keeps the list that the server read. A client that proved its key, or sealed its
+-- credentials, has verified one. A server that proved its own, or opened credentials, has too, if
+-- the mechanism in hand is NTLM or is not the one that the list that it read begins with. That is
+-- so of ends that negotiate, but for a guest, and rests on no premise.
 use Rattle.std.specs.Prelude.{◌≡◌, ◌≢◌, ◌≤◌, ◌⊎◌, ℕ, List, [], ◌∷◌, map, option_map}
 use Rattle.std.specs.Prelude.{Option, None, Some, IsSome, Result, Ok, Err, true, false}
 use Rattle.sspi_types.specs.declared.error_kind.ErrorKind.{ErrorKind}
@@ -57,7 +59,8 @@ use Rattle.sspi_play.specs.Kept.{kept_list}
 -- the text is a NegTokenInit that offers this list
 pub record IsOffer (text : List ℕ) (list : List (List ℕ)) : Type 0 where
   pub mech_token : Option (List ℕ)
-  pub spelled : spelled_init (record { mech_types = Some list; mech_token = mech_token }) ≡ Some text
+  pub spelled : spelled_init (record { mech_types = Some list; mech_token = mech_token }) ≡ Some
+      text
 
 -- the text begins with a NegTokenInit that offers this list
 pub record IsReadAs (text : List ℕ) (list : List (List ℕ)) : Type 0 where
@@ -93,7 +96,8 @@ protocol_from (Err kind) = None
 -- what a server with this selected mechanism picks of a list, by its configuration
 abbrev pub picks_with : NegotiateConfig → Option Protocol → List (List ℕ) → Option Protocol
 picks_with config None list = None
-picks_with config (Some first) list = option_map (λ (picked : Picked). protocol_of picked.choice) (pick list (packages_in config) first)
+picks_with config (Some first) list = option_map (λ (picked : Picked). protocol_of picked.choice)
+    (pick list (packages_in config) first)
 
 -- what a server that was made of this configuration picks of a list
 abbrev pub picked_by : NegotiateConfig → List (List ℕ) → Option Protocol
@@ -107,7 +111,8 @@ in_hand (Some (contexts.Ntlm m)) = None
 in_hand (Some (contexts.Kerberos m)) = None
 
 -- the selected mechanism is what a server of this mode picks of the list
-pub record IsPickOf {N K : Type 0} (context : Option (SspiContext N K)) (mode : ServerMode) (list : List (List ℕ)) : Type 0 where
+pub record IsPickOf {N K : Type 0} (context : Option (SspiContext N K)) (mode : ServerMode)
+    (list : List (List ℕ)) : Type 0 where
   pub config : NegotiateConfig
   pub mode_is : mode ≡ modes.Negotiate config
   pub protocol : Protocol
@@ -121,22 +126,27 @@ abbrev pub first_of : List (List ℕ) → Option Protocol
 first_of [] = None
 first_of (oid ∷ oids) = protocol_of_kind (kind_of oid)
 
--- Where a server with this selected mechanism needs MICs over the list: with NTLM, and with any that the list does not begin with, both
--- identifiers of Kerberos being one. It needs them in other cases too, as user-to-user, of which nothing is said here.
+-- Where a server with this selected mechanism needs MICs over the list: with NTLM, and with any
+-- that the list does not begin with, both identifiers of Kerberos being one. It needs them in other
+-- cases too, as user-to-user, of which nothing is said here.
 abbrev pub NeedsMic : Protocol → List (List ℕ) → Type 0
 NeedsMic protocol list = (protocol ≡ Ntlm) ⊎ (first_of list ≢ Some protocol)
 
 -- the server is `first` as it was made
-module _ {N K P : Type 0} (requests : ℕ) (n : Meaning Setting N) (k : Meaning Setting K) (p : ProxyMeaning P)
+module _ {N K P : Type 0} (requests : ℕ) (n : Meaning Setting N) (k : Meaning Setting K)
+    (p : ProxyMeaning P)
     (first : ServerView (SspiContext N K) P) where
-  -- A step of the context of this stage named the peer as a guest, of whom a server needs no MIC, and the context took the identities
-  -- that the proxy found by that name. But for what it sealed and opened it is now what that left.
-  pub record TookGuestAt (stage : ServerStage (SspiContext N K)) (token : Option (List ℕ)) (context : Option (SspiContext N K)) :
+  -- A step of the context of this stage named the peer as a guest, of whom a server needs no MIC,
+  -- and the context took the identities that the proxy found by that name. But for what it sealed
+  -- and opened it is now what that left.
+  pub record TookGuestAt (stage : ServerStage (SspiContext N K)) (token : Option (List ℕ))
+      (context : Option (SspiContext N K)) :
       Type 0 where
     pub handle : Option CredentialsBuffers
     pub step : Step
     pub before : SspiContext N K
-    pub stepped : Accepted (either requests n k) p (server_at (either requests n k) p first stage) handle token Unknown (Ok step) before
+    pub stepped : Accepted (either requests n k) p (server_at (either requests n k) p first stage)
+        handle token Unknown (Ok step) before
     pub name : Name
     pub named : (either requests n k).names before ≡ Some name
     pub is_guest : is_guest_text (inner_of name) ≡ true
@@ -144,7 +154,8 @@ module _ {N K P : Type 0} (requests : ℕ) (n : Meaning Setting N) (k : Meaning 
     pub found : AreFound (p.told first.proxy) name identities
     pub some : identities ≢ []
     pub taken : SspiContext N K
-    pub peer : (either requests n k).identifies before (map credentials.AuthIdentity identities) taken
+    pub peer : (either requests n k).identifies before (map credentials.AuthIdentity identities)
+        taken
     pub left : SameBut (either requests n k) (Some taken) context
 
   -- that was the step of one of these turns, at the stage to which those before it had led
@@ -154,7 +165,8 @@ module _ {N K P : Type 0} (requests : ℕ) (n : Meaning Setting N) (k : Meaning 
     pub came : ServerChain (either requests n k) p first at.before stage
     pub took : TookGuestAt stage at.turn.delivered.nego_tokens context
 
-  -- a server that negotiates, and whose mechanism needs MICs, has verified one, unless its peer is a guest
+  -- a server that negotiates, and whose mechanism needs MICs, has verified one, unless its peer is
+  -- a guest
   abbrev pub HasVerifiedOrGuest : List Turn → Option (SspiContext N K) → Type 0
   HasVerifiedOrGuest turns None = ⊥
   HasVerifiedOrGuest turns (Some (contexts.Negotiate s)) = NeedsMic (hand_of s.mech) s.list →
@@ -163,19 +175,26 @@ module _ {N K P : Type 0} (requests : ℕ) (n : Meaning Setting N) (k : Meaning 
   HasVerifiedOrGuest turns (Some (contexts.Kerberos m)) = Unit {0}
 
 module _ {N K : Type 0} (requests : ℕ) (n : Meaning Setting N) (k : Meaning Setting K) where
-  -- a client that negotiates has verified a MIC of its peer, unless its user is a guest, for whom NTLM may be chosen without one
+  -- a client that negotiates has verified a MIC of its peer, unless its user is a guest, for whom
+  -- NTLM may be chosen without one
   abbrev pub HasVerified : ClientView (SspiContext N K) → Type 0
   HasVerified client = IsSome (in_hand client.context) → is_guest client.handle ≡ false →
       1 ≤ verifications_in (either requests n k) client.context
 
-module _ {N K P : Type 0} (requests : ℕ) (n : Meaning Setting N) (k : Meaning Setting K) (p : ProxyMeaning P) where
-  -- A client that proved its key has, and so has one that sealed its credentials; and a server that answered with its own proof, or
-  -- opened credentials. No turn behind the one of a proof takes a step, so it had then.
-  pub record VerifiesFirst (client : ClientView (SspiContext N K)) (first : ServerView (SspiContext N K) P)
+module _ {N K P : Type 0} (requests : ℕ) (n : Meaning Setting N) (k : Meaning Setting K)
+    (p : ProxyMeaning P) where
+  -- A client that proved its key has, and so has one that sealed its credentials; and a server that
+  -- answered with its own proof, or opened credentials. No turn behind the one of a proof takes a
+  -- step, so it had then.
+  pub record VerifiesFirst (client : ClientView (SspiContext N K))
+      (first : ServerView (SspiContext N K) P)
       (server : ServerEnd (SspiContext N K)) (turns : List Turn) : Type 0 where
-    pub a_client_that_proved : (at : TurnOf (client_turns turns)) → at.turn.acts.proved ≡ true → HasVerified requests n k client
-    pub a_client_that_sealed : (at : TurnOf (client_turns turns)) → at.turn.acts.sealed ≡ true → HasVerified requests n k client
-    pub a_server_that_proved : (at : TurnOf (server_turns turns)) → at.turn.acts.proved ≡ true → IsUnrefused at.turn.outcome →
+    pub a_client_that_proved : (at : TurnOf (client_turns turns)) → at.turn.acts.proved ≡ true →
+        HasVerified requests n k client
+    pub a_client_that_sealed : (at : TurnOf (client_turns turns)) → at.turn.acts.sealed ≡ true →
+        HasVerified requests n k client
+    pub a_server_that_proved : (at : TurnOf (server_turns turns)) → at.turn.acts.proved ≡ true →
+        IsUnrefused at.turn.outcome →
         HasVerifiedOrGuest requests n k p first (server_turns turns) server.context
     pub a_server_that_opened : (at : TurnOf (server_turns turns)) → at.turn.acts.opened ≡ true →
         HasVerifiedOrGuest requests n k p first (server_turns turns) server.context
@@ -183,12 +202,17 @@ module _ {N K P : Type 0} (requests : ℕ) (n : Meaning Setting N) (k : Meaning 
 -- ---- what both agree on
 
 module _ {N K : Type 0} (requests : ℕ) (n : Meaning Setting N) (k : Meaning Setting K) where
-  -- The theorem, of the ends as the play left them, of which the server was made in this mode. What either end knows rests on its own
-  -- verifications alone.
-  pub record NegotiatesIfFaithful (client : ClientEnd (SspiContext N K)) (server : ServerEnd (SspiContext N K)) (mode : ServerMode)
+  -- The theorem, of the ends as the play left them, of which the server was made in this mode. What
+  -- either end knows rests on its own verifications alone.
+  pub record NegotiatesIfFaithful (client : ClientEnd (SspiContext N K))
+      (server : ServerEnd (SspiContext N K)) (mode : ServerMode)
       (turns : List Turn) : Type 0 where
-    pub a_server_that_verified : VerifiesWhatWasSigned (either requests n k) server.context client.context →
+    pub a_server_that_verified : VerifiesWhatWasSigned (either requests n k) server.context
+        client.context →
         1 ≤ verifications_in (either requests n k) server.context →
-        IsPickOf server.context mode (kept_list client.context) × HasOffered (client_turns turns) (kept_list client.context)
-    pub a_client_that_verified : VerifiesWhatWasSigned (either requests n k) client.context server.context →
-        1 ≤ verifications_in (either requests n k) client.context → HasRead (server_turns turns) (kept_list client.context)
+        IsPickOf server.context mode (kept_list client.context) ×
+        HasOffered (client_turns turns) (kept_list client.context)
+    pub a_client_that_verified : VerifiesWhatWasSigned (either requests n k) client.context
+        server.context →
+        1 ≤ verifications_in (either requests n k) client.context →
+        HasRead (server_turns turns) (kept_list client.context)

@@ -48,33 +48,44 @@ pub record Standings (schedule : List Delivery) (played : Played) (turns : List 
 
 module _ {C P D : Type 0} (c : Meaning ContextSetting C) where
   -- of every play
-  pub record Accounts (p : ProxyMeaning P) (k : KdcCalls D) (schedule : List Delivery) (old : Both C P D)
+  pub record Accounts (p : ProxyMeaning P) (k : KdcCalls D) (schedule : List Delivery)
+      (old : Both C P D)
       (result : Result Played DelegateError)
       (new : Both C P D) : Type 0 where
     pub the_turns_are_those_of_the_deliveries : PlaysBy schedule result new.turns
-    pub deliveries_and_turns_say_how_the_ends_stand : IfOk result (λ played. Standings schedule played new.turns)
+    pub deliveries_and_turns_say_how_the_ends_stand : IfOk result
+        (λ played. Standings schedule played new.turns)
     -- each turn of an end was one of its calls, and nothing moved it between two of them
-    pub client_turns_are_its_calls : ClientPlayed c k {X = Played} (IsNext schedule new.turns) old.client old.kdc result
+    pub client_turns_are_its_calls : ClientPlayed c k {X = Played} (IsNext schedule new.turns)
+        old.client old.kdc result
         (client_turns new.turns) new.client new.kdc
-    pub server_turns_are_its_calls : ServerHistory c p old.server (server_turns new.turns) new.server
+    pub server_turns_are_its_calls : ServerHistory c p old.server (server_turns new.turns)
+        new.server
     pub the_identity_is_that_of_the_turn_that_finished : IfOk result
         (λ played. Gave c p old.server played.identity (server_turns new.turns) new.server)
 
-  -- Of a play between two fresh ends: each turn is one of its end, over the context that the play left, which sealed and opened
-  -- exactly what the turns say. A peer that is too old is refused as that, and no other. No more is sealed than once.
-  pub record IsPlay (p : ProxyMeaning P) (k : KdcCalls D) (schedule : List Delivery) (old : Both C P D)
+  -- Of a play between two fresh ends: each turn is one of its end, over the context that the play
+  -- left, which sealed and opened exactly what the turns say. A peer that is too old is refused as
+  -- that, and no other. No more is sealed than once.
+  pub record IsPlay (p : ProxyMeaning P) (k : KdcCalls D) (schedule : List Delivery)
+      (old : Both C P D)
       (result : Result Played DelegateError)
       (new : Both C P D) : Type 0 where
     pub client_ran : ClientRan c old.client new.client (client_turns new.turns)
     pub server_ran : ServerRan c old.server new.server (server_turns new.turns)
     pub client_heeds : EachHeedsServer c new.client.settings.least (client_turns new.turns)
-    pub server_heeds : EachHeedsClient c new.server.context new.server.settings.least (server_turns new.turns)
+    pub server_heeds : EachHeedsClient c new.server.context new.server.settings.least
+        (server_turns new.turns)
     pub credentials_are_sealed_at_most_once : sealed_turns new.turns ≤ 1
-    -- so what an end offered, chose, signed and verified in a turn is what its context did in that step
-    pub the_client_has_the_context_of_its_chain : ClientPlayedChain c k {X = Played} (IsNext schedule new.turns) old.client
+    -- so what an end offered, chose, signed and verified in a turn is what its context did in that
+    -- step
+    pub the_client_has_the_context_of_its_chain : ClientPlayedChain c k {X = Played}
+        (IsNext schedule new.turns) old.client
         old.kdc result (client_turns new.turns) (client_stage new.client new.kdc)
-    pub the_server_has_the_context_of_its_chain : ServerChain c p old.server (server_turns new.turns) (server_stage new.server)
+    pub the_server_has_the_context_of_its_chain : ServerChain c p old.server
+        (server_turns new.turns) (server_stage new.server)
     pub a_refusal_of_the_client_has_its_cause : IfOk result (λ played. IfRefused played.client
-        (λ error. ClientRefused c k old.client old.kdc error new.client new.kdc (client_turns new.turns)))
+        (λ error. ClientRefused c k old.client old.kdc error new.client new.kdc
+        (client_turns new.turns)))
     pub a_refusal_of_the_server_has_its_cause : IfOk result (λ played. IfRefused played.server
         (λ error. ServerRefused c p old.server error new.server (server_turns new.turns)))

@@ -1,6 +1,7 @@
--- What a schedule of deliveries makes of two ends: which turns, and how each end stands after them. Deliveries and turns are lists,
--- the newest first.
-use Rattle.std.specs.Prelude.{◌≡◌, ◌≢◌, ◌||◌, ℕ, List, [], ◌∷◌, reverse, take, Option, None, Some, Bool, true, false, not, if◌then◌else◌}
+-- What a schedule of deliveries makes of two ends: which turns, and how each end stands after them.
+-- Deliveries and turns are lists, the newest first.
+use Rattle.std.specs.Prelude.{◌≡◌, ◌≢◌, ◌||◌, ℕ, List, [], ◌∷◌, reverse, take, Option, None, Some}
+use Rattle.std.specs.Prelude.{Bool, true, false, not, if◌then◌else◌}
 use Rattle.sspi_types.specs.declared.error_kind.ErrorKind.{ErrorKind}
 use Rattle.sspi_ber.specs.Pieces.{Fault, Ended, Invalid}
 use Rattle.sspi_ber.specs.declared.wire_kind.WireKind.{WireKind}
@@ -32,7 +33,8 @@ abbrev pub any_for : End → List Delivery → Bool
 any_for end [] = false
 any_for end (d ∷ past) = is_for end d.to || any_for end past
 
--- after these deliveries the next one to this end is its start, which is not read: a client makes its first request itself
+-- after these deliveries the next one to this end is its start, which is not read: a client makes
+-- its first request itself
 abbrev pub is_start : End → List Delivery → Bool
 is_start Client past = not (any_for Client past)
 is_start Server past = false
@@ -79,14 +81,16 @@ last_refusal (t ∷ past) = refusal_in t.outcome
 
 -- ---- how an end stands
 
--- it refused its last turn; or else a delivery to it was no request, and the first such decides; or else it runs
+-- it refused its last turn; or else a delivery to it was no request, and the first such decides; or
+-- else it runs
 abbrev pub ending_by : Option ErrorKind → Option WireKind → Ending
 ending_by (Some kind) unread = Refused kind
 ending_by None (Some kind) = Unread kind
 ending_by None None = Running
 
 abbrev pub ending_of : End → List Delivery → List Turn → Ending
-ending_of end deliveries turns = ending_by (last_refusal (turns_by end turns)) (first_unread end deliveries)
+ending_of end deliveries turns = ending_by (last_refusal (turns_by end turns))
+    (first_unread end deliveries)
 
 -- ---- the turns of a schedule
 
@@ -95,12 +99,13 @@ abbrev pub IsGiven : Bool → List ℕ → TsRequest → Type 0
 IsGiven true bytes request = request ≡ first_request
 IsGiven false bytes request = IsRead bytes request
 
--- These turns are those of these deliveries, in their order. A delivery makes a turn exactly where its end still runs with it;
--- else it is passed over.
+-- These turns are those of these deliveries, in their order. A delivery makes a turn exactly where
+-- its end still runs with it; else it is passed over.
 pub data Plays : List Delivery → List Turn → Type 0 where
   begins : Plays [] []
   takes : (d : Delivery) (past : List Delivery) (t : Turn) (turns : List Turn) → Plays past turns →
-      ending_of d.to (d ∷ past) turns ≡ Running → t.end ≡ d.to → IsGiven (is_start d.to past) d.bytes t.delivered →
+      ending_of d.to (d ∷ past) turns ≡ Running → t.end ≡ d.to →
+      IsGiven (is_start d.to past) d.bytes t.delivered →
       Plays (d ∷ past) (t ∷ turns)
   passes : (d : Delivery) (past : List Delivery) (turns : List Turn) → Plays past turns →
       ending_of d.to (d ∷ past) turns ≢ Running → Plays (d ∷ past) turns
@@ -115,8 +120,10 @@ abbrev pub OthersHadMemory : List Turn → Type 0
 OthersHadMemory [] = Unit {0}
 OthersHadMemory (t ∷ past) = AllHadMemory past
 
--- This delivery, behind those of which these turns were made, gives a client that still runs with it this request.
-pub record IsTaken (d : Delivery) (past : List Delivery) (turns : List Turn) (request : TsRequest) : Type 0 where
+-- This delivery, behind those of which these turns were made, gives a client that still runs with
+-- it this request.
+pub record IsTaken (d : Delivery) (past : List Delivery) (turns : List Turn)
+    (request : TsRequest) : Type 0 where
   pub plays : Plays past turns
   pub memory : AllHadMemory turns
   pub to : d.to ≡ Client
@@ -124,12 +131,13 @@ pub record IsTaken (d : Delivery) (past : List Delivery) (turns : List Turn) (re
   pub given : IsGiven (is_start Client past) d.bytes request
 
 -- the next delivery of the schedule, once these turns were made, gives the client this request
-pub record IsNext (schedule : List Delivery) (turns : List Turn) (request : TsRequest) : Type 0 where
-  pub handed : ℕ
-  pub delivery : Delivery
-  pub past : List Delivery
-  pub front : reverse (take handed schedule) ≡ delivery ∷ past
-  pub taken : IsTaken delivery past turns request
+pub record IsNext (schedule : List Delivery) (turns : List Turn) (request : TsRequest) : Type 0
+  where
+    pub handed : ℕ
+    pub delivery : Delivery
+    pub past : List Delivery
+    pub front : reverse (take handed schedule) ≡ delivery ∷ past
+    pub taken : IsTaken delivery past turns request
 
 -- no end stands refused when out of memory
 abbrev pub IsNoWant : Ending → Type 0

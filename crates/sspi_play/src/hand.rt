@@ -7,7 +7,8 @@ ghost use Rattle.sspi_delegate.specs.Chain.{kdc_calls};
 ghost use Rattle.sspi_delegate.specs.Turns.{client_turns, server_turns, AllGoOn};
 ghost use Rattle.sspi_delegate.specs.History.{ClientHistory, ServerHistory, KdcStays, ProxyStays};
 ghost use Rattle.sspi_play.specs.declared.played.Delivery.{Delivery};
-ghost use Rattle.sspi_play.specs.Hands.{RequestIs, IsLeft, EndsBy, ClientHands, ServerHands, Stands, StopsAt};
+ghost use Rattle.sspi_play.specs.Hands.{RequestIs, IsLeft, EndsBy, ClientHands, ServerHands};
+ghost use Rattle.sspi_play.specs.Hands.{Stands, StopsAt};
 ghost use Rattle.sspi_play.specs.Hands.{ServerHandPast, ServerHandMade};
 ghost use Rattle.sspi_play.specs.History.{ClientPlayed, Gave};
 ghost use Rattle.sspi_play.specs.Plays.{IsTaken};
@@ -68,10 +69,13 @@ fn hand_client<N: Mechanism, K: Mechanism, D: Kdc>(
     bytes: &Bytes,
 ) -> Result<Ending, DelegateError>
     ensures hands { ClientHands start bytes.now result transcript.old.turns transcript.new.turns }
-    ensures history { let c = either N.REQUESTS N.meaning K.meaning in let k = kdc_calls D.told D.asked D.faults in
-        (first : ClientView (SspiContext N K)) (kdc_first : D) → AllGoOn (client_turns transcript.old.turns) →
+    ensures history { let c = either N.REQUESTS N.meaning K.meaning in let k =
+        kdc_calls D.told D.asked D.faults in
+        (first : ClientView (SspiContext N K)) (kdc_first : D) →
+        AllGoOn (client_turns transcript.old.turns) →
         ClientHistory c k first kdc_first (client_turns transcript.old.turns) client.old kdc.old →
-        ClientPlayed c k (IsLeft start bytes.now transcript.old.turns transcript.new.turns) first kdc_first result
+        ClientPlayed c k (IsLeft start bytes.now transcript.old.turns transcript.new.turns) first
+        kdc_first result
         (client_turns transcript.new.turns) client.new kdc.new }
     ensures server { server_turns transcript.new.turns ≡ server_turns transcript.old.turns }
     ensures kdc { KdcStays D.told D.faults kdc.old kdc.new }
@@ -96,10 +100,12 @@ fn hand_server<N: Mechanism, K: Mechanism, C: CredentialsProxy>(
     bytes: &Bytes,
 ) -> Result<Handed, DelegateError>
     ensures hands { ServerHands bytes.now result transcript.old.turns transcript.new.turns }
-    ensures history { let c = either N.REQUESTS N.meaning K.meaning in (first : ServerView (SspiContext N K) C) →
+    ensures history { let c = either N.REQUESTS N.meaning K.meaning
+        in (first : ServerView (SspiContext N K) C) →
         ServerHistory c C.meaning first (server_turns transcript.old.turns) server.old →
         ServerHandPast c C.meaning first result (server_turns transcript.new.turns) server.new }
-    ensures made { ServerHandMade (either N.REQUESTS N.meaning K.meaning) C.meaning server.old result transcript.new.turns server.new }
+    ensures made { ServerHandMade (either N.REQUESTS N.meaning K.meaning) C.meaning server.old
+        result transcript.new.turns server.new }
     ensures client { client_turns transcript.new.turns ≡ client_turns transcript.old.turns }
     ensures proxy { ProxyStays C.meaning server.old.proxy server.new.proxy }
 {
@@ -130,24 +136,32 @@ pub(crate) fn hand<N: Mechanism, K: Mechanism, C: CredentialsProxy, D: Kdc>(
     standing: &mut Standing,
 ) -> Result<(), DelegateError>
     // Which delivery was handed, and why none was.
-    ensures stands { OnOk result ((past : List Delivery) → Stands past transcript.old.turns standing.old →
+    ensures stands { OnOk result ((past : List Delivery) →
+        Stands past transcript.old.turns standing.old →
         Stands (delivery.now ∷ past) transcript.new.turns standing.new) }
-    ensures stops { OnErr result ((past : List Delivery) → Stands past transcript.old.turns standing.old →
+    ensures stops { OnErr result ((past : List Delivery) →
+        Stands past transcript.old.turns standing.old →
         StopsAt delivery.now past transcript.new.turns) }
     ensures only { IfErr result (λ error. error ≡ DelegateError.InsufficientMemory) }
     // What both ends did.
-    ensures client_history { let c = either N.REQUESTS N.meaning K.meaning in let k = kdc_calls D.told D.asked D.faults in
-        (first : ClientView (SspiContext N K)) (kdc_first : D) (past : List Delivery) → Stands past transcript.old.turns standing.old →
+    ensures client_history { let c = either N.REQUESTS N.meaning K.meaning in let k =
+        kdc_calls D.told D.asked D.faults in
+        (first : ClientView (SspiContext N K)) (kdc_first : D) (past : List Delivery) →
+        Stands past transcript.old.turns standing.old →
         ClientHistory c k first kdc_first (client_turns transcript.old.turns) client.old kdc.old →
         ClientPlayed c k (IsTaken delivery.now past transcript.new.turns) first kdc_first result
         (client_turns transcript.new.turns) client.new kdc.new }
-    ensures server_history { let c = either N.REQUESTS N.meaning K.meaning in (first : ServerView (SspiContext N K) C) →
+    ensures server_history { let c = either N.REQUESTS N.meaning K.meaning
+        in (first : ServerView (SspiContext N K) C) →
         ServerHistory c C.meaning first (server_turns transcript.old.turns) server.old →
         ServerHistory c C.meaning first (server_turns transcript.new.turns) server.new }
-    ensures identity { let c = either N.REQUESTS N.meaning K.meaning in (first : ServerView (SspiContext N K) C) →
+    ensures identity { let c = either N.REQUESTS N.meaning K.meaning
+        in (first : ServerView (SspiContext N K) C) →
         ServerHistory c C.meaning first (server_turns transcript.old.turns) server.old →
-        Gave c C.meaning first standing.old.played.identity (server_turns transcript.old.turns) server.old →
-        OnOk result (Gave c C.meaning first standing.new.played.identity (server_turns transcript.new.turns) server.new) }
+        Gave c C.meaning first standing.old.played.identity (server_turns transcript.old.turns)
+        server.old →
+        OnOk result (Gave c C.meaning first standing.new.played.identity
+        (server_turns transcript.new.turns) server.new) }
     // What stays.
     ensures kdc { KdcStays D.told D.faults kdc.old kdc.new }
     ensures proxy { ProxyStays C.meaning server.old.proxy server.new.proxy }

@@ -1,5 +1,6 @@
-//! Which contexts open a blob to what stands behind its tag, so that their turns show the texts that they opened; and that an
-//! undisturbed exchange is faithful, as agreement supposes. Each law is the contract of a call that does nothing.
+//! Which contexts open a blob to what stands behind its tag, so that their turns show the texts
+//! that they opened; and that an undisturbed exchange is faithful, as agreement supposes. Each law
+//! is the contract of a call that does nothing.
 
 ghost use Rattle.std.specs.Prelude.{◌≡◌, ℕ, List, Option};
 ghost use Rattle.sspi_mech.specs.Kerberos.{kerberos_meaning};
@@ -18,7 +19,8 @@ use sspi_mech::Mechanism;
 
 /// A context over two mechanisms does, also one that negotiates, where both of them do.
 pub fn a_context_opens_as_its_mechanisms<N: Mechanism, K: Mechanism>()
-    ensures { OpensBehindTag N.meaning → OpensBehindTag K.meaning → OpensBehindTag (either N.REQUESTS N.meaning K.meaning) }
+    ensures { OpensBehindTag N.meaning → OpensBehindTag K.meaning →
+        OpensBehindTag (either N.REQUESTS N.meaning K.meaning) }
 {}
 
 /// A context over plain NTLM and plain Kerberos does, also one that negotiates.
@@ -30,26 +32,31 @@ pub fn a_plain_context_opens_behind_the_tag()
 /// There is at most one list of the texts that an end has opened in its turns.
 pub fn one_list_was_opened<N: Mechanism, K: Mechanism>()
     ensures { let c = either N.REQUESTS N.meaning K.meaning in
-        (context : Option (SspiContext N K)) → (turns : List Turn) → (texts others : List (List ℕ)) →
+        (context : Option (SspiContext N K)) → (turns : List Turn) →
+        (texts others : List (List ℕ)) →
         HaveOpened c context turns texts → HaveOpened c context turns others → texts ≡ others }
 {}
 
-/// What the turns of an end that opens behind a tag have opened is what they show. So with mechanisms that do not encrypt the premise of agreement is
-/// one on recorded turns.
+/// What the turns of an end that opens behind a tag have opened is what they show. So with
+/// mechanisms that do not encrypt the premise of agreement is one on recorded turns.
 pub fn recorded_turns_show_what_is_opened<N: Mechanism, K: Mechanism>()
-    ensures { OpensBehindTag (either N.REQUESTS N.meaning K.meaning) → OpensWhatIsShown (either N.REQUESTS N.meaning K.meaning) }
+    ensures { OpensBehindTag (either N.REQUESTS N.meaning K.meaning) →
+        OpensWhatIsShown (either N.REQUESTS N.meaning K.meaning) }
 {}
 
-/// An exchange that the server finished, in which each turn is given the message of the turn before it, is faithful, if each
-/// context opens what the other sealed as its n-th message, where it opens it as its own n-th, to that text. Nothing is
-/// said of a blob that is opened under another number, so a mechanism that encrypts by its numbers can meet the premise.
+/// An exchange that the server finished, in which each turn is given the message of the turn before
+/// it, is faithful, if each context opens what the other sealed as its n-th message, where it opens
+/// it as its own n-th, to that text. Nothing is said of a blob that is opened under another number,
+/// so a mechanism that encrypts by its numbers can meet the premise.
 pub fn an_undisturbed_exchange_is_faithful<N: Mechanism, K: Mechanism>()
     ensures { let c = either N.REQUESTS N.meaning K.meaning in
-        (client : ClientEnd (SspiContext N K)) → (server : ServerEnd (SspiContext N K)) → (turns : List Turn) →
+        (client : ClientEnd (SspiContext N K)) → (server : ServerEnd (SspiContext N K)) →
+        (turns : List Turn) →
         IsUndisturbedExchange c client server turns → OpensWhatWasSealed c client server turns }
 {}
 
-/// Two plain contexts read each other so, whatever their keys: a text that opens stands behind its tag, where it was sealed.
+/// Two plain contexts read each other so, whatever their keys: a text that opens stands behind its
+/// tag, where it was sealed.
 pub fn plain_contexts_read_each_other()
     ensures { (requests : ℕ) → (own peer : Option (SspiContext NtlmState KerberosState)) →
         ReadsSeals (either requests ntlm_meaning kerberos_meaning) own peer }

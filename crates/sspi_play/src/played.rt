@@ -17,12 +17,13 @@ pub struct Delivery {
 /// How an end stands once everything was delivered.
 #[derive(Clone, Copy, Debug, PartialEq, Eq)]
 pub enum Ending {
-    /// It refused nothing, and read whatever was delivered to it. Also an end that has nothing more to say.
+    /// It refused nothing, and read whatever was delivered to it. Also an end that has nothing more
+    /// to say.
     Running,
     /// It refused its last turn. The kind is never out of memory.
     Refused(ErrorKind),
-    /// What was delivered to it after its last turn is no request: `UnexpectedEof` where the octets end too early or the
-    /// header is at fault, and else `InvalidData`.
+    /// What was delivered to it after its last turn is no request: `UnexpectedEof` where the octets
+    /// end too early or the header is at fault, and else `InvalidData`.
     Unread(WireKind),
 }
 

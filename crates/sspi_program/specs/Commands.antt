@@ -1,11 +1,13 @@
 -- The words of the program, and what they ask for.
-use Rattle.std.specs.Prelude.{ℕ, ◌+◌, ◌&&◌, nat_le, List, [], ◌∷◌, codes, map, Option, None, Some, String, string_bytes, if◌then◌else◌}
+use Rattle.std.specs.Prelude.{ℕ, ◌+◌, ◌&&◌, nat_le, List, [], ◌∷◌, codes, map, Option, None, Some}
+use Rattle.std.specs.Prelude.{String, string_bytes, if◌then◌else◌}
 use Rattle.std.specs.Option.{option_map}
 use Rattle.std.specs.Str.{bytes_eq}
 use Rattle.sspi_program.specs.declared.command.Command.{Command}
 use Rattle.sspi_program.specs.declared.command.Command.TheVariants.{Told, Gen, Explain}
 use Rattle.sspi_program.specs.declared.command.Task.{Task}
-use Rattle.sspi_program.specs.declared.command.Task.TheVariants.{Delegate, Play, Gate, Audit, Early, Desk}
+use Rattle.sspi_program.specs.declared.command.Task.TheVariants.{Delegate, Play, Gate, Audit, Early}
+use Rattle.sspi_program.specs.declared.command.Task.TheVariants.{Desk}
 use Rattle.sspi_scenario.specs.Reading.{text_limit}
 use Rattle.sspi_scenario.specs.Numbers.{number_of}
 use Rattle.sspi_scenario.specs.declared.purpose.Purpose.{Purpose}
@@ -48,7 +50,8 @@ numbered_command word digits =
 
 -- a word alone, which names a task or is `explain`
 unfoldable pub command_named : List ℕ → Option Command
-command_named word = if bytes_eq word (codes "explain") then Some Explain else option_map Told (task_named word)
+command_named word = if bytes_eq word (codes "explain") then Some Explain
+    else option_map Told (task_named word)
 
 abbrev pub command_in : List (List ℕ) → Option Command
 command_in [] = None

@@ -15,5 +15,6 @@ pub record HasExchange (kept : Record) : Type 0 where
 
 -- what the status is where the text is that of a scenario whose ends match
 abbrev pub DelegateEnds : List ℕ → ℕ → Type 0
-DelegateEnds text status = (scenario : Scenario) → scenario_of Exchange text ≡ Ok scenario → (matching : IsMatching scenario) →
+DelegateEnds text status = (scenario : Scenario) → scenario_of Exchange text ≡ Ok scenario →
+    (matching : IsMatching scenario) →
     EndsMatched (messages_in scenario matching) scenario.turns status

@@ -36,7 +36,12 @@ client_in scenario = record {
 abbrev pub server_in : Scenario → ServerView PlainContext TableView
 server_in scenario = record {
   settings = server_settings_in scenario;
-  proxy = record { entries = scenario.account; failing = scenario.proxy_fail; calls = 0; faults = 0 };
+  proxy = record {
+    entries = scenario.account;
+    failing = scenario.proxy_fail;
+    calls = 0;
+    faults = 0;
+  };
   state = NegoToken;
   context = None;
   handle = None;
@@ -56,7 +61,8 @@ places_in count scenario = replicate count (place_in scenario)
 
 -- so many had a session each at one desk
 abbrev pub HasSeats : ℕ → Scenario → List PlainSeat → Type 0
-HasSeats count scenario seats = AreSeats plain_meaning table_meaning (calls_of_kdc around) (places_in count scenario) scenario.turns seats
+HasSeats count scenario seats = AreSeats plain_meaning table_meaning (calls_of_kdc around)
+    (places_in count scenario) scenario.turns seats
 
 -- ---- the report
 

@@ -20,15 +20,17 @@ use Rattle.sspi_program.specs.Outcome.{messages_in, user_identity, IsMatching}
 use Rattle.sspi_program.specs.Said.{heard_status, report_of, status_of}
 use Rattle.sspi_program.specs.Status.{EndsAs}
 
--- Behind the exchange that `made` is the record of, the server told what the policy decides that the scenario names. Of `made`, only the
--- link went on, the policy came to it, and the outcome is that of the whole.
+-- Behind the exchange that `made` is the record of, the server told what the policy decides that
+-- the scenario names. Of `made`, only the link went on, the policy came to it, and the outcome is
+-- that of the whole.
 pub record IsEarlyOf (made r : Record) : Type 0 where
   pub exchange : HasExchange made
   pub rest : r ≡ record made { link = r.link; policy = r.policy; outcome = r.outcome }
   pub policy : r.policy ≡ made.scenario.admit
   pub answer : Result Early EarlyError
   pub outcome_is : r.outcome ≡ outcomes.Early answer
-  pub goes_on : GoesOn (shown_by around) list_meaning exchange.exchange.answer made.link r.link made.scenario.admit r.policy answer
+  pub goes_on : GoesOn (shown_by around) list_meaning exchange.exchange.answer made.link r.link
+      made.scenario.admit r.policy answer
 
 -- the ends of the scenario met, and the server told its client whether the user may log on
 pub record HasEarly (kept : Record) : Type 0 where
@@ -45,20 +47,23 @@ behind_text (outcomes.Delegated answer) entries = []
 behind_text (outcomes.Played answer) entries = []
 behind_text (outcomes.Early answer) entries = early_text entries answer
 
--- The report of the exchange, and behind it the entries that came behind it and the line of the early result; the status is 0 where the
--- client heard that its user may log on.
+-- The report of the exchange, and behind it the entries that came behind it and the line of the
+-- early result; the status is 0 where the client heard that its user may log on.
 pub record IsEarlyTold (kept : Record) (status : ℕ) (text : List ℕ) : Type 0 where
   pub made : Record
   pub early : IsEarlyOf made kept
   pub status_is : status_of kept.outcome ≡ Some status
   pub text_is : text ≡ report_of made ++ behind_text kept.outcome (entries_behind made kept)
 
--- what the status is where the exchange comes to its end: 0 where the delegated name is one that the scenario admits, and else 1
+-- what the status is where the exchange comes to its end: 0 where the delegated name is one that
+-- the scenario admits, and else 1
 abbrev pub admitted_status : Scenario → ℕ
 admitted_status scenario =
-    heard_status (told_of (is_listed scenario.admit (delegated_as scenario.delegation (user_identity scenario)).username))
+    heard_status (told_of (is_listed scenario.admit
+    (delegated_as scenario.delegation (user_identity scenario)).username))
 
 -- what the status is where the text is that of a scenario whose ends match
 abbrev pub EarlyEnds : List ℕ → ℕ → Type 0
-EarlyEnds text status = (scenario : Scenario) → scenario_of purposes.Early text ≡ Ok scenario → (matching : IsMatching scenario) →
+EarlyEnds text status = (scenario : Scenario) → scenario_of purposes.Early text ≡ Ok scenario →
+    (matching : IsMatching scenario) →
     EndsAs (admitted_status scenario) (messages_in scenario matching) scenario.turns status

@@ -31,7 +31,8 @@ PlainContext = SspiContext NtlmState KerberosState
 
 -- the user's credentials: the keytab where there is one, else the password
 abbrev pub credentials_by : Option (List ℕ) → Username → List ℕ → Credentials
-credentials_by None user password = AuthIdentity (record { username = user; password = record { value = password } })
+credentials_by None user password = AuthIdentity
+    (record { username = user; password = record { value = password } })
 credentials_by (Some keytab) user password = Keytab (record { username = user; keytab = keytab })
 
 abbrev pub credentials_in : Scenario → Credentials
@@ -48,14 +49,22 @@ negotiate_config_in scenario first list = record {
 
 -- the client's NTLM knows its computer, and the server's has the challenge
 abbrev pub client_ntlm : Scenario → NtlmConfig
-client_ntlm scenario = record { client_computer_name = Some scenario.computer; challenge = replicate 8 0 }
+client_ntlm scenario = record {
+  client_computer_name = Some scenario.computer;
+  challenge = replicate 8 0;
+}
 
 abbrev pub server_ntlm : Scenario → NtlmConfig
 server_ntlm scenario = record { client_computer_name = None; challenge = scenario.challenge }
 
--- The client's Kerberos asks the URL that the scenario tells, or that of its realm; the server's asks nobody.
+-- The client's Kerberos asks the URL that the scenario tells, or that of its realm; the server's
+-- asks nobody.
 abbrev pub kerberos_config : Scenario → Option (List ℕ) → KerberosConfig
-kerberos_config scenario url = record { kdc_url = url; kdcs = scenario.kdc; client_computer_name = scenario.computer }
+kerberos_config scenario url = record {
+  kdc_url = url;
+  kdcs = scenario.kdc;
+  client_computer_name = scenario.computer;
+}
 
 abbrev pub client_kerberos : Scenario → KerberosConfig
 client_kerberos scenario = kerberos_config scenario scenario.client_url
@@ -70,13 +79,15 @@ client_first packages.Kerberos scenario = protocol.Kerberos (client_kerberos sce
 
 abbrev pub server_first : Package → Scenario → ProtocolConfig
 server_first packages.Ntlm scenario = protocol.Ntlm (server_ntlm scenario)
-server_first packages.Kerberos scenario = protocol.KerberosServer (server_kerberos scenario) (record { ticket = scenario.ticket })
+server_first packages.Kerberos scenario = protocol.KerberosServer (server_kerberos scenario)
+    (record { ticket = scenario.ticket })
 
 -- how each end authenticates: by NTLM alone, or by a negotiation
 abbrev pub client_mode_by : Mode → Scenario → ClientMode
 client_mode_by mode.Ntlm scenario = client.Ntlm (client_ntlm scenario)
 client_mode_by mode.Negotiate scenario =
-    client.Negotiate (negotiate_config_in scenario (client_first scenario.client_protocol scenario) scenario.client_packages)
+    client.Negotiate (negotiate_config_in scenario (client_first scenario.client_protocol scenario)
+    scenario.client_packages)
 
 abbrev pub client_mode_in : Scenario → ClientMode
 client_mode_in scenario = client_mode_by scenario.mode scenario
@@ -84,7 +95,8 @@ client_mode_in scenario = client_mode_by scenario.mode scenario
 abbrev pub server_mode_by : Mode → Scenario → ServerMode
 server_mode_by mode.Ntlm scenario = server.Ntlm (server_ntlm scenario)
 server_mode_by mode.Negotiate scenario =
-    server.Negotiate (negotiate_config_in scenario (server_first scenario.server_protocol scenario) scenario.server_packages)
+    server.Negotiate (negotiate_config_in scenario (server_first scenario.server_protocol scenario)
+    scenario.server_packages)
 
 abbrev pub server_mode_in : Scenario → ServerMode
 server_mode_in scenario = server_mode_by scenario.mode scenario
@@ -116,7 +128,12 @@ IsClientOf scenario a = a.settings ≡ client_settings_in scenario
 -- the server has what the scenario names, a table of which no call was made included
 pub record IsServerOf (scenario : Scenario) (a : ServerView PlainContext TableView) : Type 0 where
   pub settings : a.settings ≡ server_settings_in scenario
-  pub proxy : a.proxy ≡ record { entries = scenario.account; failing = scenario.proxy_fail; calls = 0; faults = 0 }
+  pub proxy : a.proxy ≡ record {
+    entries = scenario.account;
+    failing = scenario.proxy_fail;
+    calls = 0;
+    faults = 0;
+  }
 
 -- the link has the scenario's edits, and carried nothing yet
 abbrev pub link_in : Scenario → MemoryLinkView
@@ -124,4 +141,9 @@ link_in scenario = record { log = []; edits = scenario.edit; faults = 0; most = 
 
 -- the KDC knows the scenario's names and answers by its script, and was not asked yet
 abbrev pub kdc_in : Scenario → PlainKdcState
-kdc_in scenario = record { users = scenario.kdc_user; script = scenario.kdc_answer; asked = 0; faults = 0 }
+kdc_in scenario = record {
+  users = scenario.kdc_user;
+  script = scenario.kdc_answer;
+  asked = 0;
+  faults = 0;
+}

@@ -46,8 +46,9 @@ link_faults link = link.faults
 abbrev pub around : Around TableView MemoryLinkView PlainKdcState
 around = around_by table_meaning link_log told_edits link_faults told_replies kdc_asked kdc_faults
 
--- The ends that the scenario names met over the link that it names, and the client asked the KDC that it names: all that
--- `delegate` promises holds from these as they were made, and from an empty log, to what the record keeps.
+-- The ends that the scenario names met over the link that it names, and the client asked the KDC
+-- that it names: all that `delegate` promises holds from these as they were made, and from an empty
+-- log, to what the record keeps.
 pub record IsExchange (r : Record) : Type 0 where
   -- the ends as they were made
   pub client : ClientView PlainContext
@@ -63,6 +64,7 @@ pub record IsExchange (r : Record) : Type 0 where
   -- what `delegate` answered, and all that it promises of these ends
   pub answer : Result Delegation DelegateError
   pub outcome_is : r.outcome ≡ Delegated answer
-  pub delegates : Delegates plain_meaning around (parties client server (link_in r.scenario) (kdc_in r.scenario) []) r.scenario.turns
+  pub delegates : Delegates plain_meaning around
+      (parties client server (link_in r.scenario) (kdc_in r.scenario) []) r.scenario.turns
       answer
       (parties r.client.value r.server.value r.link r.kdc r.transcript.turns)

@@ -36,19 +36,22 @@ abbrev pub way_of : List ℕ → Way
 way_of bytes = record { left = Some bytes; read_faults = 0; written = Some []; write_faults = 0 }
 
 -- a relay of these two streams answers this
-pub record Relays (limit : ℕ) (client server : List ℕ) (answer : Result Relayed GateError) : Type 0 where
-  pub up : Way
-  pub down : Way
-  pub relay : IsRelay limit (way_of client) (way_of server) up down answer
+pub record Relays (limit : ℕ) (client server : List ℕ) (answer : Result Relayed GateError) : Type 0
+  where
+    pub up : Way
+    pub down : Way
+    pub relay : IsRelay limit (way_of client) (way_of server) up down answer
 
 abbrev pub relayed_status : Result Relayed GateError → ℕ
 relayed_status (Ok relayed) = 0
 relayed_status (Err error) = 1
 
--- The report of the exchange, and behind it the line of a relay of the two streams that its log delivered.
+-- The report of the exchange, and behind it the line of a relay of the two streams that its log
+-- delivered.
 pub record IsGated (kept : Record) (status : ℕ) (text : List ℕ) : Type 0 where
   pub answer : Result Relayed GateError
-  pub relays : Relays kept.scenario.turns (stream_of Client (reverse kept.link.log)) (stream_of Server (reverse kept.link.log)) answer
+  pub relays : Relays kept.scenario.turns (stream_of Client (reverse kept.link.log))
+      (stream_of Server (reverse kept.link.log)) answer
   pub line : List ℕ
   pub line_is : gate_line answer ≡ Some line
   pub status_is : status ≡ relayed_status answer
@@ -57,4 +60,5 @@ pub record IsGated (kept : Record) (status : ℕ) (text : List ℕ) : Type 0 whe
 -- an exchange of which something was relayed ends with 0 or 1, whatever came of it
 abbrev pub GateEnds : List ℕ → ℕ → Type 0
 GateEnds text status =
-    (scenario : Scenario) → scenario_of Exchange text ≡ Ok scenario → (own : ℕ) × (own ≤ 1) × IsUnlessFault own status
+    (scenario : Scenario) → scenario_of Exchange text ≡ Ok scenario → (own : ℕ) × (own ≤ 1) ×
+    IsUnlessFault own status

@@ -1,5 +1,6 @@
 -- What the word `gen` promises.
-use Rattle.std.specs.Prelude.{◌≡◌, ℕ, ◌%◌, ◌==◌, ◌⊎◌, Bool, false, List, length, sum_by, count_by, Some, IsSome, Ok, Err, if◌then◌else◌}
+use Rattle.std.specs.Prelude.{◌≡◌, ℕ, ◌%◌, ◌==◌, ◌⊎◌, Bool, false, List, length, sum_by, count_by}
+use Rattle.std.specs.Prelude.{Some, IsSome, Ok, Err, if◌then◌else◌}
 use Rattle.std.specs.List.{slice_get}
 use Rattle.sspi_names.specs.declared.identity.AuthIdentity.{AuthIdentity}
 use Rattle.sspi_delegate.specs.declared.answer.DelegateError.TheVariants.{TurnsSpent}
@@ -27,13 +28,15 @@ messages_at i = if i % 2 == 0 then 3 else 4
 
 -- the server has these credentials, after so many messages of the client
 abbrev pub HasDelegated : ℕ → AuthIdentity → RunOutcome → Type 0
-HasDelegated messages identity (Delegated (Ok delegation)) = (delegation.rounds ≡ messages) × (delegation.credentials ≡ identity)
+HasDelegated messages identity (Delegated (Ok delegation)) = (delegation.rounds ≡ messages) ×
+    (delegation.credentials ≡ identity)
 HasDelegated messages identity (Delegated (Err error)) = ⊥
 HasDelegated messages identity (Played answer) = ⊥
 HasDelegated messages identity (Early answer) = ⊥
 
--- The exchange of the scenario of a number, in which memory was not wanting. Where nothing stands in its way the server has the user's
--- credentials; where the client may make two messages alone, its turns are spent.
+-- The exchange of the scenario of a number, in which memory was not wanting. Where nothing stands
+-- in its way the server has the user's credentials; where the client may make two messages alone,
+-- its turns are spent.
 pub record IsNumbered (i : ℕ) (r : Record) : Type 0 where
   pub scenario_is : r.scenario ≡ numbered i
   pub exchange : HasExchange r
@@ -56,7 +59,8 @@ came_to kind (Early answer) = false
 abbrev pub how_many : Kind → List Record → ℕ
 how_many kind tally = count_by (λ r. came_to kind r.outcome) tally
 
--- how many exchanges there are, how many came to each kind of outcome, and how many messages their logs have together
+-- how many exchanges there are, how many came to each kind of outcome, and how many messages their
+-- logs have together
 abbrev pub summary_of : List Record → Summary
 summary_of tally = record {
   runs = length tally;

@@ -7,7 +7,8 @@ pub record KeepingView (S : Type 0) : Type 0 where
   pub source : S
   pub given : Option (List ℕ)
 
--- this piece is kept behind what was kept before, or there was no memory for it and nothing is kept from here on
+-- this piece is kept behind what was kept before, or there was no memory for it and nothing is kept
+-- from here on
 abbrev pub Keeps : Option (List ℕ) → Option (List ℕ) → List ℕ → Type 0
 Keeps None now piece = now ≡ None
 Keeps (Some given) now piece = (now ≡ Some (given ++ piece)) ⊎ (now ≡ None)

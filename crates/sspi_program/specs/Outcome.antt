@@ -1,12 +1,14 @@
 -- What the exchange of a scenario comes to where nothing stands in its way.
-use Rattle.std.specs.Prelude.{◌≡◌, ℕ, ◌<◌, ◌≤◌, [], length, Option, None, Some, Result, IfOk, nat_lt}
+use Rattle.std.specs.Prelude.{◌≡◌, ℕ, ◌<◌, ◌≤◌, [], length, Option, None, Some, Result, IfOk}
+use Rattle.std.specs.Prelude.{nat_lt}
 use Rattle.sspi_names.specs.declared.identity.AuthIdentity.{AuthIdentity}
 use Rattle.sspi_names.specs.declared.network.NetworkRequest.{NetworkRequest}
 use Rattle.sspi_mech.specs.declared.step.Reply.{Reply}
 use Rattle.sspi_mech.specs.PlainKdc.{told_by}
 use Rattle.sspi_delegate.specs.declared.answer.Delegation.{Delegation}
 use Rattle.sspi_delegate.specs.declared.answer.DelegateError.{DelegateError}
-use Rattle.sspi_completeness.specs.Matching.{MatchModes, messages_of, HasEntry, IsShort, key_limit, ComesToOkIn, IsCutShort}
+use Rattle.sspi_completeness.specs.Matching.{MatchModes, messages_of, HasEntry, IsShort, key_limit}
+use Rattle.sspi_completeness.specs.Matching.{ComesToOkIn, IsCutShort}
 use Rattle.sspi_credssp.specs.Exchange.{delegated_as}
 use Rattle.sspi_scenario.specs.declared.scenario.Mode.TheVariants.{Ntlm}
 use Rattle.sspi_scenario.specs.declared.scenario.Scenario.{Scenario}
@@ -20,11 +22,13 @@ user_identity scenario = own_identity scenario.user scenario.password
 abbrev pub kdc_told : Scenario → Option (ℕ → NetworkRequest → Reply)
 kdc_told scenario = Some (told_by scenario.kdc_user scenario.kdc_answer)
 
--- The ends that the scenario names match: both authenticate by plain NTLM alone, or both negotiate and come to a mechanism. Nothing is
--- edited and no look-up fails; the client has the password that the server's table knows, both ends have one key and one kind of
--- proof, and each takes the other's version.
+-- The ends that the scenario names match: both authenticate by plain NTLM alone, or both negotiate
+-- and come to a mechanism. Nothing is edited and no look-up fails; the client has the password that
+-- the server's table knows, both ends have one key and one kind of proof, and each takes the
+-- other's version.
 pub record IsMatching (scenario : Scenario) : Type 0 where
-  pub mode : MatchModes (kdc_told scenario) 0 scenario.target (user_identity scenario) (client_mode_in scenario) (server_mode_in scenario)
+  pub mode : MatchModes (kdc_told scenario) 0 scenario.target (user_identity scenario)
+      (client_mode_in scenario) (server_mode_in scenario)
   pub no_edit : scenario.edit ≡ []
   pub no_failure : scenario.proxy_fail ≡ []
   pub no_keytab : scenario.keytab ≡ None
@@ -39,13 +43,17 @@ pub record IsMatching (scenario : Scenario) : Type 0 where
 -- the messages that the client makes then
 abbrev pub messages_in : (scenario : Scenario) → IsMatching scenario → ℕ
 messages_in scenario matching =
-    messages_of (kdc_told scenario) 0 scenario.target (user_identity scenario) (client_mode_in scenario) (server_mode_in scenario)
+    messages_of (kdc_told scenario) 0 scenario.target (user_identity scenario)
+    (client_mode_in scenario) (server_mode_in scenario)
     matching.mode
 
--- Ok of plain NTLM alone takes three messages of the client. A scenario whose ends match comes to Ok where the client may make as many
--- messages as it takes, and else is cut short; but when out of memory.
+-- Ok of plain NTLM alone takes three messages of the client. A scenario whose ends match comes to
+-- Ok where the client may make as many messages as it takes, and else is cut short; but when out of
+-- memory.
 pub record IsOutcome (scenario : Scenario) (answer : Result Delegation DelegateError) : Type 0 where
   pub three : scenario.mode ≡ Ntlm → IfOk answer (λ delegation. 3 ≤ delegation.rounds)
   pub comes : (matching : IsMatching scenario) → messages_in scenario matching ≤ scenario.turns →
-      ComesToOkIn (messages_in scenario matching) (delegated_as scenario.delegation (user_identity scenario)) answer
-  pub short : (matching : IsMatching scenario) → scenario.turns < messages_in scenario matching → IsCutShort answer
+      ComesToOkIn (messages_in scenario matching)
+      (delegated_as scenario.delegation (user_identity scenario)) answer
+  pub short : (matching : IsMatching scenario) → scenario.turns < messages_in scenario matching →
+      IsCutShort answer

@@ -28,8 +28,8 @@ use Rattle.sspi_program.specs.Status.{IsUnlessFault}
 abbrev pub no_link : MemoryLinkView
 no_link = record { log = []; edits = []; faults = 0; most = None }
 
--- The ends that the scenario names took its deliveries, and the client asked the KDC that it names: all that `play` promises holds
--- from these as they were made to what the record keeps.
+-- The ends that the scenario names took its deliveries, and the client asked the KDC that it names:
+-- all that `play` promises holds from these as they were made to what the record keeps.
 pub record HasPlay (r : Record) : Type 0 where
   -- the ends as they were made
   pub client : ClientView PlainContext
@@ -44,16 +44,21 @@ pub record HasPlay (r : Record) : Type 0 where
   pub answer : Result Played DelegateError
   pub outcome_is : r.outcome ≡ outcomes.Played answer
   pub accounts : Accounts plain_meaning table_meaning (calls_of_kdc around) r.scenario.deliver
-      (both client server (kdc_in r.scenario) []) answer (both r.client.value r.server.value r.kdc r.transcript.turns)
+      (both client server (kdc_in r.scenario) []) answer
+      (both r.client.value r.server.value r.kdc r.transcript.turns)
   pub plays : IsPlay plain_meaning table_meaning (calls_of_kdc around) r.scenario.deliver
-      (both client server (kdc_in r.scenario) []) answer (both r.client.value r.server.value r.kdc r.transcript.turns)
-  pub agrees : AgreesIfFaithful plain_meaning (client_end r.client.value) (server_end r.server.value) r.transcript.turns
+      (both client server (kdc_in r.scenario) []) answer
+      (both r.client.value r.server.value r.kdc r.transcript.turns)
+  pub agrees : AgreesIfFaithful plain_meaning (client_end r.client.value)
+      (server_end r.server.value) r.transcript.turns
       (identity_of answer)
-  pub negotiates : NegotiatesIfFaithful 0 ntlm_meaning kerberos_meaning (client_end r.client.value) (server_end r.server.value)
+  pub negotiates : NegotiatesIfFaithful 0 ntlm_meaning kerberos_meaning (client_end r.client.value)
+      (server_end r.server.value)
       server.settings.mode r.transcript.turns
   pub kdc : KdcStays told_replies kdc_faults (kdc_in r.scenario) r.kdc
   pub proxy : ProxyStays table_meaning server.proxy r.server.value.proxy
 
 -- what is delivered refuses no play
 abbrev pub PlayEnds : List ℕ → ℕ → Type 0
-PlayEnds text status = (scenario : Scenario) → scenario_of purposes.Play text ≡ Ok scenario → IsUnlessFault 0 status
+PlayEnds text status = (scenario : Scenario) → scenario_of purposes.Play text ≡ Ok scenario →
+    IsUnlessFault 0 status

@@ -4,7 +4,8 @@ use Rattle.sspi_scenario.specs.declared.scenario.Scenario.{Scenario}
 use Rattle.sspi_program.specs.declared.command.Command.{Command}
 use Rattle.sspi_program.specs.declared.command.Command.TheVariants.{Told, Gen, Explain}
 use Rattle.sspi_program.specs.declared.command.Task.{Task}
-use Rattle.sspi_program.specs.declared.command.Task.TheVariants.{Delegate, Play, Gate, Audit, Early, Desk}
+use Rattle.sspi_program.specs.declared.command.Task.TheVariants.{Delegate, Play, Gate, Audit, Early}
+use Rattle.sspi_program.specs.declared.command.Task.TheVariants.{Desk}
 use Rattle.sspi_program.specs.declared.record.Conducted.{Conducted}
 use Rattle.sspi_program.specs.declared.record.Record.{Record}
 use Rattle.sspi_program.specs.Audit.{IsAudited}
@@ -19,10 +20,12 @@ use Rattle.sspi_program.specs.Play.{HasPlay, PlayEnds}
 use Rattle.sspi_program.specs.Said.{status_of, RecordDue, IsDue}
 use Rattle.sspi_program.specs.Status.{IsUnlessWrite}
 
--- a record is kept, if any is, of which this holds, of such a scenario, and in which no there was no memory; and nothing else is
+-- a record is kept, if any is, of which this holds, of such a scenario, and in which no there was
+-- no memory; and nothing else is
 abbrev pub KeepsRecord : (Record → Type 0) → (Scenario → Type 0) → Conducted → Type 0
 KeepsRecord P IsOf conducted =
-    IfSome conducted.kept (λ kept. P kept × IsOf kept.scenario × IsSome (status_of kept.outcome)) × HasRecordAlone conducted
+    IfSome conducted.kept (λ kept. P kept × IsOf kept.scenario × IsSome (status_of kept.outcome)) ×
+    HasRecordAlone conducted
 
 -- the same of the records of many scenarios
 abbrev pub KeepsTally : (List Record → Type 0) → Conducted → Type 0
@@ -31,7 +34,8 @@ KeepsTally P conducted = IfSome conducted.tally P × HasTallyAlone conducted
 -- the sessions of one scenario that is such
 abbrev pub KeepsSeats : ℕ → (Scenario → Type 0) → Conducted → Type 0
 KeepsSeats count IsOf conducted =
-    IfSome conducted.seats (λ seats. (scenario : Scenario) × IsOf scenario × HasSeats count scenario seats) × HasSeatsAlone conducted
+    IfSome conducted.seats (λ seats. (scenario : Scenario) × IsOf scenario ×
+    HasSeats count scenario seats) × HasSeatsAlone conducted
 
 -- what a command keeps, of a scenario that is such
 abbrev pub Keeps : Command → (Scenario → Type 0) → Conducted → Type 0
@@ -55,17 +59,20 @@ TaskDue Play conducted status text = KeptDue RecordDue conducted.kept status tex
 TaskDue Gate conducted status text = KeptDue IsGated conducted.kept status text
 TaskDue Audit conducted status text = KeptDue IsAudited conducted.kept status text
 TaskDue Early conducted status text = KeptDue IsEarlyTold conducted.kept status text
-TaskDue (Desk count) conducted status text = IsSomeAnd conducted.seats (λ seats. SeatsDue seats status text)
+TaskDue (Desk count) conducted status text =
+    IsSomeAnd conducted.seats (λ seats. SeatsDue seats status text)
 
 -- the same of a command, where the source has this left
 abbrev pub Due : Command → Option (List ℕ) → Conducted → ℕ → List ℕ → Type 0
 Due (Told task) left conducted status text = TaskDue task conducted status text
-Due (Gen count) left conducted status text = IsSomeAnd conducted.tally (λ tally. TallyDue tally status text)
+Due (Gen count) left conducted status text =
+    IsSomeAnd conducted.tally (λ tally. TallyDue tally status text)
 Due Explain left conducted status text = ExplainDue left status text
 
 -- what a command made of a scenario that is such
 abbrev pub Does : Command → Option (List ℕ) → (Scenario → Type 0) → Conducted → List ℕ → Type 0
-Does command left IsOf conducted text = Keeps command IsOf conducted × IsDue (Due command left conducted) conducted.status text
+Does command left IsOf conducted text = Keeps command IsOf conducted ×
+    IsDue (Due command left conducted) conducted.status text
 
 -- what the status is where the source tells its text
 abbrev pub EndsSo : Command → Option (List ℕ) → ℕ → Type 0

@@ -1,5 +1,6 @@
 -- What standard error is told of a run, in words.
-use Rattle.std.specs.Prelude.{ℕ, ◌==◌, nat_le, List, [], length, codes, Option, Some, None, if◌then◌else◌}
+use Rattle.std.specs.Prelude.{ℕ, ◌==◌, nat_le, List, [], length, codes, Option, Some, None}
+use Rattle.std.specs.Prelude.{if◌then◌else◌}
 use Rattle.std.specs.Str.{is_utf8}
 use Rattle.sspi_scenario.specs.Reasons as scenario
 use Rattle.sspi_program.specs.declared.command.Command.{Command}
@@ -20,7 +21,8 @@ refused_text (Some (Told task)) text = scenario.reason_text (purpose_of task) te
 refused_text (Some (Gen count)) text = []
 refused_text (Some Explain) text = unexplained_text text
 
--- why a run of this command on this text ended with this status, where neither a report nor the usage says it
+-- why a run of this command on this text ended with this status, where neither a report nor the
+-- usage says it
 abbrev pub reason_text : Option Command → List ℕ → ℕ → List ℕ
 reason_text command text status =
     if status == 2 then refused_text command text

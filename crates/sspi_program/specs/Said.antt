@@ -1,5 +1,6 @@
 -- What a run says: its exit status and its text, before they are written.
-use Rattle.std.specs.Prelude.{◌≡◌, ℕ, ◌⊎◌, List, [], ◌∷◌, ◌++◌, codes, decimal, reverse, Option, None, Some, Result, Ok, Err}
+use Rattle.std.specs.Prelude.{◌≡◌, ℕ, ◌⊎◌, List, [], ◌∷◌, ◌++◌, codes, decimal, reverse, Option}
+use Rattle.std.specs.Prelude.{None, Some, Result, Ok, Err}
 use Rattle.std.specs.Option.{option_map}
 use Rattle.sspi_delegate.specs.declared.answer.Delegation.{Delegation}
 use Rattle.sspi_delegate.specs.declared.answer.DelegateError.{DelegateError}
@@ -17,7 +18,8 @@ use Rattle.sspi_program.specs.declared.record.RunOutcome.{RunOutcome}
 use Rattle.sspi_program.specs.declared.record.RunOutcome.TheVariants as outcomes
 use Rattle.sspi_program.specs.declared.record.RunOutcome.TheVariants.{Delegated, Played}
 use Rattle.sspi_program.specs.declared.said.Said.{Said}
-use Rattle.sspi_program.specs.declared.said.Said.TheVariants.{Done, NoScenario, NoText, ReadFault, OtherWords, NoMemory}
+use Rattle.sspi_program.specs.declared.said.Said.TheVariants.{Done, NoScenario, NoText, ReadFault}
+use Rattle.sspi_program.specs.declared.said.Said.TheVariants.{OtherWords, NoMemory}
 use Rattle.sspi_program.specs.Kept.{nothing, with_status}
 
 abbrev pub with_newline : List ℕ → List ℕ
@@ -37,7 +39,8 @@ line_text line = with_newline (codes "error: scenario line " ++ decimal line)
 
 -- ---- the report of a record
 
--- 0 where the server has the credentials, 1 where the exchange was refused; none where there was no memory
+-- 0 where the server has the credentials, 1 where the exchange was refused; none where there was no
+-- memory
 abbrev pub delegated_status : Result Delegation DelegateError → Option ℕ
 delegated_status (Ok delegation) = Some 0
 delegated_status (Err errors.InsufficientMemory) = None
@@ -60,8 +63,8 @@ status_of (Played (Ok played)) = Some 0
 status_of (Played (Err error)) = None
 status_of (outcomes.Early answer) = early_status answer
 
--- The report of the whole log or of all turns, the first one first. That of an early result has two parts, which its word puts
--- together.
+-- The report of the whole log or of all turns, the first one first. That of an early result has two
+-- parts, which its word puts together.
 abbrev pub report_by : RunOutcome → Record → List ℕ
 report_by (Delegated answer) kept = report_text (reverse kept.link.log) answer
 report_by (Played (Ok played)) kept = play_text (reverse kept.transcript.turns) played

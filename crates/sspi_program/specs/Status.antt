@@ -11,7 +11,8 @@ IsUnlessFault own status = (status ≡ 3) ⊎ IsUnlessWrite own status
 
 -- this status where so many messages of the client are enough, and 1 where they are not
 abbrev pub EndsAs : ℕ → ℕ → ℕ → ℕ → Type 0
-EndsAs own messages turns status = (messages ≤ turns → IsUnlessFault own status) × (turns < messages → IsUnlessFault 1 status)
+EndsAs own messages turns status = (messages ≤ turns → IsUnlessFault own status) ×
+    (turns < messages → IsUnlessFault 1 status)
 
 -- so many messages of the client are enough, and fewer are not
 abbrev pub EndsMatched : ℕ → ℕ → ℕ → Type 0

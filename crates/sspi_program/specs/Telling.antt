@@ -1,5 +1,6 @@
 -- How a record is told, step by step.
-use Rattle.std.specs.Prelude.{◌≡◌, ℕ, true, false, List, Option, None, IsSome, Ok, ◌⊎◌, [], Result, Err, IsErr}
+use Rattle.std.specs.Prelude.{◌≡◌, ℕ, true, false, List, Option, None, IsSome, Ok, ◌⊎◌, [], Result}
+use Rattle.std.specs.Prelude.{Err, IsErr}
 use Rattle.std.specs.Global.{Vec}
 use Rattle.std.specs.Str.{is_utf8}
 use Rattle.sspi_explain.specs.Explained.{explained}
@@ -11,7 +12,8 @@ use Rattle.sspi_program.specs.declared.command.Task.{Task}
 use Rattle.sspi_program.specs.declared.record.Conducted.{Conducted}
 use Rattle.sspi_program.specs.declared.record.Record.{Record}
 use Rattle.sspi_program.specs.declared.said.Said.{Said}
-use Rattle.sspi_program.specs.declared.said.Said.TheVariants.{Done, NoScenario, NoText, ReadFault, OtherWords, NoMemory}
+use Rattle.sspi_program.specs.declared.said.Said.TheVariants.{Done, NoScenario, NoText, ReadFault}
+use Rattle.sspi_program.specs.declared.said.Said.TheVariants.{OtherWords, NoMemory}
 use Rattle.sspi_program.specs.Desk.{SeatsDue}
 use Rattle.sspi_program.specs.Generate.{TallyDue}
 use Rattle.sspi_program.specs.Kept.{nothing, seating, tallying, keeping}
@@ -20,7 +22,8 @@ use Rattle.sspi_program.specs.Seats.{PlainSeat}
 use Rattle.sspi_program.specs.Said.{status_of, RecordDue, IsDue}
 use Rattle.sspi_program.specs.Commands.{purpose_of}
 
--- what was read of the source where its text was judged: all of it, or one byte more than a text may have
+-- what was read of the source where its text was judged: all of it, or one byte more than a text
+-- may have
 abbrev pub IsJudged : ℕ → Option (List ℕ) → Option (List ℕ) → Said → Type 0
 IsJudged limit before after (Done conducted text) = IsReadWhole limit before after
 IsJudged limit before after (NoScenario line) = IsReadWhole limit before after
@@ -40,7 +43,8 @@ ReadsWell before now NoMemory = now ≡ before
 
 -- what a task makes of a scenario
 abbrev pub Conducts : Task → Scenario → Said → Type 0
-Conducts task scenario (Done conducted written) = Does (Told task) None (λ s. s ≡ scenario) conducted written.items
+Conducts task scenario (Done conducted written) =
+    Does (Told task) None (λ s. s ≡ scenario) conducted written.items
 Conducts task scenario (NoScenario line) = ⊥
 Conducts task scenario NoText = ⊥
 Conducts task scenario ReadFault = ⊥
@@ -49,7 +53,8 @@ Conducts task scenario NoMemory = Unit {0}
 
 -- what is made of so many scenarios
 abbrev pub Generates : ℕ → Said → Type 0
-Generates count (Done conducted written) = Does (Gen count) None (λ s. Unit {0}) conducted written.items
+Generates count (Done conducted written) = Does (Gen count) None (λ s. Unit {0}) conducted
+    written.items
 Generates count (NoScenario line) = ⊥
 Generates count NoText = ⊥
 Generates count ReadFault = ⊥
@@ -58,7 +63,8 @@ Generates count NoMemory = Unit {0}
 
 -- what is said where this is kept with its status, and this text is due
 abbrev pub SaysDue : (ℕ → Conducted) → (ℕ → List ℕ → Type 0) → Said → Type 0
-SaysDue kept Due (Done conducted written) = (conducted ≡ kept conducted.status) × IsDue Due conducted.status written.items
+SaysDue kept Due (Done conducted written) = (conducted ≡ kept conducted.status) ×
+    IsDue Due conducted.status written.items
 SaysDue kept Due other = ⊥
 
 -- what is said of many exchanges
@@ -71,7 +77,8 @@ SaysOfSeats seats said = SaysDue (λ status. seating status seats) (SeatsDue sea
 
 -- what is said of a record
 abbrev pub SaysOf : Record → Said → Type 0
-SaysOf kept (Done conducted text) = (conducted ≡ keeping conducted.status kept) × IsSome (status_of kept.outcome) ×
+SaysOf kept (Done conducted text) = (conducted ≡ keeping conducted.status kept) ×
+    IsSome (status_of kept.outcome) ×
     IsDue (RecordDue kept) conducted.status text.items
 SaysOf kept (NoScenario line) = ⊥
 SaysOf kept NoText = ⊥
@@ -79,10 +86,12 @@ SaysOf kept ReadFault = ⊥
 SaysOf kept OtherWords = ⊥
 SaysOf kept NoMemory = status_of kept.outcome ≡ None
 
--- the record is kept with the status and the text that are told; or, where these had no memory, with none
+-- the record is kept with the status and the text that are told; or, where these had no memory,
+-- with none
 abbrev pub IsDoneWith : {E : Type 0} → Record → Result (ℕ × Vec ℕ) E → Said → Type 0
 IsDoneWith kept told (Done conducted text) = (conducted ≡ keeping conducted.status kept) ×
-    ((told ≡ Ok (conducted.status, text)) ⊎ (IsErr told × (conducted.status ≡ 5) × (text.items ≡ [])))
+    ((told ≡ Ok (conducted.status, text)) ⊎
+    (IsErr told × (conducted.status ≡ 5) × (text.items ≡ [])))
 IsDoneWith kept told (NoScenario line) = ⊥
 IsDoneWith kept told NoText = ⊥
 IsDoneWith kept told ReadFault = ⊥
@@ -91,8 +100,10 @@ IsDoneWith kept told NoMemory = ⊥
 
 -- what is said of a record with the status and the text that are told
 abbrev pub SaysWith : {E : Type 0} → Record → Result (ℕ × Vec ℕ) E → Said → Type 0
-SaysWith kept told (Done conducted text) = (conducted ≡ keeping conducted.status kept) × IsSome (status_of kept.outcome) ×
-    ((told ≡ Ok (conducted.status, text)) ⊎ (IsErr told × (conducted.status ≡ 5) × (text.items ≡ [])))
+SaysWith kept told (Done conducted text) = (conducted ≡ keeping conducted.status kept) ×
+    IsSome (status_of kept.outcome) ×
+    ((told ≡ Ok (conducted.status, text)) ⊎
+    (IsErr told × (conducted.status ≡ 5) × (text.items ≡ [])))
 SaysWith kept told (NoScenario line) = ⊥
 SaysWith kept told NoText = ⊥
 SaysWith kept told ReadFault = ⊥
@@ -102,7 +113,8 @@ SaysWith kept told NoMemory = status_of kept.outcome ≡ None
 -- what a task makes of a text
 abbrev pub CarriesOut : Task → List ℕ → Said → Type 0
 CarriesOut task text (Done conducted written) =
-    Does (Told task) None (λ scenario. scenario_of (purpose_of task) text ≡ Ok scenario) conducted written.items
+    Does (Told task) None (λ scenario. scenario_of (purpose_of task) text ≡ Ok scenario) conducted
+    written.items
 CarriesOut task text (NoScenario line) = scenario_of (purpose_of task) text ≡ Err line
 CarriesOut task text NoText = ⊥
 CarriesOut task text ReadFault = ⊥

@@ -48,18 +48,23 @@ pub fn ended<S: Source, W: Sink>(
     // The status.
     ensures runs { IfOk words (λ words. EndsRun (command_of words.items)
         (outside (S.left source.old) (S.faults source.old) (W.written sink.old) (W.faults sink.old))
-        (outside (S.left source.new) (S.faults source.new) (W.written sink.new) (W.faults sink.new)) result) }
+        (outside (S.left source.new) (S.faults source.new) (W.written sink.new) (W.faults sink.new))
+        result) }
     ensures no_words { IfErr words (λ error. error_kind error ≢ ErrorKind.OutOfMemory → EndsRun None
         (outside (S.left source.old) (S.faults source.old) (W.written sink.old) (W.faults sink.old))
-        (outside (S.left source.new) (S.faults source.new) (W.written sink.new) (W.faults sink.new)) result) }
+        (outside (S.left source.new) (S.faults source.new) (W.written sink.new) (W.faults sink.new))
+        result) }
     ensures no_memory { IfErr words (λ error. error_kind error ≡ ErrorKind.OutOfMemory →
         (result ≡ 5) × (source.new ≡ source.old) × (sink.new ≡ sink.old)) }
     // What was read.
-    ensures unread { IfOk words (λ words. limit_in (command_of words.items) ≡ None → source.new ≡ source.old) }
+    ensures unread { IfOk words (λ words. limit_in (command_of words.items) ≡ None →
+        source.new ≡ source.old) }
     ensures unasked { IfErr words (λ error. source.new ≡ source.old) }
-    ensures taken { IfOk words (λ words. TakesAtMost (most_taken (limit_in (command_of words.items)))
+    ensures taken { IfOk words (λ words. TakesAtMost
+        (most_taken (limit_in (command_of words.items)))
         (S.left source.old) (S.left source.new)) }
-    ensures faults { (S.faults source.old ≤ S.faults source.new) × (W.faults sink.old ≤ W.faults sink.new) }
+    ensures faults { (S.faults source.old ≤ S.faults source.new) ×
+        (W.faults sink.old ≤ W.faults sink.new) }
 {
     match words {
         Ok(words) => exit_status(alloc, &words, source, sink),

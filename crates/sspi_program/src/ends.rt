@@ -43,7 +43,8 @@ pub fn ends_of(alloc: Global, scenario: &Scenario) -> Result<Ends, AllocError>
     })
 }
 
-/// What was made, and what was there before. Generic, as what follows is, since to drop a value of a type parameter is one step.
+/// What was made, and what was there before. Generic, as what follows is, since to drop a value of
+/// a type parameter is one step.
 pub fn beside<T, A: Drop>(made: Result<T, AllocError>, there: A) -> Result<(T, A), AllocError>
     ensures made { IfOk result (λ both. (made ≡ Ok both.0) × (both.1 ≡ there)) }
     ensures unmade { OnErr result (IsErr made) }

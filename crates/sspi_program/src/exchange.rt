@@ -13,7 +13,8 @@ use sspi_early::ListPolicy;
 use sspi_scenario::Scenario;
 use std::alloc::{AllocError, Global};
 
-/// The exchange of the two ends that the scenario names, over the link and with the KDC that it names.
+/// The exchange of the two ends that the scenario names, over the link and with the KDC that it
+/// names.
 pub fn exchange(alloc: Global, scenario: Scenario) -> Result<Record, AllocError>
     ensures scenario { IfOk result (λ kept. kept.scenario ≡ scenario) }
     ensures exchange { HoldsValues scenario → IfOk result HasExchange }
@@ -36,7 +37,8 @@ fn ends_and_link(alloc: Global, scenario: &Scenario) -> Result<(Ends, MemoryLink
 /// The exchange of these ends over this link.
 fn meet(alloc: Global, scenario: Scenario, ends: Ends, link: MemoryLink) -> Record
     ensures scenario { result.scenario ≡ scenario }
-    ensures exchange { AreEndsOf scenario ends → link ≡ link_in scenario → HoldsValues scenario → HasExchange result }
+    ensures exchange { AreEndsOf scenario ends → link ≡ link_in scenario → HoldsValues scenario →
+        HasExchange result }
 {
     let Ends {
         mut client,

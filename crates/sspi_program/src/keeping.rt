@@ -1,4 +1,5 @@
-//! A source that keeps what it gave, so that what is wrong with a text can be told once it was refused.
+//! A source that keeps what it gave, so that what is wrong with a text can be told once it was
+//! refused.
 ghost use Rattle.std.specs.Prelude.{◌≡◌, ◌≤◌, [], Some, IfOk, OnErr, length, take};
 ghost use Rattle.std.specs.Io.KnownBytes.{ReadConsumes};
 ghost use Rattle.std.specs.Option.{option_map};
@@ -9,8 +10,8 @@ use sspi_ber::{Source, SourceError};
 use std::alloc::Global;
 use std::marker::Model;
 
-/// A source over another one. It gives what that one gives, and keeps a copy of it as long as there is
-/// memory for that.
+/// A source over another one. It gives what that one gives, and keeps a copy of it as long as there
+/// is memory for that.
 #[derive(Drop)]
 pub struct KeepingSource<S> {
     source: S,
@@ -75,10 +76,12 @@ impl<S: Source> Source for KeepingSource<S> {
     fn read(&mut self, into: &mut [u8]) -> Result<usize, SourceError>
         // What a source promises.
         ensures bound { IfOk result (λ count. count ≤ length into.new) }
-        ensures bytes { ReadConsumes (S.left self.old.source) (S.left self.new.source) result into.new }
+        ensures bytes { ReadConsumes (S.left self.old.source) (S.left self.new.source) result
+            into.new }
         ensures cause { SourceCause (S.faults self.old.source) (S.faults self.new.source) result }
         // What is kept.
-        ensures keeps { IfOk result (λ count. Keeps self.old.given self.new.given (take count into.new)) }
+        ensures keeps { IfOk result (λ count. Keeps self.old.given self.new.given
+            (take count into.new)) }
         ensures refused { OnErr result (self.new.given ≡ self.old.given) }
     {
         let count = self.source.read(into)?;

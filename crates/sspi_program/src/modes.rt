@@ -52,7 +52,8 @@ pub fn server_mode(alloc: Global, scenario: &Scenario) -> Result<ServerMode, All
 
 /// What the client of a negotiation begins with.
 fn client_first(alloc: Global, scenario: &Scenario) -> Result<ProtocolConfig, AllocError>
-    ensures { IfOk result (λ first. first ≡ client_first scenario.now.client_protocol scenario.now) }
+    ensures { IfOk result (λ first. first ≡ client_first scenario.now.client_protocol
+        scenario.now) }
 {
     match scenario.client_protocol {
         Package::Ntlm => Ok(ProtocolConfig::Ntlm(client_ntlm(alloc, scenario)?)),
@@ -62,7 +63,8 @@ fn client_first(alloc: Global, scenario: &Scenario) -> Result<ProtocolConfig, Al
 
 /// What the server of a negotiation begins with.
 fn server_first(alloc: Global, scenario: &Scenario) -> Result<ProtocolConfig, AllocError>
-    ensures { IfOk result (λ first. first ≡ server_first scenario.now.server_protocol scenario.now) }
+    ensures { IfOk result (λ first. first ≡ server_first scenario.now.server_protocol
+        scenario.now) }
 {
     match scenario.server_protocol {
         Package::Ntlm => Ok(ProtocolConfig::Ntlm(server_ntlm(scenario))),
@@ -137,7 +139,8 @@ fn parts(
     scenario: &Scenario,
     packages: &Option<Text>,
 ) -> Result<(Option<Text>, Text, KdcTable), AllocError>
-    ensures { IfOk result (λ parts. (parts.0 ≡ packages.now) × (parts.1 ≡ scenario.now.computer) × (parts.2 ≡ scenario.now.kdc)) }
+    ensures { IfOk result (λ parts. (parts.0 ≡ packages.now) × (parts.1 ≡ scenario.now.computer) ×
+        (parts.2 ≡ scenario.now.kdc)) }
 {
     let packages = copy_text(alloc, packages)?;
     let computer = scenario.computer.clone(alloc)?;

@@ -46,8 +46,8 @@ pub fn reason_of(
 }
 
 /// Tells standard error why a run ended with this status: the usage where the words are no command,
-/// and else the reason, as a line. Nothing at 0 and 1. Where the text was not kept, at 2 nothing. What
-/// `errors` does not take is lost.
+/// and else the reason, as a line. Nothing at 0 and 1. Where the text was not kept, at 2 nothing.
+/// What `errors` does not take is lost.
 pub fn tell_reason<E: Sink>(
     alloc: Global,
     errors: &mut E,

@@ -86,7 +86,8 @@ pub type Seats = Rows<PlainSeat>;
 /// A client of a scenario and its session.
 pub type PlainSeat = Seat<Ntlm, Kerberos, TableProxy, PlainKdc>;
 
-/// What the ends of a scenario did: the scenario, all that took part as it was left, and the outcome.
+/// What the ends of a scenario did: the scenario, all that took part as it was left, and the
+/// outcome.
 #[derive(Drop)]
 pub struct Record {
     pub scenario: Scenario,

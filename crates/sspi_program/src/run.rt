@@ -21,29 +21,38 @@ pub const EXPLAIN_LIMIT: usize = 2_097_152;
 
 /// Does what the words ask for with the text of the source, and writes what comes of it.
 ///
-/// The words are `delegate`, whose ends carry their messages to each other over the link of the scenario; `play`, whose ends take the
-/// deliveries of the scenario; `gate`, which does what `delegate` does and has a relay pass what the link delivered; `audit`, which
-/// does it and has its turns and its log judged; or `early`, which does it and has the server tell whether the user may log on. Or
-/// they are `desk` and a number from 1 to `MOST_SESSIONS`: so many clients of the scenario have a session each at one desk. Or
-/// they are `gen` and a number from 1 to `MOST_SCENARIOS`: the ends of so many scenarios, which are made of their numbers, carry their
-/// messages to each other, and a summary counts what they came to. Or the word is `explain`: the text of the source is written with
-/// what its messages say in the place of their lines, as `sspi_explain::explain` tells it. The exit status is
+/// The words are `delegate`, whose ends carry their messages to each other over the link of the
+/// scenario; `play`, whose ends take the deliveries of the scenario; `gate`, which does what
+/// `delegate` does and has a relay pass what the link delivered; `audit`, which does it and has its
+/// turns and its log judged; or `early`, which does it and has the server tell whether the user may
+/// log on. Or they are `desk` and a number from 1 to `MOST_SESSIONS`: so many clients of the
+/// scenario have a session each at one desk. Or they are `gen` and a number from 1 to
+/// `MOST_SCENARIOS`: the ends of so many scenarios, which are made of their numbers, carry their
+/// messages to each other, and a summary counts what they came to. Or the word is `explain`: the
+/// text of the source is written with what its messages say in the place of their lines, as
+/// `sspi_explain::explain` tells it. The exit status is
 ///
-/// - 0 where the server has the credentials, or the deliveries were taken, and 1 where the exchange was refused: its report is
-///   written. Of `gate` it is 0 where the relay came to an end by itself, and 1 where it had to stop; of `early` 0 where the client
-///   heard that its user may log on, and else 1; of `desk` 0 where every session has its credentials, and else 1; of `gen` and
+/// - 0 where the server has the credentials, or the deliveries were taken, and 1 where the exchange
+///   was refused: its report is written. Of `gate` it is 0 where the relay came to an end by
+///   itself, and 1 where it had to stop; of `early` 0 where the client heard that its user may log
+///   on, and else 1; of `desk` 0 where every session has its credentials, and else 1; of `gen` and
 ///   `explain` always 0;
-/// - 2 where the text is no scenario for this word or has more than `TEXT_LIMIT` bytes: `error: scenario line N`, with the number of
-///   the first faulty line, from 1, or 0 where no line is to blame; and where the text that is to be explained has more than
-///   `EXPLAIN_LIMIT` bytes or is not UTF-8: `error: text`;
+/// - 2 where the text is no scenario for this word or has more than `TEXT_LIMIT` bytes: `error:
+///   scenario line N`, with the number of the first faulty line, from 1, or 0 where no line is to
+///   blame; and where the text that is to be explained has more than `EXPLAIN_LIMIT` bytes or is
+///   not UTF-8: `error: text`;
 /// - 3 where the source failed: `error: read`;
-/// - 4 where the sink failed, which hides the status that was due: a prefix of the text, never all of it;
-/// - 5 where there was no memory: nothing, or where the sink had none a prefix of the text, never all of it;
-/// - 6 where the words are others: `error: words`, and the source is not read, as it is not for `gen`.
+/// - 4 where the sink failed, which hides the status that was due: a prefix of the text, never all
+///   of it;
+/// - 5 where there was no memory: nothing, or where the sink had none a prefix of the text, never
+///   all of it;
+/// - 6 where the words are others: `error: words`, and the source is not read, as it is not for
+///   `gen`.
 ///
-/// Each line ends with LF. The source is read to its end, or to the first byte past the limit and no further. No failed call hides
-/// behind another answer: the sink's count of faults is as it was at every status but 4, and the source's at 0, 1, 2 and 6. What the
-/// ends did is kept where there were some, at status 4 too; at 5 it may be.
+/// Each line ends with LF. The source is read to its end, or to the first byte past the limit and
+/// no further. No failed call hides behind another answer: the sink's count of faults is as it was
+/// at every status but 4, and the source's at 0, 1, 2 and 6. What the ends did is kept where there
+/// were some, at status 4 too; at 5 it may be.
 pub fn run<S: Source, W: Sink>(
     alloc: Global,
     words: &[String],
@@ -52,17 +61,20 @@ pub fn run<S: Source, W: Sink>(
 ) -> Conducted
     ensures runs { IsRun (command_of words.now)
         (outside (S.left source.old) (S.faults source.old) (W.written sink.old) (W.faults sink.old))
-        (outside (S.left source.new) (S.faults source.new) (W.written sink.new) (W.faults sink.new)) result }
+        (outside (S.left source.new) (S.faults source.new) (W.written sink.new) (W.faults sink.new))
+        result }
     ensures unread { limit_in (command_of words.now) ≡ None → source.new ≡ source.old }
-    ensures taken { TakesAtMost (most_taken (limit_in (command_of words.now))) (S.left source.old) (S.left source.new) }
-    ensures faults { (S.faults source.old ≤ S.faults source.new) × (W.faults sink.old ≤ W.faults sink.new) }
+    ensures taken { TakesAtMost (most_taken (limit_in (command_of words.now))) (S.left source.old)
+        (S.left source.new) }
+    ensures faults { (S.faults source.old ≤ S.faults source.new) ×
+        (W.faults sink.old ≤ W.faults sink.new) }
 {
     let said = conduct(alloc, words, source);
     tell(alloc, sink, said)
 }
 
-/// The same, of which nothing is kept: its exit status. The value that `run` answers is large, and costs a caller who drops it the
-/// proof of that.
+/// The same, of which nothing is kept: its exit status. The value that `run` answers is large, and
+/// costs a caller who drops it the proof of that.
 pub fn exit_status<S: Source, W: Sink>(
     alloc: Global,
     words: &[String],
@@ -71,10 +83,13 @@ pub fn exit_status<S: Source, W: Sink>(
 ) -> u8
     ensures runs { EndsRun (command_of words.now)
         (outside (S.left source.old) (S.faults source.old) (W.written sink.old) (W.faults sink.old))
-        (outside (S.left source.new) (S.faults source.new) (W.written sink.new) (W.faults sink.new)) result }
+        (outside (S.left source.new) (S.faults source.new) (W.written sink.new) (W.faults sink.new))
+        result }
     ensures unread { limit_in (command_of words.now) ≡ None → source.new ≡ source.old }
-    ensures taken { TakesAtMost (most_taken (limit_in (command_of words.now))) (S.left source.old) (S.left source.new) }
-    ensures faults { (S.faults source.old ≤ S.faults source.new) × (W.faults sink.old ≤ W.faults sink.new) }
+    ensures taken { TakesAtMost (most_taken (limit_in (command_of words.now))) (S.left source.old)
+        (S.left source.new) }
+    ensures faults { (S.faults source.old ≤ S.faults source.new) ×
+        (W.faults sink.old ≤ W.faults sink.new) }
 {
     let conducted = run(alloc, words, source, sink);
     status_of(conducted)
@@ -103,12 +118,14 @@ fn status_without<R: Drop, T: Drop, S: Drop>(status: u8, _kept: R, _tally: T, _s
 /// What the words and the text of the source come to.
 fn conduct<S: Source>(alloc: Global, words: &[String], source: &mut S) -> Said
     // What comes of it.
-    ensures comes { Comes (command_of words.now) (S.left source.old) (S.faults source.old) (S.faults source.new) result }
+    ensures comes { Comes (command_of words.now) (S.left source.old) (S.faults source.old)
+        (S.faults source.new) result }
     ensures unread { limit_in (command_of words.now) ≡ None → source.new ≡ source.old }
     ensures judged { IfSome (limit_in (command_of words.now))
         (λ limit. IsJudged limit (S.left source.old) (S.left source.new) result) }
     // What was read for it.
-    ensures taken { TakesAtMost (most_taken (limit_in (command_of words.now))) (S.left source.old) (S.left source.new) }
+    ensures taken { TakesAtMost (most_taken (limit_in (command_of words.now))) (S.left source.old)
+        (S.left source.new) }
     ensures faults { S.faults source.old ≤ S.faults source.new }
     ensures calm { ReadsWell (S.faults source.old) (S.faults source.new) result }
 {
@@ -123,7 +140,8 @@ fn conduct<S: Source>(alloc: Global, words: &[String], source: &mut S) -> Said
 /// What a task makes of the text of the source.
 #[tactic(auto, using(crate::proofs::TooLong::too_long))]
 fn conduct_told<S: Source>(alloc: Global, task: Task, source: &mut S) -> Said
-    ensures comes { Comes (Some (Command.Told task)) (S.left source.old) (S.faults source.old) (S.faults source.new) result }
+    ensures comes { Comes (Some (Command.Told task)) (S.left source.old) (S.faults source.old)
+        (S.faults source.new) result }
     ensures judged { IsJudged text_limit (S.left source.old) (S.left source.new) result }
     ensures taken { TakesAtMost (text_limit + 1) (S.left source.old) (S.left source.new) }
     ensures faults { S.faults source.old ≤ S.faults source.new }
@@ -139,7 +157,8 @@ fn conduct_told<S: Source>(alloc: Global, task: Task, source: &mut S) -> Said
 
 /// What the messages in the text of the source say.
 fn conduct_explain<S: Source>(alloc: Global, source: &mut S) -> Said
-    ensures comes { Comes (Some Command.Explain) (S.left source.old) (S.faults source.old) (S.faults source.new) result }
+    ensures comes { Comes (Some Command.Explain) (S.left source.old) (S.faults source.old)
+        (S.faults source.new) result }
     ensures judged { IsJudged explain_limit (S.left source.old) (S.left source.new) result }
     ensures taken { TakesAtMost (explain_limit + 1) (S.left source.old) (S.left source.new) }
     ensures faults { S.faults source.old ≤ S.faults source.new }
@@ -167,7 +186,8 @@ fn carry_out(alloc: Global, task: Task, text: &[u8]) -> Said
 /// Writes what is said.
 fn tell<W: Sink>(alloc: Global, sink: &mut W, said: Said) -> Conducted
     ensures kept { result ≡ conducted_as result.status said }
-    ensures written { Written (said_status said) (said_text said) (W.written sink.old) (W.written sink.new)
+    ensures written { Written (said_status said) (said_text said) (W.written sink.old)
+        (W.written sink.new)
         (W.faults sink.old) (W.faults sink.new) result.status }
     ensures clean { (result.status ≡ 4 → ⊥) → W.faults sink.new ≡ W.faults sink.old }
     ensures faults { W.faults sink.old ≤ W.faults sink.new }
@@ -193,7 +213,8 @@ fn tell<W: Sink>(alloc: Global, sink: &mut W, said: Said) -> Conducted
 /// Writes the text that is due for what is kept.
 fn tell_done<W: Sink>(sink: &mut W, conducted: Conducted, text: &[u8]) -> Conducted
     ensures kept { result ≡ with_status result.status conducted }
-    ensures written { Written conducted.status text.now (W.written sink.old) (W.written sink.new) (W.faults sink.old) (W.faults sink.new)
+    ensures written { Written conducted.status text.now (W.written sink.old) (W.written sink.new)
+        (W.faults sink.old) (W.faults sink.new)
         result.status }
     ensures clean { (result.status ≡ 4 → ⊥) → W.faults sink.new ≡ W.faults sink.old }
     ensures faults { W.faults sink.old ≤ W.faults sink.new }
@@ -205,7 +226,8 @@ fn tell_done<W: Sink>(sink: &mut W, conducted: Conducted, text: &[u8]) -> Conduc
 
 /// Names a faulty line.
 fn tell_line<W: Sink>(alloc: Global, sink: &mut W, line: usize) -> u8
-    ensures written { Written 2 (line_text line) (W.written sink.old) (W.written sink.new) (W.faults sink.old) (W.faults sink.new) result }
+    ensures written { Written 2 (line_text line) (W.written sink.old) (W.written sink.new)
+        (W.faults sink.old) (W.faults sink.new) result }
     ensures clean { (result ≡ 4 → ⊥) → W.faults sink.new ≡ W.faults sink.old }
     ensures faults { W.faults sink.old ≤ W.faults sink.new }
 {
@@ -223,7 +245,8 @@ fn line_text(alloc: Global, line: usize) -> Result<String, AllocError>
 
 /// Writes a text. The status is the text's own, where all of it was written.
 fn write_text<W: Sink>(sink: &mut W, text: &[u8], own: u8) -> u8
-    ensures written { Written own text.now (W.written sink.old) (W.written sink.new) (W.faults sink.old) (W.faults sink.new) result }
+    ensures written { Written own text.now (W.written sink.old) (W.written sink.new)
+        (W.faults sink.old) (W.faults sink.new) result }
     ensures clean { (result ≡ 4 → ⊥) → W.faults sink.new ≡ W.faults sink.old }
     ensures faults { W.faults sink.old ≤ W.faults sink.new }
 {

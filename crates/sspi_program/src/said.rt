@@ -1,7 +1,8 @@
 //! What a run comes to, before it is written.
 
 ghost use Rattle.std.specs.Prelude.{◌≡◌, ◌++◌, IfOk};
-ghost use Rattle.sspi_program.specs.Said.{delegated_status, early_status, heard_status, report_of, status_of};
+ghost use Rattle.sspi_program.specs.Said.{delegated_status, early_status, heard_status, report_of};
+ghost use Rattle.sspi_program.specs.Said.{status_of};
 ghost use Rattle.sspi_program.specs.Telling.{IsDoneWith, SaysOf, SaysWith};
 
 use crate::record::{Conducted, Record, RunOutcome};
@@ -38,8 +39,8 @@ pub fn said_of(alloc: Global, made: Record) -> Said
     }
 }
 
-/// What is said of a record with this status and this text, where there was memory for them. A record in which there was no memory
-/// is dropped.
+/// What is said of a record with this status and this text, where there was memory for them. A
+/// record in which there was no memory is dropped.
 pub fn said_with(alloc: Global, made: Record, told: Result<(u8, Vec<u8>), AllocError>) -> Said
     ensures { SaysWith made told result }
 {
@@ -58,7 +59,8 @@ fn done_with(alloc: Global, made: Record, told: Result<(u8, Vec<u8>), AllocError
     }
 }
 
-/// What was made is dropped. Generic, since of a type parameter that is one step, and of a record one for each type in it.
+/// What was made is dropped. Generic, since of a type parameter that is one step, and of a record
+/// one for each type in it.
 pub fn no_memory<R: Drop, T: Drop>(_made: R, _told: T) -> Said
     ensures { result ≡ Said.NoMemory }
 {

@@ -3,8 +3,8 @@
 /// What the words ask for was done; in an exchange the server has the credentials.
 pub const DONE: u8 = 0;
 
-/// The exchange was refused; of `gate` the relay had to stop, of `early` the client did not hear success, of `desk` a session has no
-/// credentials.
+/// The exchange was refused; of `gate` the relay had to stop, of `early` the client did not hear
+/// success, of `desk` a session has no credentials.
 pub const REFUSED: u8 = 1;
 
 /// The text of the source is no scenario, cannot be explained, or is too long.

@@ -1,6 +1,7 @@
 //! Runs of the program over sources and sinks in memory.
 //!
-//! Cases stand in tables, a line each, and one helper runs them: a value that is alive over a `?` is what a test costs most.
+//! Cases stand in tables, a line each, and one helper runs them: a value that is alive over a `?`
+//! is what a test costs most.
 
 mod edges;
 mod explained;
@@ -79,8 +80,8 @@ fn has_parts(written: &[u8], lines: &str, holds: &str, last: &str) -> bool {
     }
 }
 
-/// The output of these words on a scenario is as a case says: the exit status, a space and the number of its lines, a text that it
-/// holds and one at its end, a `|` behind each but the last.
+/// The output of these words on a scenario is as a case says: the exit status, a space and the
+/// number of its lines, a text that it holds and one at its end, a `|` behind each but the last.
 pub fn reports(rt: &impl Abort, alloc: Global, words: &str, scenario: &str, case: &str) {
     let (counts, texts) = parted(case);
     let (holds, last) = parted(texts);
@@ -111,8 +112,8 @@ pub fn reports_long(
     }
 }
 
-/// The same of a line of a table, in which `;` stands for an LF: the counts, what stands in the scenario behind these first lines,
-/// and the two texts.
+/// The same of a line of a table, in which `;` stands for an LF: the counts, what stands in the
+/// scenario behind these first lines, and the two texts.
 fn shows(rt: &impl Abort, alloc: Global, words: &str, front: &str, line: &str) {
     let (counts, rest) = parted(line);
     let (more, texts) = parted(rest);

@@ -3,7 +3,8 @@ use Rattle.std.specs.Prelude.{ℕ, List, ◌++◌, Option, None, Some, Result, O
 use Rattle.sspi_delegate.specs.declared.carried.Carried.{Carried}
 use Rattle.sspi_early.specs.declared.answer.Early.{Early}
 use Rattle.sspi_early.specs.declared.answer.EarlyError.{EarlyError}
-use Rattle.sspi_early.specs.declared.answer.EarlyError.TheVariants.{Delegate, Policy, LinkFault, Read, InsufficientMemory}
+use Rattle.sspi_early.specs.declared.answer.EarlyError.TheVariants.{Delegate, Policy, LinkFault}
+use Rattle.sspi_early.specs.declared.answer.EarlyError.TheVariants.{Read, InsufficientMemory}
 use Rattle.sspi_tsreq.specs.declared.early.EarlyUserAuthResult.{EarlyUserAuthResult}
 use Rattle.sspi_tsreq.specs.declared.early.EarlyUserAuthResult.TheVariants.{Success, AccessDenied}
 use Rattle.sspi_report.specs.Entries.{line, log_text}
@@ -16,7 +17,8 @@ result_name AccessDenied = codes "denied"
 
 -- what the server told, and what the client heard
 abbrev pub heard_line : EarlyUserAuthResult → EarlyUserAuthResult → List ℕ
-heard_line told heard = line (codes "early told=" ++ result_name told ++ codes " heard=" ++ result_name heard)
+heard_line told heard = line (codes "early told=" ++ result_name told ++ codes " heard=" ++
+    result_name heard)
 
 -- none where the delegation came to no end, where the policy failed, and where there was no memory
 abbrev pub early_line : Result Early EarlyError → Option (List ℕ)
@@ -27,7 +29,7 @@ early_line (Err Policy) = None
 early_line (Err (Delegate error)) = None
 early_line (Err InsufficientMemory) = None
 
--- the lines of the entries that came behind the delegation, the first entry first, and then that of the result; nothing where that
--- has none
+-- the lines of the entries that came behind the delegation, the first entry first, and then that of
+-- the result; nothing where that has none
 abbrev pub early_text : List Carried → Result Early EarlyError → List ℕ
 early_text entries outcome = closed_by (log_text entries) (early_line outcome)

@@ -19,11 +19,13 @@ mark Server = codes "< "
 -- the line of what was delivered, where that is something, and not what was sent
 abbrev pub delivered_text : List ℕ → List ℕ → List ℕ
 delivered_text sent [] = []
-delivered_text sent (b ∷ bytes) = if bytes_eq (b ∷ bytes) sent then [] else line (codes "! " ++ encode_lower (b ∷ bytes))
+delivered_text sent (b ∷ bytes) = if bytes_eq (b ∷ bytes) sent then []
+    else line (codes "! " ++ encode_lower (b ∷ bytes))
 
 -- the lines of an entry, with bytes as two hex digits each
 abbrev pub entry_text : Carried → List ℕ
-entry_text entry = line (mark entry.from ++ encode_lower entry.sent) ++ delivered_text entry.sent entry.delivered
+entry_text entry = line (mark entry.from ++ encode_lower entry.sent) ++
+    delivered_text entry.sent entry.delivered
 
 -- the lines of a log, the first entry first
 abbrev pub log_text : List Carried → List ℕ

@@ -18,7 +18,8 @@ close_text (Refused code) = codes "refused " ++ hex_text code.0
 
 -- none where a stream failed or there was no memory
 abbrev pub stop_text : GateFault → Option (List ℕ)
-stop_text (faults.Bad end kind) = Some (codes "bad " ++ end_name end ++ codes " " ++ fault_name kind)
+stop_text (faults.Bad end kind) = Some (codes "bad " ++ end_name end ++ codes " " ++
+    fault_name kind)
 stop_text (faults.Version end) = Some (codes "version " ++ end_name end)
 stop_text (faults.ReadFault end) = None
 stop_text (faults.WriteFault end) = None

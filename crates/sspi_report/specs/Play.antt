@@ -17,7 +17,8 @@ use Rattle.sspi_report.specs.Names.{fault_name}
 
 -- the line of a message behind the mark of its end; none where it is too long to be written
 abbrev pub message_text : List ℕ → TsRequest → List ℕ
-message_text mark message = if fits message then line (mark ++ encode_lower (spelled message)) else []
+message_text mark message = if fits message then line (mark ++ encode_lower (spelled message))
+    else []
 
 abbrev pub text_of : List ℕ → Option TsRequest → List ℕ
 text_of mark None = []

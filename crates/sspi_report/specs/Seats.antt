@@ -17,13 +17,15 @@ seat_text (seats.Write end) = write_text end
 seat_text seats.TurnsSpent = codes "turns"
 
 abbrev pub seat_line : ℕ → SeatOutcome → List ℕ
-seat_line session outcome = codes "session " ++ decimal session ++ codes " " ++ line (seat_text outcome)
+seat_line session outcome = codes "session " ++ decimal session ++ codes " " ++
+    line (seat_text outcome)
 
 module _ {N K P D : Type 0} where
   -- the lines of seats, the first of which has this number
   abbrev pub lines_from : ℕ → List (Seat N K P D) → List ℕ
   lines_from session [] = []
-  lines_from session (seat ∷ seats) = seat_line session seat.outcome ++ lines_from (session + 1) seats
+  lines_from session (seat ∷ seats) = seat_line session seat.outcome ++
+      lines_from (session + 1) seats
 
   abbrev pub seats_text : List (Seat N K P D) → List ℕ
   seats_text seats = lines_from 0 seats

@@ -9,11 +9,11 @@ use sspi_delegate::Carried;
 use sspi_early::{Early, EarlyError, EarlyUserAuthResult};
 use std::alloc::{AllocError, Global};
 
-/// What stands behind the report of a delegation, in UTF-8: the lines of the entries that came behind it, the first entry first, and
-/// the line of the early result.
+/// What stands behind the report of a delegation, in UTF-8: the lines of the entries that came
+/// behind it, the first entry first, and the line of the early result.
 ///
-/// Each line ends with LF. There is nothing where the delegation came to no end, where the policy failed or where there was no memory.
-/// Fails only when out of memory.
+/// Each line ends with LF. There is nothing where the delegation came to no end, where the policy
+/// failed or where there was no memory. Fails only when out of memory.
 pub fn early_report(
     alloc: Global,
     entries: &[Carried],
@@ -36,7 +36,8 @@ fn early_line(
     alloc: Global,
     outcome: &Result<Early, EarlyError>,
 ) -> Result<Option<String>, AllocError>
-    ensures { IfOk result (λ told. option_map (λ text. string_bytes text) told ≡ early_line outcome.now) }
+    ensures { IfOk result (λ told. option_map (λ text. string_bytes text) told ≡ early_line
+        outcome.now) }
 {
     let text = match outcome {
         Ok(early) => heard_line(alloc, early.told, early.heard)?,

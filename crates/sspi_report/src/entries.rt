@@ -41,7 +41,8 @@ pub(crate) fn push_line(
     mark: &str,
     bytes: &[u8],
 ) -> Result<(), AllocError>
-    ensures { OnOk result (string_bytes text.new ≡ string_bytes text.old ++ line (mark.now ++ encode_lower bytes.now)) }
+    ensures { OnOk result (string_bytes text.new ≡ string_bytes text.old ++
+        line (mark.now ++ encode_lower bytes.now)) }
 {
     let digits = hex::encode(alloc, bytes)?;
     text.push_str(mark)?;
@@ -49,7 +50,8 @@ pub(crate) fn push_line(
     text.push('\n')
 }
 
-/// How many bytes the lines of a log take where each message was delivered as it was sent: a text of that room is not moved.
+/// How many bytes the lines of a log take where each message was delivered as it was sent: a text
+/// of that room is not moved.
 pub(crate) fn room_of(log: &[Carried]) -> usize {
     let mut room = 0usize;
     for entry in log {

@@ -8,7 +8,8 @@ ghost use Rattle.sspi_report.specs.Entries.{entry_text, line, mark};
 /// The lines of an entry tell which end sent it, and what, whatever follows.
 #[tactic(auto, using(crate::proofs::Telling::same_entry))]
 pub fn an_entry_tells_what_was_sent()
-    ensures { (first second : Carried) (more more2 : List ℕ) → IsBytes first.sent → IsBytes second.sent
+    ensures { (first second : Carried) (more more2 : List ℕ) → IsBytes first.sent →
+        IsBytes second.sent
         → entry_text first ++ more ≡ entry_text second ++ more2
         → (first.from ≡ second.from) × (first.sent ≡ second.sent) }
 {}

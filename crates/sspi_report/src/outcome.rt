@@ -1,7 +1,8 @@
 //! The line of an exchange's outcome.
 
 ghost use Rattle.std.specs.Prelude.{◌≡◌, ◌++◌, string_bytes, option_map, codes, IfOk};
-ghost use Rattle.sspi_report.specs.Outcome.{delegated_text, error_line, outcome_line, read_text, refusal_text, write_text};
+ghost use Rattle.sspi_report.specs.Outcome.{delegated_text, error_line, outcome_line, read_text};
+ghost use Rattle.sspi_report.specs.Outcome.{refusal_text, write_text};
 ghost use Rattle.sspi_report.specs.Entries.{line};
 ghost use Rattle.sspi_report.specs.Names.{end_name};
 
@@ -17,7 +18,8 @@ pub(crate) fn outcome_line(
     alloc: Global,
     outcome: &Result<Delegation, DelegateError>,
 ) -> Result<Option<String>, AllocError>
-    ensures { IfOk result (λ told. option_map (λ text. string_bytes text) told ≡ outcome_line outcome.now) }
+    ensures { IfOk result (λ told. option_map (λ text. string_bytes text) told ≡ outcome_line
+        outcome.now) }
 {
     match outcome {
         Ok(delegation) => {
@@ -34,7 +36,8 @@ pub(crate) fn delegated_line(
     rounds: u32,
     credentials: &AuthIdentity,
 ) -> Result<String, AllocError>
-    ensures { IfOk result (λ text. string_bytes text ≡ line (delegated_text rounds credentials.now)) }
+    ensures { IfOk result (λ text. string_bytes text ≡ line
+        (delegated_text rounds credentials.now)) }
 {
     let user = credentials.username.inner();
     let password = credentials.password.value.as_str();
@@ -59,7 +62,8 @@ fn error_line(alloc: Global, error: DelegateError) -> Result<Option<String>, All
 
 /// The line of an end's refusal.
 pub(crate) fn refusal_line(alloc: Global, end: End, error: Error) -> Result<String, AllocError>
-    ensures { IfOk result (λ text. string_bytes text ≡ line (end_name end ++ codes " " ++ refusal_text error)) }
+    ensures { IfOk result (λ text. string_bytes text ≡ line (end_name end ++ codes " " ++
+        refusal_text error)) }
 {
     let end = end_name(end);
     let kind = error.error_type.name();

@@ -2,7 +2,8 @@
 
 ghost use Rattle.std.specs.Prelude.{◌≡◌, ◌++◌, codes, string_bytes, IfOk, OnOk};
 ghost use Rattle.sspi_report.specs.Entries.{line};
-ghost use Rattle.sspi_report.specs.Play.{ending_text, identity_text, message_text, play_text, standing_line, turn_text};
+ghost use Rattle.sspi_report.specs.Play.{ending_text, identity_text, message_text, play_text};
+ghost use Rattle.sspi_report.specs.Play.{standing_line, turn_text};
 
 use crate::entries::{mark, push_line};
 use crate::names::fault_name;
@@ -13,8 +14,8 @@ use sspi_play::{Ending, Played};
 use sspi_tsreq::TsRequest;
 use std::alloc::{AllocError, Global};
 
-/// The report of a play, in UTF-8: a line for each message that a turn made and that is not too long to be written, the first
-/// turn first, and then one line of how the ends stand.
+/// The report of a play, in UTF-8: a line for each message that a turn made and that is not too
+/// long to be written, the first turn first, and then one line of how the ends stand.
 ///
 /// Each line ends with LF. Fails only when out of memory.
 #[tactic(auto, unfolding(crate::specs::Play::play_text))]
@@ -46,7 +47,8 @@ fn push_message(
     mark: &str,
     message: &TsRequest,
 ) -> Result<(), AllocError>
-    ensures { OnOk result (string_bytes text.new ≡ string_bytes text.old ++ message_text mark.now message.now) }
+    ensures { OnOk result (string_bytes text.new ≡ string_bytes text.old ++
+        message_text mark.now message.now) }
 {
     match message.encode(alloc) {
         Ok(octets) => push_line(alloc, text, mark, &octets),
@@ -57,7 +59,8 @@ fn push_message(
 
 /// Appends the line of how the ends stand.
 fn push_standing(text: &mut String, played: &Played) -> Result<(), AllocError>
-    ensures { OnOk result (string_bytes text.new ≡ string_bytes text.old ++ standing_line played.now) }
+    ensures { OnOk result (string_bytes text.new ≡ string_bytes text.old ++
+        standing_line played.now) }
 {
     push_end(text, "play client=", played.client)?;
     push_end(text, " server=", played.server)?;
@@ -66,14 +69,16 @@ fn push_standing(text: &mut String, played: &Played) -> Result<(), AllocError>
 
 /// Appends how an end stands, behind this text.
 fn push_end(text: &mut String, name: &str, ending: Ending) -> Result<(), AllocError>
-    ensures { OnOk result (string_bytes text.new ≡ string_bytes text.old ++ (name.now ++ ending_text ending)) }
+    ensures { OnOk result (string_bytes text.new ≡ string_bytes text.old ++
+        (name.now ++ ending_text ending)) }
 {
     text.push_str(name)?;
     push_ending(text, ending)
 }
 
 fn push_identity(text: &mut String, identity: &Option<AuthIdentity>) -> Result<(), AllocError>
-    ensures { OnOk result (string_bytes text.new ≡ string_bytes text.old ++ line (codes " identity=" ++ identity_text identity.now)) }
+    ensures { OnOk result (string_bytes text.new ≡ string_bytes text.old ++
+        line (codes " identity=" ++ identity_text identity.now)) }
 {
     text.push_str(" identity=")?;
     text.push_str(identity_name(identity))?;

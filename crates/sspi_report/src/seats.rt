@@ -9,8 +9,9 @@ use sspi_delegate::End;
 use sspi_seats::{Seat, SeatOutcome};
 use std::alloc::{AllocError, Global};
 
-/// The report of a table in UTF-8: for each seat, in their order, `session`, its number from 0, and what it came to, as the last line of a
-/// delegation's report says it. Each line ends with LF. Fails only when out of memory.
+/// The report of a table in UTF-8: for each seat, in their order, `session`, its number from 0, and
+/// what it came to, as the last line of a delegation's report says it. Each line ends with LF.
+/// Fails only when out of memory.
 pub fn seats_report<N, K, C, D>(
     alloc: Global,
     seats: &[Seat<N, K, C, D>],
@@ -31,7 +32,8 @@ fn push_seat(
     session: usize,
     outcome: &SeatOutcome,
 ) -> Result<(), AllocError>
-    ensures { OnOk result (string_bytes text.new ≡ string_bytes text.old ++ seat_line session outcome.now) }
+    ensures { OnOk result (string_bytes text.new ≡ string_bytes text.old ++
+        seat_line session outcome.now) }
 {
     let line = seat_line(alloc, session, outcome)?;
     text.push_str(&line)

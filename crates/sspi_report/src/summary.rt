@@ -24,7 +24,8 @@ pub enum Kind {
     Turns,
 }
 
-/// How many exchanges there were, how many of them came to each kind of outcome, and how many messages their logs have together.
+/// How many exchanges there were, how many of them came to each kind of outcome, and how many
+/// messages their logs have together.
 #[derive(Clone, Copy, Debug)]
 pub struct Summary {
     pub runs: usize,
@@ -82,7 +83,8 @@ impl Kind {
 // Room for nine lines with numbers of a few digits.
 const USUAL_LENGTH: usize = 128;
 
-/// The summary as a text of nine lines, each a name, a space and a number. Each ends with LF. Fails only when out of memory.
+/// The summary as a text of nine lines, each a name, a space and a number. Each ends with LF. Fails
+/// only when out of memory.
 pub fn summary_text(alloc: Global, summary: Summary) -> Result<String, AllocError>
     ensures { IfOk result (λ text. string_bytes text ≡ summary_text summary) }
 {
@@ -109,7 +111,8 @@ fn push_counts(text: &mut String, summary: Summary) -> Result<(), AllocError>
 
 /// Appends the line of a count.
 fn push_count(text: &mut String, name: &str, count: u128) -> Result<(), AllocError>
-    ensures { OnOk result (string_bytes text.new ≡ string_bytes text.old ++ count_line name.now count) }
+    ensures { OnOk result (string_bytes text.new ≡ string_bytes text.old ++
+        count_line name.now count) }
 {
     write!(text, "{name} {count}\n")
 }

@@ -1,5 +1,7 @@
--- What the private functions of the parser promise: the draft of the lines so far, and what one more line makes of it.
-use Rattle.std.specs.Prelude.{◌≡◌, ℕ, List, [], ◌∷◌, ◌++◌, Option, Some, None, Result, Ok, Err, false, fold, if◌then◌else◌}
+-- What the private functions of the parser promise: the draft of the lines so far, and what one
+-- more line makes of it.
+use Rattle.std.specs.Prelude.{◌≡◌, ℕ, List, [], ◌∷◌, ◌++◌, Option, Some, None, Result, Ok, Err}
+use Rattle.std.specs.Prelude.{false, fold, if◌then◌else◌}
 use Rattle.sspi_scenario.specs.declared.draft.Draft.{Draft}
 use Rattle.sspi_scenario.specs.declared.error.LineError.{LineError}
 use Rattle.sspi_scenario.specs.declared.error.LineError.TheVariants as line
@@ -30,16 +32,19 @@ with_told draft (Some told) =
 
 -- the draft after one more line, or none where the line is at fault
 unfoldable pub with_line : Purpose → Draft → List ℕ → Option Draft
-with_line purpose draft line = if is_skipped line then Some draft else with_told draft (line_told purpose line)
+with_line purpose draft line = if is_skipped line then Some draft
+    else with_told draft (line_told purpose line)
 
--- the line asks for memory: it is not skipped, has a key of the purpose, and that key stands against none before it
+-- the line asks for memory: it is not skipped, has a key of the purpose, and that key stands
+-- against none before it
 pub record AsksMemory (purpose : Purpose) (draft : Draft) (line : List ℕ) : Type 0 where
   pub key : Key
   pub told : is_skipped line ≡ false
   pub named : key_for purpose (before_space line) ≡ Some key
   pub free : is_excluded draft.seen key ≡ false
 
--- the line is taken exactly so; a fault exactly where it is at fault; there is no memory only where it asks for some
+-- the line is taken exactly so; a fault exactly where it is at fault; there is no memory only where
+-- it asks for some
 abbrev pub Takes : Purpose → Draft → Draft → List ℕ → Result (Unit {0}) LineError → Type 0
 Takes purpose old new text (Ok done) = with_line purpose old text ≡ Some new
 Takes purpose old new text (Err line.Fault) = with_line purpose old text ≡ None
@@ -57,6 +62,8 @@ Completes (Err error.InsufficientMemory) found = Unit {0}
 
 -- the draft of all lines, or the first faulty line
 abbrev pub Gathers : Purpose → List ℕ → Result Draft ScenarioError → Type 0
-Gathers purpose text (Ok draft) = scenario_of_lines purpose (lines_from purpose 1 (lines_of text)) ≡ decided None (draft_completed purpose draft)
-Gathers purpose text (Err (error.Line number)) = scenario_of_lines purpose (lines_from purpose 1 (lines_of text)) ≡ Err number
+Gathers purpose text (Ok draft) = scenario_of_lines purpose
+    (lines_from purpose 1 (lines_of text)) ≡ decided None (draft_completed purpose draft)
+Gathers purpose text (Err (error.Line number)) =
+    scenario_of_lines purpose (lines_from purpose 1 (lines_of text)) ≡ Err number
 Gathers purpose text (Err error.InsufficientMemory) = Unit {0}

@@ -15,7 +15,8 @@ pub record Told : Type 0 where
   pub key : Key
   pub change : Values → Values
 
--- a key up to the first space and a value after it, or none where the key is unknown or is not for this, or the value is bad
+-- a key up to the first space and a value after it, or none where the key is unknown or is not for
+-- this, or the value is bad
 unfoldable pub line_told : Purpose → List ℕ → Option Told
 line_told purpose line = do
   k ← key_for purpose (before_space line)
@@ -32,7 +33,8 @@ judged number (Some told) = telling number told
 judged number None = broken number
 
 abbrev pub numbered : Purpose → ℕ × List ℕ → Option Line
-numbered purpose line = if is_skipped line.1 then None else Some (judged line.0 (line_told purpose line.1))
+numbered purpose line = if is_skipped line.1 then None
+    else Some (judged line.0 (line_told purpose line.1))
 
 -- the lines of a text but for empty ones and comments, which are counted too, from this number on
 unfoldable pub lines_from : Purpose → ℕ → List (List ℕ) → List Line
@@ -46,7 +48,8 @@ unfoldable pub first_fault : List Told → List Line → Option ℕ
 first_fault earlier [] = None
 first_fault earlier (broken number ∷ lines) = Some number
 first_fault earlier (telling number told ∷ lines) =
-    if is_excluded (keys_of earlier) told.key then Some number else first_fault (earlier ++ told ∷ []) lines
+    if is_excluded (keys_of earlier) told.key then Some number
+    else first_fault (earlier ++ told ∷ []) lines
 
 abbrev pub told_by : Line → Option Told
 told_by (telling number told) = Some told

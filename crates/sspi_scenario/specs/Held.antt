@@ -5,7 +5,8 @@ use Rattle.sspi_names.specs.Name.{Name, IsName}
 use Rattle.sspi_scenario.specs.declared.scenario.Scenario.{Scenario}
 
 -- a name and a text in UTF-8, versions of 32 bits, and the lengths of nonce, challenge and ticket
-pub record AreHeld (user : Name) (password : List ℕ) (client_version server_version : ℕ) (nonce challenge : List ℕ)
+pub record AreHeld (user : Name) (password : List ℕ) (client_version server_version : ℕ)
+    (nonce challenge : List ℕ)
     (ticket : Option (List ℕ)) : Type 0 where
   pub name : IsName user
   pub password_text : IsUtf8 password
@@ -16,4 +17,5 @@ pub record AreHeld (user : Name) (password : List ℕ) (client_version server_ve
   pub ticket_length : IfSome ticket (λ bytes. length bytes ≡ 32)
 
 abbrev pub HoldsValues : Scenario → Type 0
-HoldsValues s = AreHeld s.user s.password s.client_version s.server_version s.nonce s.challenge s.ticket
+HoldsValues s = AreHeld s.user s.password s.client_version s.server_version s.nonce s.challenge
+    s.ticket

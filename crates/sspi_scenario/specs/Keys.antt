@@ -30,4 +30,5 @@ is_excluded keys k = list_any (λ e. excludes e k) keys
 
 -- whether the keys that each scenario names are among some
 abbrev pub has_required : List Key → Bool
-has_required keys = has keys key.Mode && has keys key.User && has keys key.Password && has keys key.Key
+has_required keys = has keys key.Mode && has keys key.User && has keys key.Password &&
+    has keys key.Key

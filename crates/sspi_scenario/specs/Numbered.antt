@@ -1,5 +1,6 @@
 -- The scenario of a number, as a program makes it that tries many.
-use Rattle.std.specs.Prelude.{ℕ, ◌/◌, ◌%◌, ◌==◌, ◌||◌, Bool, List, [], ◌∷◌, ◌++◌, Some, codes, replicate, if◌then◌else◌}
+use Rattle.std.specs.Prelude.{ℕ, ◌/◌, ◌%◌, ◌==◌, ◌||◌, Bool, List, [], ◌∷◌, ◌++◌, Some, codes}
+use Rattle.std.specs.Prelude.{replicate, if◌then◌else◌}
 use Rattle.std.specs.Fmt.{decimal}
 use Rattle.sspi_delegate.specs.declared.edit.EditKind.TheVariants.{Drop}
 use Rattle.sspi_names.specs.Name.{Name, down_level, inner_of}
@@ -53,7 +54,8 @@ usual mode version least user password key = record defaults.scenario {
 abbrev pub with_loss : Scenario → Scenario
 with_loss s = record s { edit = s.edit ++ record { entry = 1; kind = Drop } ∷ [] }
 
--- both ends begin with Kerberos: the client knows a KDC, which knows the user, and the server has a ticket
+-- both ends begin with Kerberos: the client knows a KDC, which knows the user, and the server has a
+-- ticket
 abbrev pub with_kerberos : Scenario → Scenario
 with_kerberos s = record s {
   client_protocol = Kerberos;

@@ -3,13 +3,15 @@ use Rattle.std.specs.Prelude.{ℕ, Bool, true, false, List, Option, Some, None, 
 use Rattle.sspi_scenario.specs.declared.key.Key.{Key}
 use Rattle.sspi_scenario.specs.declared.key.Key.TheVariants as key
 use Rattle.sspi_scenario.specs.declared.purpose.Purpose.{Purpose}
-use Rattle.sspi_scenario.specs.declared.purpose.Purpose.TheVariants.{Exchange, Play, Early, Sessions, Serve, Connect}
+use Rattle.sspi_scenario.specs.declared.purpose.Purpose.TheVariants.{Exchange, Play, Early}
+use Rattle.sspi_scenario.specs.declared.purpose.Purpose.TheVariants.{Sessions, Serve, Connect}
 use Rattle.sspi_scenario.specs.Keys.{has, key_named}
 use Rattle.sspi_scenario.specs.Optional.{◌>>=◌}
 
--- a play alone has deliveries, and neither a limit of turns nor a link that changes messages; the sessions of a desk have no such link
--- either; a policy that admits users has only what tells an early result; one end over a channel has neither such a link nor deliveries,
--- and no call of its proxy fails
+-- a play alone has deliveries, and neither a limit of turns nor a link that changes messages; the
+-- sessions of a desk have no such link either; a policy that admits users has only what tells an
+-- early result; one end over a channel has neither such a link nor deliveries, and no call of its
+-- proxy fails
 abbrev pub takes : Purpose → Key → Bool
 takes Exchange key.Deliver = false
 takes Exchange key.Admit = false
@@ -28,7 +30,8 @@ takes Connect key.Deliver = false
 takes Connect key.ProxyFail = false
 takes purpose other = true
 
--- whether the random value of an end over a channel is told: the challenge of a server, the nonce of a client
+-- whether the random value of an end over a channel is told: the challenge of a server, the nonce
+-- of a client
 abbrev pub has_random : Purpose → List Key → Bool
 has_random Exchange keys = true
 has_random Play keys = true

@@ -1,10 +1,12 @@
 -- How the whole text of a source is read.
-use Rattle.std.specs.Prelude.{◌≡◌, ℕ, ◌+◌, ◌<◌, ◌≤◌, ◌⊎◌, List, length, Option, None, Some, Result, Ok, Err}
+use Rattle.std.specs.Prelude.{◌≡◌, ℕ, ◌+◌, ◌<◌, ◌≤◌, ◌⊎◌, List, length, Option, None, Some, Result}
+use Rattle.std.specs.Prelude.{Ok, Err}
 use Rattle.std.specs.Global.{Vec}
 use Rattle.std.specs.Io.KnownBytes.{Consumes, IsAtEnd}
 use Rattle.sspi_ber.specs.Outside.{Rose}
 use Rattle.sspi_scenario.specs.declared.reading.TextError.{TextError}
-use Rattle.sspi_scenario.specs.declared.reading.TextError.TheVariants.{TooLong, Failed, InsufficientMemory}
+use Rattle.sspi_scenario.specs.declared.reading.TextError.TheVariants.{TooLong, Failed}
+use Rattle.sspi_scenario.specs.declared.reading.TextError.TheVariants.{InsufficientMemory}
 
 -- the text of a scenario has at most so many bytes, 1 MiB
 abbrev pub text_limit : ℕ
@@ -30,18 +32,21 @@ pub record TakesJust (count : ℕ) (before after : Option (List ℕ)) : Type 0 w
   pub consumed : Consumes before after taken
   pub counted : length taken ≡ count
 
--- the source is at its end; or the first byte past the longest text was taken of it, and none after that
+-- the source is at its end; or the first byte past the longest text was taken of it, and none after
+-- that
 abbrev pub IsReadWhole : ℕ → Option (List ℕ) → Option (List ℕ) → Type 0
 IsReadWhole limit before after = IsAtEnd after ⊎ TakesJust (limit + 1) before after
 
--- how far a source is read: to its end for its text, and to the first byte past the limit where it is too long
+-- how far a source is read: to its end for its text, and to the first byte past the limit where it
+-- is too long
 abbrev pub ReadsSoFar : ℕ → Option (List ℕ) → Option (List ℕ) → Result (Vec ℕ) TextError → Type 0
 ReadsSoFar limit before after (Ok text) = Consumes before after text.items × IsAtEnd after
 ReadsSoFar limit before after (Err TooLong) = TakesJust (limit + 1) before after
 ReadsSoFar limit before after (Err Failed) = Unit {0}
 ReadsSoFar limit before after (Err InsufficientMemory) = Unit {0}
 
--- what reading says of the source's count of faults: a failure has it rise, and at any other answer no call failed
+-- what reading says of the source's count of faults: a failure has it rise, and at any other answer
+-- no call failed
 abbrev pub TextCause : ℕ → ℕ → Result (Vec ℕ) TextError → Type 0
 TextCause before now (Ok text) = now ≡ before
 TextCause before now (Err TooLong) = now ≡ before

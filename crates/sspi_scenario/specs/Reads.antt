@@ -1,5 +1,6 @@
 -- What the parsers of the parts of a text promise.
-use Rattle.std.specs.Prelude.{◌≡◌, ℕ, Bool, true, false, List, [], ◌∷◌, ◌++◌, Option, Some, None, Result, Ok, Err, if◌then◌else◌}
+use Rattle.std.specs.Prelude.{◌≡◌, ℕ, Bool, true, false, List, [], ◌∷◌, ◌++◌, Option, Some, None}
+use Rattle.std.specs.Prelude.{Result, Ok, Err, if◌then◌else◌}
 use Rattle.std.specs.Borrow.{Bor}
 use Rattle.std.specs.Str.{bytes_eq}
 use Rattle.sspi_scenario.specs.declared.key.Key.{Key}
@@ -32,7 +33,8 @@ Adds old new (Err InsufficientMemory) found = Unit {0}
 -- the first key of some with names that has this one
 abbrev pub first_named : List ℕ → List (Key × Bor (List ℕ)) → Option Key
 first_named name [] = None
-first_named name (row ∷ rows) = if bytes_eq name row.1.now then Some row.0 else first_named name rows
+first_named name (row ∷ rows) = if bytes_eq name row.1.now then Some row.0
+    else first_named name rows
 
 -- the lines of what is left of a text, if anything is
 abbrev pub lines_after : Option (List ℕ) → List (List ℕ)

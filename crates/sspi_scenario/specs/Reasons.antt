@@ -1,5 +1,6 @@
 -- Why a text is no scenario, in words.
-use Rattle.std.specs.Prelude.{ℕ, ◌-◌, ◌==◌, ◌&&◌, nat_le, not, Bool, true, false, List, [], ◌∷◌, ◌++◌, length, codes, decimal}
+use Rattle.std.specs.Prelude.{ℕ, ◌-◌, ◌==◌, ◌&&◌, nat_le, not, Bool, true, false, List, [], ◌∷◌}
+use Rattle.std.specs.Prelude.{◌++◌, length, codes, decimal}
 use Rattle.std.specs.Prelude.{Option, Some, None, Result, Ok, Err, if◌then◌else◌}
 use Rattle.std.specs.List.{slice_get, list_any, list_all}
 use Rattle.std.specs.Str.{bytes_eq, is_utf8}
@@ -26,7 +27,8 @@ wanted key.ClientLeast = codes "no number from 0 to 4294967295 without leading z
 wanted key.ServerLeast = codes "no number from 0 to 4294967295 without leading zeros"
 wanted key.User = codes "a name with two \\, or with a \\ and an @"
 wanted key.Admit = codes "a name with two \\, or with a \\ and an @"
-wanted key.Account = codes "no name, space and password, or a name with two \\, or with a \\ and an @"
+wanted key.Account =
+    codes "no name, space and password, or a name with two \\, or with a \\ and an @"
 wanted key.Key = codes "no even number of hex digits"
 wanted key.ServerKey = codes "no even number of hex digits"
 wanted key.Keytab = codes "no even number of hex digits"
@@ -39,7 +41,8 @@ wanted key.ServerProtocol = codes "neither ntlm nor kerberos"
 wanted key.Accounts = codes "neither own nor none"
 wanted key.Kdc = codes "no realm, space and URL"
 wanted key.KdcAnswer = codes "none of usual, fail, and code with a number up to 255"
-wanted key.Edit = codes "no number, space, and drop, cut, set, add, give, again or fail with its argument"
+wanted key.Edit =
+    codes "no number, space, and drop, cut, set, add, give, again or fail with its argument"
 wanted key.Deliver = codes "no client or server, space and hex"
 wanted text = codes "no text"
 
@@ -93,11 +96,13 @@ fault_with purpose name value None = codes "no key of a scenario"
 fault_with purpose name value (Some k) = key_text purpose k name value
 
 abbrev pub fault_text : Purpose → List ℕ → List ℕ
-fault_text purpose line = fault_with purpose (before_space line) (after_space line) (key_named (before_space line))
+fault_text purpose line = fault_with purpose (before_space line) (after_space line)
+    (key_named (before_space line))
 
 abbrev pub line_text : Purpose → ℕ → Option (List ℕ) → List ℕ
 line_text purpose number None = []
-line_text purpose number (Some line) = codes "line " ++ (decimal number ++ (codes ": " ++ fault_text purpose line))
+line_text purpose number (Some line) = codes "line " ++
+    (decimal number ++ (codes ": " ++ fault_text purpose line))
 
 -- the line of this number, from 1
 unfoldable pub numbered_text : Purpose → ℕ → List ℕ → List ℕ
@@ -115,7 +120,8 @@ missing_part text name = if names_key (lines_of text) name then [] else codes " 
 
 unfoldable pub missing_text : List ℕ → List ℕ
 missing_text text =
-    codes "text: missing keys:" ++ missing_part text (codes "mode") ++ missing_part text (codes "user") ++
+    codes "text: missing keys:" ++ missing_part text (codes "mode") ++
+    missing_part text (codes "user") ++
     missing_part text (codes "password") ++ missing_part text (codes "key")
 
 unfoldable pub whole_text : List ℕ → List ℕ

@@ -1,5 +1,6 @@
 -- The scenario of a text.
-use Rattle.std.specs.Prelude.{◌≡◌, ℕ, ◌&&◌, nat_le, Bool, List, [], ◌∷◌, length, replicate, codes, Option, Some, None, Result, Ok, Err}
+use Rattle.std.specs.Prelude.{◌≡◌, ℕ, ◌&&◌, nat_le, Bool, List, [], ◌∷◌, length, replicate, codes}
+use Rattle.std.specs.Prelude.{Option, Some, None, Result, Ok, Err}
 use Rattle.std.specs.Prelude.{fold, if◌then◌else◌}
 use Rattle.std.specs.Str.{is_utf8}
 use Rattle.sspi_names.specs.Name.{Name, down_level}
@@ -35,7 +36,8 @@ proxy_table [] accounts.Own own = own ∷ []
 proxy_table [] accounts.None own = []
 proxy_table (told ∷ more) word own = told ∷ more
 
--- the values of a text without a line; the user, the password and the keys are told, or stand for what is
+-- the values of a text without a line; the user, the password and the keys are told, or stand for
+-- what is
 abbrev pub defaults : Values
 defaults = record {
   scenario = record {
@@ -77,16 +79,19 @@ defaults = record {
 unfoldable pub values_of : List Told → Values
 values_of lines = fold (λ values told. told.change values) defaults lines
 
--- the scenario of the values of lines with these keys; the server's key is the client's where no line tells it
+-- the scenario of the values of lines with these keys; the server's key is the client's where no
+-- line tells it
 abbrev pub finished : List Key → Values → Scenario
 finished keys values = record values.scenario {
   server_key = if has keys key.ServerKey then values.scenario.server_key else values.scenario.key;
-  account = proxy_table values.scenario.account values.accounts (own_identity values.scenario.user values.scenario.password);
+  account = proxy_table values.scenario.account values.accounts
+      (own_identity values.scenario.user values.scenario.password);
 }
 
 -- the same where all keys are there that a scenario for this is to have
 abbrev pub completed_by : Purpose → List Key → Values → Option Scenario
-completed_by purpose keys values = if has_required keys && has_random purpose keys then Some (finished keys values) else None
+completed_by purpose keys values = if has_required keys && has_random purpose keys
+    then Some (finished keys values) else None
 
 -- the scenario of the lines of a text without a faulty one, or none where a required key is missing
 unfoldable pub completed : Purpose → List Told → Option Scenario
@@ -101,12 +106,15 @@ decided None None = Err 0
 unfoldable pub scenario_of_lines : Purpose → List Line → Result Scenario ℕ
 scenario_of_lines purpose lines = decided (first_fault [] lines) (completed purpose (told_in lines))
 
--- the scenario that a text is for this, or the number of its first faulty line, from 1; 0 where no line is to blame
+-- the scenario that a text is for this, or the number of its first faulty line, from 1; 0 where no
+-- line is to blame
 unfoldable pub scenario_of : Purpose → List ℕ → Result Scenario ℕ
 scenario_of purpose text =
-    if is_readable text then scenario_of_lines purpose (lines_from purpose 1 (lines_of text)) else Err 0
+    if is_readable text then scenario_of_lines purpose (lines_from purpose 1 (lines_of text))
+    else Err 0
 
--- a text gives its scenario, or is refused at the line that its scenario names; out of memory is free
+-- a text gives its scenario, or is refused at the line that its scenario names; out of memory is
+-- free
 abbrev pub Parses : Purpose → List ℕ → Result Scenario ScenarioError → Type 0
 Parses purpose text (Ok scenario) = scenario_of purpose text ≡ Ok scenario
 Parses purpose text (Err (error.Line number)) = scenario_of purpose text ≡ Err number

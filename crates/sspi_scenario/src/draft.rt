@@ -35,8 +35,8 @@ impl Draft {
         }
     }
 
-    /// Takes one line of a scenario for this. `Fault` where it is none, or stands against those before it; `InsufficientMemory` where
-    /// there is none for it.
+    /// Takes one line of a scenario for this. `Fault` where it is none, or stands against those
+    /// before it; `InsufficientMemory` where there is none for it.
     pub fn take_line(
         &mut self,
         alloc: Global,

@@ -1,6 +1,7 @@
 //! Splits a text into lines, and a line at its first separator.
 
-ghost use Rattle.std.specs.Prelude.{◌≡◌, ◌<◌, ◌∷◌, length, Some, None, MatchOption, IfSome, option_copied};
+ghost use Rattle.std.specs.Prelude.{◌≡◌, ◌<◌, ◌∷◌, length, Some, None, MatchOption, IfSome};
+ghost use Rattle.std.specs.Prelude.{option_copied};
 ghost use Rattle.sspi_scenario.specs.Lines;
 ghost use Rattle.sspi_scenario.specs.Lines.{lines_of, before_space, after_space};
 ghost use Rattle.sspi_scenario.specs.Reads.{lines_after};
@@ -25,7 +26,8 @@ pub fn is_skipped(line: &str) -> bool
 
 /// What stands before the first space, and what after it.
 pub fn parted(text: &str) -> Option<(&str, &str)>
-    ensures { MatchOption result (Lines.parted text.now ≡ None) (λ parts. Lines.parted text.now ≡ Some (parts.0.now, parts.1.now)) }
+    ensures { MatchOption result (Lines.parted text.now ≡ None)
+        (λ parts. Lines.parted text.now ≡ Some (parts.0.now, parts.1.now)) }
 {
     text.split_once(' ')
 }

@@ -1,9 +1,10 @@
-//! Scenarios that are told by a number alone: a sequence of exchanges that differ in how they authenticate, in their versions and
-//! in what stands in their way.
+//! Scenarios that are told by a number alone: a sequence of exchanges that differ in how they
+//! authenticate, in their versions and in what stands in their way.
 
 ghost use Rattle.std.specs.Prelude.{◌≡◌, ◌∷◌, [], IfOk, OnOk};
 ghost use Rattle.sspi_scenario.specs.Held.{HoldsValues};
-ghost use Rattle.sspi_scenario.specs.Numbered.{key_at, least_at, mode_at, numbered, password_at, set_apart, user_at, version_at};
+ghost use Rattle.sspi_scenario.specs.Numbered.{key_at, least_at, mode_at, numbered, password_at};
+ghost use Rattle.sspi_scenario.specs.Numbered.{set_apart, user_at, version_at};
 ghost use Rattle.sspi_scenario.specs.Numbered.{usual_at, with_kerberos};
 ghost use Rattle.sspi_scenario.specs.Scenario.{defaults, own_identity};
 
@@ -16,8 +17,9 @@ use std::alloc::{AllocError, Global};
 
 const KEY_LENGTH: usize = 40;
 
-/// The scenario of a number: the user, the password and the key are its own; how the ends authenticate, their versions and what
-/// stands in their way go by it with a period of eight. Fails only when out of memory.
+/// The scenario of a number: the user, the password and the key are its own; how the ends
+/// authenticate, their versions and what stands in their way go by it with a period of eight. Fails
+/// only when out of memory.
 pub fn numbered(alloc: Global, number: u32) -> Result<Scenario, AllocError>
     ensures scenario { IfOk result (λ scenario. scenario ≡ numbered number) }
     ensures holds { IfOk result HoldsValues }

@@ -13,7 +13,8 @@ pub enum Purpose {
     Exchange,
     /// Its ends take the deliveries of a schedule.
     Play,
-    /// Its ends carry their messages to each other over a link, and then its server tells who may log on.
+    /// Its ends carry their messages to each other over a link, and then its server tells who may
+    /// log on.
     Early,
     /// Many of its clients are served at one desk, which delivers what was sent.
     Sessions,

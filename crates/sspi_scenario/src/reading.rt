@@ -24,9 +24,10 @@ pub enum TextError {
 
 /// All that is left of a source, which may be so many bytes: `TEXT_LIMIT` of a scenario.
 ///
-/// `TooLong` where more are left, of which one past the limit is read and no more. `Failed` where a call on the source fails,
-/// and no failed call hides behind another answer: at each the count of faults is as it was. `InsufficientMemory` where there
-/// is none for the text. What was read is lost with a refusal: as many bytes as the limit, and one.
+/// `TooLong` where more are left, of which one past the limit is read and no more. `Failed` where a
+/// call on the source fails, and no failed call hides behind another answer: at each the count of
+/// faults is as it was. `InsufficientMemory` where there is none for the text. What was read is
+/// lost with a refusal: as many bytes as the limit, and one.
 pub fn read_text<S: Source>(
     alloc: Global,
     limit: usize,

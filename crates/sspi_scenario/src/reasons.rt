@@ -2,9 +2,12 @@
 ghost use Rattle.std.specs.Prelude.{◌≡◌, ◌-◌, ◌++◌, None, string_bytes, IfOk, OnOk, option_copied};
 ghost use Rattle.std.specs.List.{list_all, slice_get};
 ghost use Rattle.sspi_scenario.specs.Lines.{lines_of};
-ghost use Rattle.sspi_scenario.specs.Reasons.{fault_line, fault_text, is_plain, is_plain_byte, is_shown};
-ghost use Rattle.sspi_scenario.specs.Reasons.{key_text, line_text, missing_part, missing_text, names_key, numbered_text, reason_text};
-ghost use Rattle.sspi_scenario.specs.Reasons.{refusal_text, value_is_good, value_text, wanted, whole_text};
+ghost use Rattle.sspi_scenario.specs.Reasons.{fault_line, fault_text, is_plain, is_plain_byte};
+ghost use Rattle.sspi_scenario.specs.Reasons.{is_shown};
+ghost use Rattle.sspi_scenario.specs.Reasons.{key_text, line_text, missing_part, missing_text};
+ghost use Rattle.sspi_scenario.specs.Reasons.{names_key, numbered_text, reason_text};
+ghost use Rattle.sspi_scenario.specs.Reasons.{refusal_text, value_is_good, value_text, wanted};
+ghost use Rattle.sspi_scenario.specs.Reasons.{whole_text};
 ghost use Rattle.sspi_scenario.specs.Scenario.{scenario_of};
 
 use crate::error::LineError;
@@ -22,10 +25,11 @@ const SHOWN: usize = 40;
 /// Why this text is no scenario for this purpose, in words and without a line's end: what
 /// `Scenario::parse` refuses it for. Nothing where it is one.
 ///
-/// It names the line, as `line 5: turns: no number from 0 to 4294967295 without leading zeros: "05"`;
-/// or the keys that are missing; or that the text is too long or is not UTF-8. A value is shown where
-/// its key takes a number or one of a few words, and only where it is short and of printable ASCII.
-/// No password, keytab or ticket is shown, nor a key that is unknown, which may be part of a password.
+/// It names the line, as `line 5: turns: no number from 0 to 4294967295 without leading zeros:
+/// "05"`; or the keys that are missing; or that the text is too long or is not UTF-8. A value is
+/// shown where its key takes a number or one of a few words, and only where it is short and of
+/// printable ASCII. No password, keytab or ticket is shown, nor a key that is unknown, which may be
+/// part of a password.
 #[tactic(auto, unfolding(crate::specs::Reasons::reason_text))]
 pub fn reason(alloc: Global, purpose: Purpose, text: &[u8]) -> Result<String, AllocError>
     ensures { IfOk result (λ told. string_bytes told ≡ reason_text purpose text.now) }
@@ -98,7 +102,8 @@ fn missing_text(alloc: Global, text: &str) -> Result<String, AllocError>
 }
 
 fn push_missing(told: &mut String, text: &str, name: &str) -> Result<(), AllocError>
-    ensures { OnOk result (string_bytes told.new ≡ string_bytes told.old ++ missing_part text.now name.now) }
+    ensures { OnOk result (string_bytes told.new ≡ string_bytes told.old ++
+        missing_part text.now name.now) }
 {
     if names_key(text, name) {
         return Ok(());
@@ -145,7 +150,8 @@ fn line_text(
     number: usize,
     line: Option<&str>,
 ) -> Result<String, AllocError>
-    ensures { IfOk result (λ told. string_bytes told ≡ line_text purpose number (option_copied line.entry)) }
+    ensures { IfOk result (λ told. string_bytes told ≡ line_text purpose number
+        (option_copied line.entry)) }
 {
     match line {
         Some(line) => {

@@ -59,11 +59,12 @@ pub struct Scenario {
     /// What the client of a negotiation begins with.
     pub client_protocol: Package,
     pub server_protocol: Package,
-    /// Which packages the client of a negotiation may use, in the form that `PackageListConfig::parse` reads; where there is
-    /// no list, all of them.
+    /// Which packages the client of a negotiation may use, in the form that
+    /// `PackageListConfig::parse` reads; where there is no list, all of them.
     pub client_packages: Option<Text>,
     pub server_packages: Option<Text>,
-    /// The URL that the client's Kerberos asks; where there is none, that of its realm in the table.
+    /// The URL that the client's Kerberos asks; where there is none, that of its realm in the
+    /// table.
     pub client_url: Option<Text>,
     /// Which KDC serves which realm.
     pub kdc: KdcTable,
@@ -92,7 +93,8 @@ pub struct Scenario {
 /// Why a text gave no scenario.
 #[derive(Clone, Copy, Debug, PartialEq, Eq)]
 pub enum ScenarioError {
-    /// The text is no scenario. The number is that of its first faulty line, from 1; 0 where no line is to blame.
+    /// The text is no scenario. The number is that of its first faulty line, from 1; 0 where no
+    /// line is to blame.
     Line(usize),
     InsufficientMemory,
 }
@@ -109,9 +111,10 @@ impl From<AllocError> for ScenarioError {
 }
 
 impl Scenario {
-    /// The scenario of a text, which is UTF-8 of at most `TEXT_LIMIT` bytes. Out of memory apart, `Line` comes exactly where the
-    /// text is no scenario for this purpose, with the number of its first faulty line; 0 for a text that is too long or is not UTF-8,
-    /// and for one without a faulty line that lacks a key. A line with a key of another purpose is faulty.
+    /// The scenario of a text, which is UTF-8 of at most `TEXT_LIMIT` bytes. Out of memory apart,
+    /// `Line` comes exactly where the text is no scenario for this purpose, with the number of its
+    /// first faulty line; 0 for a text that is too long or is not UTF-8, and for one without a
+    /// faulty line that lacks a key. A line with a key of another purpose is faulty.
     pub fn parse(alloc: Global, purpose: Purpose, text: &[u8]) -> Result<Scenario, ScenarioError>
         ensures { Parses purpose text.now result }
     {

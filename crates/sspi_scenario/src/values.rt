@@ -75,8 +75,8 @@ impl Values {
         })
     }
 
-    /// Puts what a value of a key tells in its place. `Fault` where the value is against the key's grammar, `InsufficientMemory` where
-    /// there is none for it.
+    /// Puts what a value of a key tells in its place. `Fault` where the value is against the key's
+    /// grammar, `InsufficientMemory` where there is none for it.
     pub fn put(&mut self, alloc: Global, key: Key, value: &str) -> Result<(), LineError>
         ensures { Puts self.old self.new result ((row key).value value.now) }
     {
@@ -132,7 +132,8 @@ impl Values {
     }
 }
 
-/// Gives up what cannot be completed. Generic, since to drop a value of a type parameter is one step.
+/// Gives up what cannot be completed. Generic, since to drop a value of a type parameter is one
+/// step.
 pub fn given_up<T: Drop, R, E>(_value: T, error: E) -> Result<R, E>
     ensures { result ≡ Err error }
 {
@@ -146,7 +147,8 @@ fn complete(
     word: Accounts,
     keys: &[Key],
 ) -> Result<(), AllocError>
-    ensures { OnOk result (told.new ≡ finished keys.now (record { scenario = told.old; accounts = word })) }
+    ensures { OnOk result (told.new ≡ finished keys.now
+        (record { scenario = told.old; accounts = word })) }
 {
     if !has(keys, Key::ServerKey) {
         told.server_key = told.key.clone(alloc)?;

@@ -1,7 +1,8 @@
 //! Reads values that are words.
 
 ghost use Rattle.std.specs.Prelude.{◌≡◌};
-ghost use Rattle.sspi_scenario.specs.Words.{mode_of, package_of, delegation_of, accounts_of, end_of};
+ghost use Rattle.sspi_scenario.specs.Words.{mode_of, package_of, delegation_of, accounts_of};
+ghost use Rattle.sspi_scenario.specs.Words.{end_of};
 
 use crate::scenario::{Mode, Package};
 use sspi_delegate::End;

@@ -22,13 +22,15 @@ pub record AreClients (turns : List Turn) : Type 0 where
   pub all : client_turns turns ≡ turns
   pub none : server_turns turns ≡ []
 
-module _ {N K P D : Type 0} (c : Meaning ContextSetting (SspiContext N K)) (p : ProxyMeaning P) (k : KdcCalls D)
+module _ {N K P D : Type 0} (c : Meaning ContextSetting (SspiContext N K)) (p : ProxyMeaning P)
+    (k : KdcCalls D)
     (came : Place (SspiContext N K) P D) where
   -- the turns so far are the client's alone, went on, and were its calls
   pub record HasTurned (rounds : ℕ) (guest : Guest N K D) : Type 0 where
     pub own : AreClients guest.transcript.turns
     pub go : AllGoOn guest.transcript.turns
-    pub history : ClientHistory c k came.client came.kdc guest.transcript.turns guest.client guest.kdc
+    pub history : ClientHistory c k came.client came.kdc guest.transcript.turns guest.client
+        guest.kdc
     pub count : length guest.transcript.turns ≡ rounds
     pub spent : guest.outcome ≡ seats.TurnsSpent
 
@@ -40,8 +42,10 @@ module _ {N K P D : Type 0} (c : Meaning ContextSetting (SspiContext N K)) (p : 
 
   -- a client that came to its outcome
   pub record HasEnded (rounds : ℕ) (guest : Guest N K D) : Type 0 where
-    pub shown : (limit : ℕ) → Shows limit guest.outcome guest.transcript.turns (reverse guest.calls) (reverse guest.answers)
-    pub history : ClientCame c k came.client came.kdc guest.outcome guest.transcript.turns guest.client guest.kdc
+    pub shown : (limit : ℕ) → Shows limit guest.outcome guest.transcript.turns (reverse guest.calls)
+        (reverse guest.answers)
+    pub history : ClientCame c k came.client came.kdc guest.outcome guest.transcript.turns
+        guest.client guest.kdc
     pub own : AreClients guest.transcript.turns
     pub others : OthersGoOn guest.transcript.turns
     pub count : length guest.transcript.turns ≤ rounds
@@ -51,6 +55,7 @@ module _ {N K P D : Type 0} (c : Meaning ContextSetting (SspiContext N K)) (p : 
   StandsBy None rounds guest = HasEnded rounds guest
 
   -- a client and its server after so many rounds
-  pub record IsVisited (rounds : ℕ) (guest : Guest N K D) (server : ServerView (SspiContext N K) P) : Type 0 where
+  pub record IsVisited (rounds : ℕ) (guest : Guest N K D)
+      (server : ServerView (SspiContext N K) P) : Type 0 where
     pub alone : Alone c p came.server guest.calls guest.answers server
     pub stands : StandsBy guest.next rounds guest

@@ -1,5 +1,6 @@
 -- How a guest's bytes are heard.
-use Rattle.std.specs.Prelude.{◌≡◌, ◌≢◌, ℕ, List, [], ◌∷◌, reverse, Option, None, Some, Result, Ok, Err}
+use Rattle.std.specs.Prelude.{◌≡◌, ◌≢◌, ℕ, List, [], ◌∷◌, reverse, Option, None, Some, Result, Ok}
+use Rattle.std.specs.Prelude.{Err}
 use Rattle.sspi_types.specs.declared.error.Error.{Error}
 use Rattle.sspi_types.specs.declared.error_kind.ErrorKind.TheVariants as kinds
 use Rattle.sspi_tsreq.specs.declared.request.TsRequest.{TsRequest}
@@ -15,7 +16,8 @@ use Rattle.sspi_delegate.specs.Chain.{KdcCalls}
 use Rattle.sspi_delegate.specs.Log.{IsRead}
 use Rattle.sspi_desk.specs.Call.{HasFault, Spells}
 use Rattle.sspi_desk.specs.declared.answer.DeskError.{DeskError}
-use Rattle.sspi_desk.specs.declared.answer.DeskError.TheVariants.{NoSession, Unread, Refused, TooLong, InsufficientMemory}
+use Rattle.sspi_desk.specs.declared.answer.DeskError.TheVariants.{NoSession, Unread, Refused}
+use Rattle.sspi_desk.specs.declared.answer.DeskError.TheVariants.{TooLong, InsufficientMemory}
 use Rattle.sspi_desk.specs.declared.answer.Served.{Served}
 use Rattle.sspi_desk.specs.declared.answer.Served.TheVariants.{Answer, Finished}
 use Rattle.sspi_seats.specs.Seat.{Place}
@@ -63,11 +65,13 @@ MayLack (Err TooLong) = ⊥
 MayLack (Err InsufficientMemory) = Unit {0}
 
 abbrev pub IsRefusal : Error → SeatOutcome → Type 0
-IsRefusal error outcome = (outcome ≡ seats.Client error) × (error.error_type ≢ kinds.InsufficientMemory)
+IsRefusal error outcome = (outcome ≡ seats.Client error) ×
+    (error.error_type ≢ kinds.InsufficientMemory)
 
 module _ {N K D : Type 0} where
   -- the seat of a client and its server
-  pub record IsSeatOf {P : Type 0} (guest : Guest N K D) (server : ServerView (SspiContext N K) P) (seat : Seat N K P D) : Type 0 where
+  pub record IsSeatOf {P : Type 0} (guest : Guest N K D) (server : ServerView (SspiContext N K) P)
+      (seat : Seat N K P D) : Type 0 where
     pub client_is : seat.client ≡ guest.client
     pub kdc_is : seat.kdc ≡ guest.kdc
     pub server_is : seat.server ≡ server
@@ -76,9 +80,11 @@ module _ {N K D : Type 0} where
     pub answers : seat.answers ≡ guest.answers
     pub outcome : seat.outcome ≡ guest.outcome
 
-module _ {N K P D : Type 0} (c : Meaning ContextSetting (SspiContext N K)) (p : ProxyMeaning P) (k : KdcCalls D)
+module _ {N K P D : Type 0} (c : Meaning ContextSetting (SspiContext N K)) (p : ProxyMeaning P)
+    (k : KdcCalls D)
     (came : Place (SspiContext N K) P D) where
   -- a client whose newest turn has a message that was not served
   pub record IsSpeaking (rounds : ℕ) (guest : Guest N K D) : Type 0 where
     pub turned : HasTurned c p k came rounds guest
-    pub served : AreServedButLast guest.transcript.turns (reverse guest.calls) (reverse guest.answers)
+    pub served : AreServedButLast guest.transcript.turns (reverse guest.calls)
+        (reverse guest.answers)

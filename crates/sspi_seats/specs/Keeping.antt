@@ -25,18 +25,29 @@ module _ {C P : Type 0} where
     pub others : (other : ℕ) → other ≢ s → session other new ≡ session other old
     pub admitted : new.admitted ≡ old.admitted
 
--- A call and its answer are kept. Where the answer means the next request, the client takes that next; where it is the end, it came to
--- that outcome.
-abbrev pub KeepsCall : {N K D E : Type 0} → List ℕ → Result Served DeskError → Result Heard E → Guest N K D → Guest N K D → Type 0
+-- A call and its answer are kept. Where the answer means the next request, the client takes that
+-- next; where it is the end, it came to that outcome.
+abbrev pub KeepsCall : {N K D E : Type 0} → List ℕ → Result Served DeskError → Result Heard E →
+    Guest N K D → Guest N K D → Type 0
 KeepsCall bytes answer (Ok (Next request)) old new =
-    new ≡ record old { next = Some request; calls = old.calls ++ bytes ∷ []; answers = old.answers ++ answer ∷ [] }
+    new ≡ record old {
+      next = Some request;
+      calls = old.calls ++ bytes ∷ [];
+      answers = old.answers ++ answer ∷ [];
+    }
 KeepsCall bytes answer (Ok (Ends outcome)) old new =
-    new ≡ record old { outcome = outcome; calls = old.calls ++ bytes ∷ []; answers = old.answers ++ answer ∷ [] }
+    new ≡ record old {
+      outcome = outcome;
+      calls = old.calls ++ bytes ∷ [];
+      answers = old.answers ++
+          answer ∷ [];
+    }
 KeepsCall bytes answer (Err error) old new = ⊥
 
 module _ {N K D : Type 0} where
   -- a client that has made no turn at its seat
-  pub record IsNew (number : ℕ) (client : ClientView (SspiContext N K)) (kdc : D) (guest : Guest N K D) : Type 0 where
+  pub record IsNew (number : ℕ) (client : ClientView (SspiContext N K)) (kdc : D)
+      (guest : Guest N K D) : Type 0 where
     pub number_is : guest.number ≡ number
     pub client_is : guest.client ≡ client
     pub kdc_is : guest.kdc ≡ kdc
@@ -46,7 +57,8 @@ module _ {N K D : Type 0} where
     pub next : guest.next ≡ Some first_request
     pub outcome : guest.outcome ≡ seats.TurnsSpent
 
-module _ {N K P D : Type 0} (c : Meaning ContextSetting (SspiContext N K)) (p : ProxyMeaning P) (k : KdcCalls D)
+module _ {N K P D : Type 0} (c : Meaning ContextSetting (SspiContext N K)) (p : ProxyMeaning P)
+    (k : KdcCalls D)
     (came : Place (SspiContext N K) P D) where
   -- the seat of one client more
   pub record HasLeft (limit : ℕ) (old new : List (Seat N K P D)) : Type 0 where
@@ -54,11 +66,15 @@ module _ {N K P D : Type 0} (c : Meaning ContextSetting (SspiContext N K)) (p : 
     pub added : new ≡ old ++ seat ∷ []
     pub is : IsSeat c p k came limit seat
 
-module _ {N K P D : Type 0} (c : Meaning ContextSetting (SspiContext N K)) (p : ProxyMeaning P) (k : KdcCalls D)
+module _ {N K P D : Type 0} (c : Meaning ContextSetting (SspiContext N K)) (p : ProxyMeaning P)
+    (k : KdcCalls D)
     (cames : List (Place (SspiContext N K) P D)) where
   -- the client of each place has the session of its number; they have had so many rounds
-  pub record AreKept (rounds : ℕ) (guests : List (Guest N K D)) (desk : DeskView (SspiContext N K) P) : Type 0 where
-    pub each : (i : ℕ) (came : Place (SspiContext N K) P D) (guest : Guest N K D) → slice_get cames i ≡ Some came →
+  pub record AreKept (rounds : ℕ) (guests : List (Guest N K D))
+      (desk : DeskView (SspiContext N K) P) : Type 0 where
+    pub each : (i : ℕ) (came : Place (SspiContext N K) P D) (guest : Guest N K D) →
+        slice_get cames i ≡ Some came →
         slice_get guests i ≡ Some guest → IsKept c p k came rounds guest (session i desk)
-    pub numbered : (i : ℕ) (guest : Guest N K D) → slice_get guests i ≡ Some guest → guest.number ≡ i
+    pub numbered : (i : ℕ) (guest : Guest N K D) → slice_get guests i ≡ Some guest →
+        guest.number ≡ i
     pub seated : length guests ≡ length cames

@@ -1,4 +1,5 @@
--- How a client's turns, the calls on its session and their answers belong together; each is a list, the newest first.
+-- How a client's turns, the calls on its session and their answers belong together; each is a list,
+-- the newest first.
 use Rattle.std.specs.Prelude.{◌≡◌, ℕ, List, [], ◌∷◌, Result, Ok, Err}
 use Rattle.sspi_tsreq.specs.declared.request.TsRequest.{TsRequest}
 use Rattle.sspi_tsreq.specs.Grammar.{first_request}
@@ -9,7 +10,8 @@ use Rattle.sspi_desk.specs.declared.answer.DeskError.{DeskError}
 use Rattle.sspi_desk.specs.declared.answer.Served.{Served}
 use Rattle.sspi_desk.specs.declared.answer.Served.TheVariants as served
 
--- what the client takes after these answers: the request with which the newest one's bytes begin, and where there is none its own first
+-- what the client takes after these answers: the request with which the newest one's bytes begin,
+-- and where there is none its own first
 abbrev pub IsNext : List (Result Served DeskError) → TsRequest → Type 0
 IsNext [] request = request ≡ first_request
 IsNext (Ok (served.Answer text) ∷ past) request = IsRead text request
@@ -29,4 +31,5 @@ AreServed (t ∷ turns) (bytes ∷ calls) (answer ∷ answers) =
 -- the same, but for the newest turn, which was not served
 abbrev pub AreServedButLast : List Turn → List (List ℕ) → List (Result Served DeskError) → Type 0
 AreServedButLast [] calls answers = ⊥
-AreServedButLast (t ∷ turns) calls answers = IsNext answers t.delivered × AreServed turns calls answers
+AreServedButLast (t ∷ turns) calls answers = IsNext answers t.delivered ×
+    AreServed turns calls answers

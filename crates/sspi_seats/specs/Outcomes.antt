@@ -18,7 +18,8 @@ use Rattle.sspi_seats.specs.declared.seat.SeatOutcome.{SeatOutcome}
 use Rattle.sspi_seats.specs.declared.seat.SeatOutcome.TheVariants as seats
 
 -- the newest answer is such
-abbrev pub NewestAnswer : (Result Served DeskError → Type 0) → List (Result Served DeskError) → Type 0
+abbrev pub NewestAnswer : (Result Served DeskError → Type 0) → List (Result Served DeskError) →
+    Type 0
 NewestAnswer P [] = ⊥
 NewestAnswer P (answer ∷ past) = P answer
 
@@ -33,13 +34,18 @@ IsUnreadable kind (Ok (Finished identity)) = ⊥
 IsUnreadable kind (Err error) = ⊥
 
 -- limit: how many turns the client may make
-abbrev pub Shows : ℕ → SeatOutcome → List Turn → List (List ℕ) → List (Result Served DeskError) → Type 0
+abbrev pub Shows : ℕ → SeatOutcome → List Turn → List (List ℕ) → List (Result Served DeskError) →
+    Type 0
 Shows limit (seats.Ok messages identity) turns calls answers =
-    AreServed turns calls answers × NewestAnswer (λ answer. answer ≡ Ok (Finished identity)) answers × (messages ≡ length turns)
+    AreServed turns calls answers × NewestAnswer (λ answer. answer ≡ Ok (Finished identity))
+    answers × (messages ≡ length turns)
 Shows limit (seats.Client error) turns calls answers = AreServedButLast turns calls answers
-    × NewestIs Client (IsClientRefusal error.error_type) turns × (error.error_type ≢ kinds.InsufficientMemory)
-Shows limit (seats.Server error) turns calls answers = AreServed turns calls answers × NewestAnswer (IsRefusedWith error) answers
-Shows limit (seats.Read Client kind) turns calls answers = AreServed turns calls answers × NewestAnswer (IsUnreadable kind) answers
+    × NewestIs Client (IsClientRefusal error.error_type) turns ×
+    (error.error_type ≢ kinds.InsufficientMemory)
+Shows limit (seats.Server error) turns calls answers = AreServed turns calls answers ×
+    NewestAnswer (IsRefusedWith error) answers
+Shows limit (seats.Read Client kind) turns calls answers = AreServed turns calls answers ×
+    NewestAnswer (IsUnreadable kind) answers
 Shows limit (seats.Read Server kind) turns calls answers =
     AreServed turns calls answers × NewestAnswer (λ answer. answer ≡ Err (Unread kind)) answers
 Shows limit (seats.Write Client) turns calls answers =
@@ -47,9 +53,11 @@ Shows limit (seats.Write Client) turns calls answers =
 Shows limit (seats.Write Server) turns calls answers =
     AreServed turns calls answers × NewestAnswer (λ answer. answer ≡ Err TooLong) answers
 Shows limit seats.TurnsSpent turns calls answers =
-    AreServed turns calls answers × (length calls ≡ limit) × (request : TsRequest) × IsNext answers request
+    AreServed turns calls answers × (length calls ≡ limit) × (request : TsRequest) ×
+    IsNext answers request
 
--- the kinds of outcomes, as numbers; what an end cannot read or write is a kind of its own for each end
+-- the kinds of outcomes, as numbers; what an end cannot read or write is a kind of its own for each
+-- end
 abbrev pub kind_of : SeatOutcome → ℕ
 kind_of (seats.Ok messages identity) = 0
 kind_of (seats.Client error) = 1

@@ -1,4 +1,5 @@
--- All clients of a table between two rounds; the client of each place has the session of its number.
+-- All clients of a table between two rounds; the client of each place has the session of its
+-- number.
 use Rattle.std.specs.Prelude.{◌≡◌, ℕ, ◌+◌, ◌<◌, ◌≤◌, List, [], length, Option, None, Some}
 use Rattle.std.specs.List.{slice_get}
 use Rattle.sspi_mech.specs.Meaning.{Meaning}
@@ -19,7 +20,8 @@ module _ {N K P D : Type 0} where
     pub guests : sessions.guests.items ≡ []
     pub admitted : sessions.desk.admitted ≡ 0
 
-module _ {N K P D : Type 0} (c : Meaning ContextSetting (SspiContext N K)) (p : ProxyMeaning P) (k : KdcCalls D)
+module _ {N K P D : Type 0} (c : Meaning ContextSetting (SspiContext N K)) (p : ProxyMeaning P)
+    (k : KdcCalls D)
     (came : Place (SspiContext N K) P D) where
   -- the session is kept, and its server stands with its client after so many rounds
   abbrev pub IsKept : ℕ → Guest N K D → Option (ServerView (SspiContext N K) P) → Type 0
@@ -27,15 +29,22 @@ module _ {N K P D : Type 0} (c : Meaning ContextSetting (SspiContext N K)) (p : 
   IsKept rounds guest (Some server) = IsVisited c p k came rounds guest server
 
 -- `cames`: the places of a table, the first one first
-module _ {N K P D : Type 0} (c : Meaning ContextSetting (SspiContext N K)) (p : ProxyMeaning P) (k : KdcCalls D)
+module _ {N K P D : Type 0} (c : Meaning ContextSetting (SspiContext N K)) (p : ProxyMeaning P)
+    (k : KdcCalls D)
     (cames : List (Place (SspiContext N K) P D)) where
-  -- The client of each place has the session of its number. They have had so many rounds; those of the places below `first` one more.
+  -- The client of each place has the session of its number. They have had so many rounds; those of
+  -- the places below `first` one more.
   pub record AreVisited (rounds first : ℕ) (sessions : Sessions N K P D) : Type 0 where
-    pub early : (i : ℕ) (came : Place (SspiContext N K) P D) (guest : Guest N K D) → slice_get cames i ≡ Some came →
-        slice_get sessions.guests.items i ≡ Some guest → i < first → IsKept c p k came (rounds + 1) guest (session i sessions.desk)
-    pub late : (i : ℕ) (came : Place (SspiContext N K) P D) (guest : Guest N K D) → slice_get cames i ≡ Some came →
-        slice_get sessions.guests.items i ≡ Some guest → first ≤ i → IsKept c p k came rounds guest (session i sessions.desk)
-    pub numbered : (i : ℕ) (guest : Guest N K D) → slice_get sessions.guests.items i ≡ Some guest → guest.number ≡ i
+    pub early : (i : ℕ) (came : Place (SspiContext N K) P D) (guest : Guest N K D) →
+        slice_get cames i ≡ Some came →
+        slice_get sessions.guests.items i ≡ Some guest → i < first →
+        IsKept c p k came (rounds + 1) guest (session i sessions.desk)
+    pub late : (i : ℕ) (came : Place (SspiContext N K) P D) (guest : Guest N K D) →
+        slice_get cames i ≡ Some came →
+        slice_get sessions.guests.items i ≡ Some guest → first ≤ i →
+        IsKept c p k came rounds guest (session i sessions.desk)
+    pub numbered : (i : ℕ) (guest : Guest N K D) → slice_get sessions.guests.items i ≡ Some guest →
+        guest.number ≡ i
     pub seated : length sessions.guests.items ≡ length cames
 
   -- these were admitted, in this order, and none has made a turn

@@ -33,10 +33,12 @@ module _ {C P D : Type 0} where
   IsRefusedFor InsufficientMemory table = length table.places < table.limit
 
 -- `cames`: the places of a table, the first one first
-module _ {N K P D : Type 0} (c : Meaning ContextSetting (SspiContext N K)) (p : ProxyMeaning P) (k : KdcCalls D)
+module _ {N K P D : Type 0} (c : Meaning ContextSetting (SspiContext N K)) (p : ProxyMeaning P)
+    (k : KdcCalls D)
     (cames : List (Place (SspiContext N K) P D)) where
   -- A seat for each place, in their order; limit: how many turns each client may make.
   pub record AreSeats (limit : ℕ) (seats : List (Seat N K P D)) : Type 0 where
     pub seats_are : length seats ≡ length cames
-    pub each : (i : ℕ) (came : Place (SspiContext N K) P D) (seat : Seat N K P D) → slice_get cames i ≡ Some came →
+    pub each : (i : ℕ) (came : Place (SspiContext N K) P D) (seat : Seat N K P D) →
+        slice_get cames i ≡ Some came →
         slice_get seats i ≡ Some seat → IsSeat c p k came limit seat

@@ -101,17 +101,20 @@ impl<N, K, D> Guest<N, K, D> {
 }
 
 impl<N: Mechanism, K: Mechanism, D: Kdc> Guest<N, K, D> {
-    /// A round of a client: where it still runs, it makes the turn of this number, and the desk serves its message.
+    /// A round of a client: where it still runs, it makes the turn of this number, and the desk
+    /// serves its message.
     pub(crate) fn visit<C: CredentialsProxy>(
         &mut self,
         alloc: Global,
         desk: &mut Desk<N, K, C>,
         turn: u32,
     ) -> Result<(), AllocError>
-        ensures visited { let c = either N.REQUESTS N.meaning K.meaning in let k = kdc_calls D.told D.asked D.faults in
+        ensures visited { let c = either N.REQUESTS N.meaning K.meaning in let k =
+            kdc_calls D.told D.asked D.faults in
             (came : Place (SspiContext N K) C D) (rounds : ℕ) → turn ≡ rounds + 1 →
             IsKept c C.meaning k came rounds self.old (session self.old.number desk.old) →
-            OnOk result (IsKept c C.meaning k came turn self.new (session self.old.number desk.new)) }
+            OnOk result (IsKept c C.meaning k came turn self.new
+            (session self.old.number desk.new)) }
         ensures number { self.new.number ≡ self.old.number }
         ensures others { OthersStay self.old.number desk.old desk.new }
     {
@@ -142,11 +145,15 @@ impl<N: Mechanism, K: Mechanism, D: Kdc> Guest<N, K, D> {
         desk: &mut Desk<N, K, C>,
         turn: u32,
     ) -> Result<(), AllocError>
-        ensures visited { let c = either N.REQUESTS N.meaning K.meaning in let k = kdc_calls D.told D.asked D.faults in
-            (came : Place (SspiContext N K) C D) (server : ServerView (SspiContext N K) C) → self.old.next ≡ None →
-            IsSpeaking c C.meaning k came turn self.old → Alone c C.meaning came.server self.old.calls self.old.answers server →
+        ensures visited { let c = either N.REQUESTS N.meaning K.meaning in let k =
+            kdc_calls D.told D.asked D.faults in
+            (came : Place (SspiContext N K) C D) (server : ServerView (SspiContext N K) C) →
+            self.old.next ≡ None →
+            IsSpeaking c C.meaning k came turn self.old →
+            Alone c C.meaning came.server self.old.calls self.old.answers server →
             session self.old.number desk.old ≡ Some server →
-            OnOk result (IsKept c C.meaning k came turn self.new (session self.old.number desk.new)) }
+            OnOk result (IsKept c C.meaning k came turn self.new
+            (session self.old.number desk.new)) }
         ensures number { self.new.number ≡ self.old.number }
         ensures others { OthersStay self.old.number desk.old desk.new }
     {
@@ -190,13 +197,15 @@ fn serve<N: Mechanism, K: Mechanism, C: CredentialsProxy>(
     number: u64,
     bytes: &Bytes,
 ) -> Result<Served, DeskError>
-    ensures serves { Serves (either N.REQUESTS N.meaning K.meaning) C.meaning number bytes.now result desk.old desk.new }
+    ensures serves { Serves (either N.REQUESTS N.meaning K.meaning) C.meaning number bytes.now
+        result desk.old desk.new }
     ensures others { OthersStay number desk.old desk.new }
 {
     desk.serve(number, bytes.as_slice())
 }
 
-/// Puts a value in the place of another. Generic, as what follows is, since to drop a value of a type parameter is one step.
+/// Puts a value in the place of another. Generic, as what follows is, since to drop a value of a
+/// type parameter is one step.
 fn put<T: Drop>(place: &mut T, value: T)
     ensures { place.new ≡ value }
 {
@@ -209,7 +218,8 @@ fn push_both<A: Drop, B: Drop>(
     seconds: &mut Rows<B>,
     second: B,
 ) -> Result<(), AllocError>
-    ensures { OnOk result ((firsts.new ≡ firsts.old ++ first ∷ []) × (seconds.new ≡ seconds.old ++ second ∷ [])) }
+    ensures { OnOk result ((firsts.new ≡ firsts.old ++ first ∷ []) ×
+        (seconds.new ≡ seconds.old ++ second ∷ [])) }
 {
     firsts.push(first)?;
     seconds.push(second)

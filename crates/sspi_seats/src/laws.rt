@@ -7,9 +7,11 @@ ghost use Rattle.sspi_desk.specs.declared.answer.Served.{Served};
 ghost use Rattle.sspi_seats.specs.Outcomes.{Shows, kind_of};
 ghost use Rattle.sspi_seats.specs.declared.seat.SeatOutcome.{SeatOutcome};
 
-/// Turns, calls and answers show one kind of outcome at most. So each comes exactly where they show it.
+/// Turns, calls and answers show one kind of outcome at most. So each comes exactly where they show
+/// it.
 pub fn one_kind_is_shown()
     ensures { (limit : ℕ) (outcome other : SeatOutcome) (turns : List Turn) (calls : List (List ℕ))
         (answers : List (Result Served DeskError)) →
-        Shows limit outcome turns calls answers → Shows limit other turns calls answers → kind_of outcome ≡ kind_of other }
+        Shows limit outcome turns calls answers → Shows limit other turns calls answers →
+        kind_of outcome ≡ kind_of other }
 {}

@@ -32,8 +32,8 @@ pub enum SeatOutcome {
     Client(Error),
     /// The server refused.
     Server(Error),
-    /// What this end was sent is no request. The kind is `UnexpectedEof` where it ends too early or its header is at fault, and else
-    /// `InvalidData`.
+    /// What this end was sent is no request. The kind is `UnexpectedEof` where it ends too early or
+    /// its header is at fault, and else `InvalidData`.
     Read(End, WireKind),
     /// The message of this end has a content of more than `sspi_ber::MAX_CONTENT`, 1048576 octets.
     Write(End),

@@ -1,6 +1,7 @@
 //! Clients that have a session each at one desk.
 
-ghost use Rattle.std.specs.Prelude.{◌≡◌, ◌+◌, ◌++◌, ◌<◌, ◌≤◌, ◌^◌, ℕ, List, [], ◌∷◌, IfOk, OnOk, is_some, length, map};
+ghost use Rattle.std.specs.Prelude.{◌≡◌, ◌+◌, ◌++◌, ◌<◌, ◌≤◌, ◌^◌, ℕ, List, [], ◌∷◌, IfOk, OnOk};
+ghost use Rattle.std.specs.Prelude.{is_some, length, map};
 ghost use Rattle.std.specs.List.{list_any};
 ghost use Rattle.sspi_credssp.specs.Context.{either};
 ghost use Rattle.sspi_credssp.specs.declared.context.SspiContext.{SspiContext};
@@ -56,7 +57,8 @@ impl<N: Mechanism, K: Mechanism, C: CredentialsProxy, D: Kdc + Drop> Sessions<N,
         joined: Vec<Joined<N, K, C, D>>,
     ) -> Result<Sessions<N, K, C, D>, AllocError>
         requires { length joined.items ≤ limit }
-        ensures { let c = either N.REQUESTS N.meaning K.meaning in let k = kdc_calls D.told D.asked D.faults in
+        ensures { let c = either N.REQUESTS N.meaning K.meaning in let k =
+            kdc_calls D.told D.asked D.faults in
             IfOk result (AreSeated c C.meaning k (map place_of joined.items)) }
     {
         let mut sessions = Sessions::new(alloc, limit);
@@ -69,7 +71,8 @@ impl<N: Mechanism, K: Mechanism, C: CredentialsProxy, D: Kdc + Drop> Sessions<N,
     /// Admits the server of one client more.
     fn admit(&mut self, joined: Joined<N, K, C, D>) -> Result<(), AllocError>
         requires { self.old.desk.admitted + 1 < 2 ^ 64 }
-        ensures { let c = either N.REQUESTS N.meaning K.meaning in let k = kdc_calls D.told D.asked D.faults in
+        ensures { let c = either N.REQUESTS N.meaning K.meaning in let k =
+            kdc_calls D.told D.asked D.faults in
             (cames : List (Place (SspiContext N K) C D)) → AreSeated c C.meaning k cames self.old →
             OnOk result (AreSeated c C.meaning k (cames ++ place_of joined ∷ []) self.new) }
     {
@@ -93,7 +96,8 @@ impl<N: Mechanism, K: Mechanism, C: CredentialsProxy, D: Kdc + Drop> Sessions<N,
 
     /// At most so many rounds.
     pub(crate) fn serve(&mut self, limit: u32) -> Result<(), AllocError>
-        ensures { let c = either N.REQUESTS N.meaning K.meaning in let k = kdc_calls D.told D.asked D.faults in
+        ensures { let c = either N.REQUESTS N.meaning K.meaning in let k =
+            kdc_calls D.told D.asked D.faults in
             (cames : List (Place (SspiContext N K) C D)) → AreSeated c C.meaning k cames self.old →
             OnOk result (AreVisited c C.meaning k cames limit 0 self.new) }
     {
@@ -115,7 +119,8 @@ impl<N: Mechanism, K: Mechanism, C: CredentialsProxy, D: Kdc + Drop> Sessions<N,
 
     /// The round of this number, from 1.
     fn serve_round(&mut self, turn: u32) -> Result<(), AllocError>
-        ensures { let c = either N.REQUESTS N.meaning K.meaning in let k = kdc_calls D.told D.asked D.faults in
+        ensures { let c = either N.REQUESTS N.meaning K.meaning in let k =
+            kdc_calls D.told D.asked D.faults in
             (cames : List (Place (SspiContext N K) C D)) (rounds : ℕ) → turn ≡ rounds + 1 →
             AreVisited c C.meaning k cames rounds 0 self.old →
             OnOk result (AreVisited c C.meaning k cames turn 0 self.new) }
@@ -128,7 +133,8 @@ impl<N: Mechanism, K: Mechanism, C: CredentialsProxy, D: Kdc + Drop> Sessions<N,
 
     /// The client of this seat has the round of this number.
     fn serve_guest(&mut self, at: usize, turn: u32) -> Result<(), AllocError>
-        ensures { let c = either N.REQUESTS N.meaning K.meaning in let k = kdc_calls D.told D.asked D.faults in
+        ensures { let c = either N.REQUESTS N.meaning K.meaning in let k =
+            kdc_calls D.told D.asked D.faults in
             (cames : List (Place (SspiContext N K) C D)) (rounds : ℕ) → turn ≡ rounds + 1 →
             AreVisited c C.meaning k cames rounds at self.old →
             OnOk result (AreVisited c C.meaning k cames rounds (at + 1) self.new) }
@@ -141,8 +147,10 @@ impl<N: Mechanism, K: Mechanism, C: CredentialsProxy, D: Kdc + Drop> Sessions<N,
 
     /// Closes the sessions, the first one first, and hands out the seats.
     pub(crate) fn leave(self) -> Result<Rows<Seat<N, K, C, D>>, AllocError>
-        ensures { let c = either N.REQUESTS N.meaning K.meaning in let k = kdc_calls D.told D.asked D.faults in
-            (cames : List (Place (SspiContext N K) C D)) (limit : ℕ) → AreVisited c C.meaning k cames limit 0 self →
+        ensures { let c = either N.REQUESTS N.meaning K.meaning in let k =
+            kdc_calls D.told D.asked D.faults in
+            (cames : List (Place (SspiContext N K) C D)) (limit : ℕ) →
+            AreVisited c C.meaning k cames limit 0 self →
             IfOk result (AreSeats c C.meaning k cames limit) }
     {
         let Sessions {
@@ -158,14 +166,17 @@ impl<N: Mechanism, K: Mechanism, C: CredentialsProxy, D: Kdc + Drop> Sessions<N,
     }
 }
 
-/// Closes the session of a client, and adds its seat. Fails where there is no memory, or no such session.
+/// Closes the session of a client, and adds its seat. Fails where there is no memory, or no such
+/// session.
 fn leave_one<N: Mechanism, K: Mechanism, C: CredentialsProxy, D: Kdc + Drop>(
     desk: &mut Desk<N, K, C>,
     guest: Guest<N, K, D>,
     seats: &mut Rows<Seat<N, K, C, D>>,
 ) -> Result<(), AllocError>
-    ensures left { let c = either N.REQUESTS N.meaning K.meaning in let k = kdc_calls D.told D.asked D.faults in
-        (came : Place (SspiContext N K) C D) (limit : ℕ) → IsKept c C.meaning k came limit guest (session guest.number desk.old) →
+    ensures left { let c = either N.REQUESTS N.meaning K.meaning in let k =
+        kdc_calls D.told D.asked D.faults in
+        (came : Place (SspiContext N K) C D) (limit : ℕ) →
+        IsKept c C.meaning k came limit guest (session guest.number desk.old) →
         OnOk result (HasLeft c C.meaning k came limit seats.old seats.new) }
     ensures others { OthersStay guest.number desk.old desk.new }
 {

@@ -35,8 +35,8 @@ impl From<AllocError> for JoinError {
     }
 }
 
-/// Clients that will have a session each at one desk, the first one session 0. None moves, and none of their servers is sent anything,
-/// before `finish`.
+/// Clients that will have a session each at one desk, the first one session 0. None moves, and none
+/// of their servers is sent anything, before `finish`.
 #[derive(Drop)]
 pub struct Table<N, K, C, D> {
     alloc: Global,
@@ -79,8 +79,8 @@ impl<N, K, C, D> Table<N, K, C, D> {
 impl<N: Mechanism, K: Mechanism, C: CredentialsProxy, D: Kdc + Drop> Table<N, K, C, D> {
     /// Seats a client with its KDC and its server, behind those that joined before.
     ///
-    /// `Full` exactly where as many joined as may, which `is_full` tells. A refusal changes nothing, and drops the client, the KDC and
-    /// the server.
+    /// `Full` exactly where as many joined as may, which `is_full` tells. A refusal changes
+    /// nothing, and drops the client, the KDC and the server.
     pub fn join(
         &mut self,
         client: CredSspClient<N, K>,
@@ -103,14 +103,16 @@ impl<N: Mechanism, K: Mechanism, C: CredentialsProxy, D: Kdc + Drop> Table<N, K,
         Ok(())
     }
 
-    /// Admits the servers to a desk, and holds at most `limit` rounds, until no client runs: in each round every client that still runs
-    /// makes a turn, and its session is served, one after the other. Then the sessions are closed, and the seats handed out in the
-    /// order in which their clients joined.
+    /// Admits the servers to a desk, and holds at most `limit` rounds, until no client runs: in
+    /// each round every client that still runs makes a turn, and its session is served, one after
+    /// the other. Then the sessions are closed, and the seats handed out in the order in which
+    /// their clients joined.
     ///
-    /// Fails only when out of memory, also where it came up in a turn, in a call on the desk or in a KDC. The clients, the KDCs and the
-    /// servers are dropped then, whatever they did before.
+    /// Fails only when out of memory, also where it came up in a turn, in a call on the desk or in
+    /// a KDC. The clients, the KDCs and the servers are dropped then, whatever they did before.
     pub fn finish(self, limit: u32) -> Result<Rows<Seat<N, K, C, D>>, AllocError>
-        ensures { let c = either N.REQUESTS N.meaning K.meaning in let k = kdc_calls D.told D.asked D.faults in
+        ensures { let c = either N.REQUESTS N.meaning K.meaning in let k =
+            kdc_calls D.told D.asked D.faults in
             IfOk result (AreSeats c C.meaning k self.places limit) }
     {
         let Table {

@@ -1,6 +1,7 @@
 //! A mechanism whose steps a script tells, and which protects nothing.
 
-ghost use Rattle.std.specs.Prelude.{◌≡◌, ◌<◌, ◌≤◌, ◌-◌, None, false, true, refl, length, drop, IfOk, IfErr, OnOk, OnErr};
+ghost use Rattle.std.specs.Prelude.{◌≡◌, ◌<◌, ◌≤◌, ◌-◌, None, false, true, refl, length, drop};
+ghost use Rattle.std.specs.Prelude.{IfOk, IfErr, OnOk, OnErr};
 ghost use Rattle.std.proofs.Common.{ap, arith};
 ghost use Rattle.sspi_types.specs.Packages.{ntlm_entry};
 ghost use Rattle.sspi_mech.specs.Ntlm.{ntlm_sizes};
@@ -37,8 +38,9 @@ pub trait Script: Drop {
     fn accept<'a>(token: &'a [u8]) -> Told<'a>;
 }
 
-/// A mechanism that does as its script tells. A client asks a KDC `TIMES` times at most, and a server's peer is `DOM\ann`. It protects
-/// nothing: a blob is sixteen zeros and the text, and the MIC of a text is the text, so that a token shows what was signed.
+/// A mechanism that does as its script tells. A client asks a KDC `TIMES` times at most, and a
+/// server's peer is `DOM\ann`. It protects nothing: a blob is sixteen zeros and the text, and the
+/// MIC of a text is the text, so that a token shows what was signed.
 #[derive(Drop)]
 pub struct Scripted<S, const TIMES: u32> {
     script: PhantomData<S>,
@@ -95,7 +97,8 @@ fn text_in(alloc: Global, blob: &[u8]) -> Result<Vec<u8>, Error>
 
 impl<S: Script, const TIMES: u32> Scripted<S, TIMES> {
     fn ask(&mut self) -> Result<NetworkRequest, Error>
-        ensures asked { OnOk result ((self.new ≡ record self.old { left = self.new.left; waiting = true })
+        ensures asked { OnOk result
+            ((self.new ≡ record self.old { left = self.new.left; waiting = true })
             × (self.new.left < self.old.left)) }
         ensures err { OnErr result (self.new ≡ self.old) }
         ensures codeless { IfErr result (λ error. error.nstatus ≡ None) }
@@ -124,7 +127,10 @@ impl<S: Script, const TIMES: u32> Scripted<S, TIMES> {
     }
 
     fn asks_or_steps(&mut self, told: Option<Told<'_>>) -> Answer
-        ensures told { (self.new ≡ record self.old { left = self.new.left; waiting = self.new.waiting })
+        ensures told { (self.new ≡ record self.old {
+          left = self.new.left;
+          waiting = self.new.waiting;
+        })
             × (self.new.left ≤ self.old.left) × elim result as (λ _. Type 0) [
               | answers.Done _ ↦ self.new.waiting ≡ false
               | answers.Ask _ ↦ (self.new.left < self.old.left) × (self.new.waiting ≡ true)
@@ -151,7 +157,8 @@ impl<S: Script, const TIMES: u32> Mechanism for Scripted<S, TIMES> {
     ghost REQUESTS = { TIMES };
 
     ghost meaning = { record {
-      made = λ _ m. (m.left ≡ TIMES) × (m.sealings ≡ 0) × (m.unsealings ≡ 0) × (m.signings ≡ 0) × (m.verifications ≡ 0);
+      made = λ _ m. (m.left ≡ TIMES) × (m.sealings ≡ 0) × (m.unsealings ≡ 0) × (m.signings ≡ 0) ×
+          (m.verifications ≡ 0);
       unmade = λ _ _. ⊥;
       acquires = λ m _ _ _ m2. m2 ≡ m;
       steps = λ m _ answer m2. (m2 ≡ record m { left = m2.left; waiting = m2.waiting })
@@ -166,7 +173,8 @@ impl<S: Script, const TIMES: u32> Mechanism for Scripted<S, TIMES> {
             | answers.Ask _ ↦ (m2.left < m.left) × (m2.waiting ≡ true)
             | answers.Refused _ ↦ m2 ≡ m
           ];
-      accepts = λ m _ answer m2. (m2 ≡ record m { peer = m2.peer }) × OnOk answer (m2.waiting ≡ false) × OnErr answer (m2 ≡ m);
+      accepts = λ m _ answer m2. (m2 ≡ record m { peer = m2.peer }) ×
+          OnOk answer (m2.waiting ≡ false) × OnErr answer (m2 ≡ m);
       identifies = λ m _ m2. m2 ≡ m;
       names = λ m. m.peer;
       keyed = λ _. true;
@@ -174,9 +182,19 @@ impl<S: Script, const TIMES: u32> Mechanism for Scripted<S, TIMES> {
       waits = λ m. m.waiting;
       left = λ m. m.left;
       pairs = λ _. false;
-      counts = λ m. record { sealings = m.sealings; unsealings = m.unsealings; signings = m.signings; verifications = m.verifications };
+      counts = λ m. record {
+        sealings = m.sealings;
+        unsealings = m.unsealings;
+        signings = m.signings;
+        verifications = m.verifications;
+      };
       counted = λ m n.
-          record m { sealings = n.sealings; unsealings = n.unsealings; signings = n.signings; verifications = n.verifications };
+          record m {
+            sealings = n.sealings;
+            unsealings = n.unsealings;
+            signings = n.signings;
+            verifications = n.verifications;
+          };
       seals = λ _ _ _ blob. 16 ≤ length blob;
       opens = λ _ _ blob text. text ≡ drop 16 blob;
       signs = λ _ _ _ _. Unit {0};

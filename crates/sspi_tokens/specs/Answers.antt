@@ -14,7 +14,8 @@ malformed = record { error_type = InvalidToken; description = TokenForm; nstatus
 abbrev pub too_long : Error
 too_long = record { error_type = InternalError; description = TooLong; nstatus = None }
 
--- The token that the bytes begin with, for which memory may be wanting; exactly `malformed` where they begin with none.
+-- The token that the bytes begin with, for which memory may be wanting; exactly `malformed` where
+-- they begin with none.
 abbrev pub ReadsAs : {T : Type 0} → Option T → Result T Error → Type 0
 ReadsAs (Some token) (Ok x) = x ≡ token
 ReadsAs (Some token) (Err error) = error ≡ memory_error

@@ -5,14 +5,16 @@ use Rattle.sspi_ber.specs.Forms.{IsElement, IsNotNext}
 use Rattle.sspi_tokens.specs.Oids.{spnego}
 use Rattle.sspi_tokens.specs.Nested.{IsAround, IsWhole, IsOptional, InOrder}
 use Rattle.sspi_tokens.specs.declared.neg_result.NegResult.{NegResult}
-use Rattle.sspi_tokens.specs.declared.neg_result.NegResult.TheVariants.{AcceptComplete, AcceptIncomplete, Other}
+use Rattle.sspi_tokens.specs.declared.neg_result.NegResult.TheVariants.{AcceptComplete}
+use Rattle.sspi_tokens.specs.declared.neg_result.NegResult.TheVariants.{AcceptIncomplete, Other}
 use Rattle.sspi_tokens.specs.declared.neg_token_init.NegTokenInit.{NegTokenInit}
 use Rattle.sspi_tokens.specs.declared.neg_token_targ.NegTokenTarg.{NegTokenTarg}
 
 -- object identifiers one after the other, up to the first other tag
 abbrev pub IsOids : List ℕ → List (List ℕ) → List ℕ → Type 0
 IsOids text [] following = (text ≡ []) × IsNotNext 0x06 following
-IsOids text (oid ∷ oids) following = (first rest : List ℕ) × (text ≡ first ++ rest) × IsElement 0x06 first oid × IsOids rest oids following
+IsOids text (oid ∷ oids) following = (first rest : List ℕ) × (text ≡ first ++ rest) ×
+    IsElement 0x06 first oid × IsOids rest oids following
 
 -- MechTypeList: SEQUENCE OF OBJECT IDENTIFIER
 abbrev pub IsMechTypes : List ℕ → List (List ℕ) → List ℕ → Type 0
@@ -22,8 +24,8 @@ IsMechTypes = IsAround 0x30 IsOids
 abbrev pub IsOctets : ℕ → List ℕ → List ℕ → List ℕ → Type 0
 IsOctets tag = IsAround tag (IsWhole 0x04)
 
--- The fields of NegTokenInit: mechTypes, flags of any content, mechToken, and any [3] (mechListMIC of RFC 4178, negHints of
--- MS-SPNG 2.2.1). What stands behind them is not looked at.
+-- The fields of NegTokenInit: mechTypes, flags of any content, mechToken, and any [3] (mechListMIC
+-- of RFC 4178, negHints of MS-SPNG 2.2.1). What stands behind them is not looked at.
 abbrev pub IsInitFields : List ℕ → NegTokenInit → List ℕ → Type 0
 IsInitFields text token following = (flags hints : Option (List ℕ))
     × InOrder (IsOptional 0xA0 (IsAround 0xA0 IsMechTypes)) (IsOptional 0xA1 (IsWhole 0xA1))
@@ -44,15 +46,18 @@ IsInit = IsAround 0x60 IsInitContent
 
 -- negState: accept-completed is 0 and accept-incomplete is 1
 abbrev pub result_of : List ℕ → NegResult
-result_of content = if bytes_eq content (0 ∷ []) then AcceptComplete else if bytes_eq content (1 ∷ []) then AcceptIncomplete else Other
+result_of content = if bytes_eq content (0 ∷ []) then AcceptComplete
+    else if bytes_eq content (1 ∷ []) then AcceptIncomplete else Other
 
 abbrev pub IsResult : List ℕ → NegResult → List ℕ → Type 0
-IsResult text result following = (content : List ℕ) × IsElement 0x0A text content × (result ≡ result_of content)
+IsResult text result following = (content : List ℕ) × IsElement 0x0A text content ×
+    (result ≡ result_of content)
 
 -- the fields of NegTokenResp: negState, supportedMech, responseToken, mechListMIC
 abbrev pub IsTargFields : List ℕ → NegTokenTarg → List ℕ → Type 0
 IsTargFields text token following =
-    InOrder (IsOptional 0xA0 (IsAround 0xA0 IsResult)) (IsOptional 0xA1 (IsAround 0xA1 (IsWhole 0x06)))
+    InOrder (IsOptional 0xA0 (IsAround 0xA0 IsResult))
+    (IsOptional 0xA1 (IsAround 0xA1 (IsWhole 0x06)))
     (IsOptional 0xA2 (IsOctets 0xA2)) (IsOptional 0xA3 (IsOctets 0xA3))
     text token.neg_result token.supported_mech token.response_token token.mech_list_mic following
 

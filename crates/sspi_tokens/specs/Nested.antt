@@ -1,17 +1,20 @@
--- Forms inside forms: what stands in an element is read inside its content alone, and what is left over there is not looked
--- at. A form says what the text, the value and what follows the text have to do with one another.
+-- Forms inside forms: what stands in an element is read inside its content alone, and what is left
+-- over there is not looked at. A form says what the text, the value and what follows the text have
+-- to do with one another.
 use Rattle.std.specs.Prelude.{◌≡◌, ℕ, List, [], ◌++◌, Option, None, Some}
 use Rattle.sspi_ber.specs.Forms.{IsElement, IsNotNext}
 
 -- the bytes begin with a text of this form
-pub record Begins {A : Type 0} (Form : List ℕ → A → List ℕ → Type 0) (bytes : List ℕ) (x : A) : Type 0 where
+pub record Begins {A : Type 0} (Form : List ℕ → A → List ℕ → Type 0) (bytes : List ℕ) (x : A) : Type
+    0 where
   pub text : List ℕ
   pub rest : List ℕ
   pub parts : bytes ≡ text ++ rest
   pub form : Form text x rest
 
 -- an element whose content begins with a text of this form
-pub record IsAround {A : Type 0} (tag : ℕ) (Form : List ℕ → A → List ℕ → Type 0) (text : List ℕ) (x : A) (following : List ℕ) : Type 0 where
+pub record IsAround {A : Type 0} (tag : ℕ) (Form : List ℕ → A → List ℕ →
+    Type 0) (text : List ℕ) (x : A) (following : List ℕ) : Type 0 where
   pub content : List ℕ
   pub element : IsElement tag text content
   pub inside : Begins Form content x
@@ -20,15 +23,19 @@ pub record IsAround {A : Type 0} (tag : ℕ) (Form : List ℕ → A → List ℕ
 abbrev pub IsWhole : ℕ → List ℕ → List ℕ → List ℕ → Type 0
 IsWhole tag text content following = IsElement tag text content
 
--- An optional text, which begins with this tag where it is there. Where it is absent, that tag does not come next.
-abbrev pub IsOptional : {A : Type 0} → ℕ → (List ℕ → A → List ℕ → Type 0) → List ℕ → Option A → List ℕ → Type 0
+-- An optional text, which begins with this tag where it is there. Where it is absent, that tag does
+-- not come next.
+abbrev pub IsOptional : {A : Type 0} → ℕ → (List ℕ → A → List ℕ → Type 0) → List ℕ → Option A →
+    List ℕ → Type 0
 IsOptional tag Form text None following = (text ≡ []) × IsNotNext tag following
 IsOptional tag Form text (Some x) following = Form text x following
 
 -- four optional elements in this order
-pub record InOrder {A B C D : Type 0} (F : List ℕ → Option A → List ℕ → Type 0) (G : List ℕ → Option B → List ℕ → Type 0)
+pub record InOrder {A B C D : Type 0} (F : List ℕ → Option A → List ℕ → Type 0) (G : List ℕ →
+    Option B → List ℕ → Type 0)
     (H : List ℕ → Option C → List ℕ → Type 0) (K : List ℕ → Option D → List ℕ → Type 0)
-    (text : List ℕ) (a : Option A) (b : Option B) (c : Option C) (d : Option D) (following : List ℕ) : Type 0 where
+    (text : List ℕ) (a : Option A) (b : Option B) (c : Option C) (d : Option D)
+    (following : List ℕ) : Type 0 where
   pub first : List ℕ
   pub second : List ℕ
   pub third : List ℕ

@@ -17,7 +17,10 @@ abbrev pub oids_in : List ℕ → List (List ℕ)
 oids_in content = list_or_none (oids_at content)
 
 abbrev pub init_seen : InitParts → NegTokenInit
-init_seen parts = record { mech_types = option_map oids_in (option_copied parts.mech_types); mech_token = option_copied parts.mech_token }
+init_seen parts = record {
+  mech_types = option_map oids_in (option_copied parts.mech_types);
+  mech_token = option_copied parts.mech_token;
+}
 
 abbrev pub targ_seen : TargParts → NegTokenTarg
 targ_seen parts = record {

@@ -1,5 +1,6 @@
 -- The tokens read from left to right: the grammar as functions.
-use Rattle.std.specs.Prelude.{ℕ, Bool, false, ◌==◌, List, [], ◌∷◌, length, Option, None, Some, Ok, Err, if◌then◌else◌}
+use Rattle.std.specs.Prelude.{ℕ, Bool, false, ◌==◌, List, [], ◌∷◌, length, Option, None, Some, Ok}
+use Rattle.std.specs.Prelude.{Err, if◌then◌else◌}
 use Rattle.std.specs.Str.{bytes_eq}
 use Prim.Native.Nat.{zero, suc}
 use Rattle.sspi_ber.specs.Pieces.{Invalid, Read, ◌>>=◌, element_at}
@@ -23,14 +24,16 @@ around_at tag inner bytes = do
 
 -- what element reads, where this tag comes next
 unfoldable pub optional_at : {A : Type 0} → ℕ → (List ℕ → Read A) → List ℕ → Read (Option A)
-optional_at tag element bytes = if is_next tag bytes then (element bytes >>= λ x. Ok (Some x.0, x.1)) else Ok (None, bytes)
+optional_at tag element bytes = if is_next tag bytes
+    then (element bytes >>= λ x. Ok (Some x.0, x.1)) else Ok (None, bytes)
 
 -- at most so many object identifiers
 abbrev pub oids_up_to : ℕ → List ℕ → Read (List (List ℕ))
 oids_up_to zero bytes = Ok ([], bytes)
 oids_up_to (suc most) bytes =
     if is_next 0x06 bytes
-    then (element_at 0x06 bytes >>= λ oid. oids_up_to most oid.1 >>= λ oids. Ok (oid.0 ∷ oids.0, oids.1))
+    then (element_at 0x06 bytes >>= λ oid. oids_up_to most oid.1 >>= λ oids. Ok
+    (oid.0 ∷ oids.0, oids.1))
     else Ok ([], bytes)
 
 -- each takes a byte at least
@@ -54,7 +57,8 @@ init_fields_at bytes = do
 unfoldable pub init_content_at : List ℕ → Read NegTokenInit
 init_content_at bytes = do
   mech ← element_at 0x06 bytes
-  if bytes_eq mech.0 spnego then around_at 0xA0 (around_at 0x30 init_fields_at) mech.1 else Err Invalid
+  if bytes_eq mech.0 spnego then around_at 0xA0 (around_at 0x30 init_fields_at) mech.1
+  else Err Invalid
 
 unfoldable pub init_at : List ℕ → Read NegTokenInit
 init_at bytes = around_at 0x60 init_content_at bytes

@@ -1,11 +1,13 @@
 -- The shortest encoding of the tokens. There is none where a length passes the limit.
-use Rattle.std.specs.Prelude.{ℕ, nat_le, List, [], ◌∷◌, ◌++◌, length, Option, None, Some, if◌then◌else◌}
+use Rattle.std.specs.Prelude.{ℕ, nat_le, List, [], ◌∷◌, ◌++◌, length, Option, None, Some}
+use Rattle.std.specs.Prelude.{if◌then◌else◌}
 use Rattle.std.specs.Option.{option_map}
 use Rattle.sspi_ber.specs.Forms.{max_content}
 use Rattle.sspi_ber.specs.Short.{element}
 use Rattle.sspi_tokens.specs.Oids.{spnego}
 use Rattle.sspi_tokens.specs.declared.neg_result.NegResult.{NegResult}
-use Rattle.sspi_tokens.specs.declared.neg_result.NegResult.TheVariants.{AcceptComplete, AcceptIncomplete, Other}
+use Rattle.sspi_tokens.specs.declared.neg_result.NegResult.TheVariants.{AcceptComplete}
+use Rattle.sspi_tokens.specs.declared.neg_result.NegResult.TheVariants.{AcceptIncomplete, Other}
 use Rattle.sspi_tokens.specs.declared.neg_token_init.NegTokenInit.{NegTokenInit}
 use Rattle.sspi_tokens.specs.declared.neg_token_targ.NegTokenTarg.{NegTokenTarg}
 
@@ -30,7 +32,8 @@ unfoldable pub mech_types_text : List (List ℕ) → List ℕ
 mech_types_text list = element 0x30 (oids_text list)
 
 unfoldable pub init_fields : NegTokenInit → List ℕ
-init_fields token = field 0xA0 (option_map mech_types_text token.mech_types) ++ field 0xA2 (option_map (element 0x04) token.mech_token)
+init_fields token = field 0xA0 (option_map mech_types_text token.mech_types) ++
+    field 0xA2 (option_map (element 0x04) token.mech_token)
 
 unfoldable pub init_content : NegTokenInit → List ℕ
 init_content token = element 0x06 spnego ++ element 0xA0 (element 0x30 (init_fields token))
@@ -49,10 +52,12 @@ result_text result = element 0x0A (result_code result ∷ [])
 
 unfoldable pub octet_fields : NegTokenTarg → List ℕ
 octet_fields token =
-    field 0xA2 (option_map (element 0x04) token.response_token) ++ field 0xA3 (option_map (element 0x04) token.mech_list_mic)
+    field 0xA2 (option_map (element 0x04) token.response_token) ++
+    field 0xA3 (option_map (element 0x04) token.mech_list_mic)
 
 unfoldable pub last_fields : NegTokenTarg → List ℕ
-last_fields token = field 0xA1 (option_map (element 0x06) token.supported_mech) ++ octet_fields token
+last_fields token = field 0xA1 (option_map (element 0x06) token.supported_mech) ++
+    octet_fields token
 
 unfoldable pub targ_fields : NegTokenTarg → List ℕ
 targ_fields token = field 0xA0 (option_map result_text token.neg_result) ++ last_fields token

@@ -47,7 +47,8 @@ fn read_oids(alloc: Global, source: &mut SliceSource<'_>) -> Result<Vec<Oid>, Wi
     Ok(oids)
 }
 
-/// The identifiers that the content of a list begins with. They were read before, so memory alone can run out.
+/// The identifiers that the content of a list begins with. They were read before, so memory alone
+/// can run out.
 fn copy_oids(alloc: Global, content: &[u8]) -> Result<MechTypeList, AllocError>
     ensures { IfOk result (λ list. list ≡ oids_in content.now) }
 {

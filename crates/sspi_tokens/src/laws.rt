@@ -11,29 +11,35 @@ ghost use Rattle.sspi_tokens.specs.declared.neg_token_targ.NegTokenTarg.{NegToke
 
 use crate::oid::MechKind;
 
-/// What `NegTokenInit::decode` reads is the grammar: the bytes begin with that token, and with no other.
+/// What `NegTokenInit::decode` reads is the grammar: the bytes begin with that token, and with no
+/// other.
 pub fn init_is_grammar()
-    ensures { (bytes : List ℕ) (token : NegTokenInit) → (init_of bytes ≡ Some token) ↔ Begins IsInit bytes token }
+    ensures { (bytes : List ℕ) (token : NegTokenInit) → (init_of bytes ≡ Some token) ↔
+        Begins IsInit bytes token }
 {}
 
 /// The same of `NegTokenTarg::decode`.
 pub fn targ_is_grammar()
-    ensures { (bytes : List ℕ) (token : NegTokenTarg) → (targ_of bytes ≡ Some token) ↔ Begins IsTarg bytes token }
+    ensures { (bytes : List ℕ) (token : NegTokenTarg) → (targ_of bytes ≡ Some token) ↔
+        Begins IsTarg bytes token }
 {}
 
 /// A token that was encoded reads back, whatever follows it.
 pub fn init_reads_back()
-    ensures { (token : NegTokenInit) (text more : List ℕ) → spelled_init token ≡ Some text → init_of (text ++ more) ≡ Some token }
+    ensures { (token : NegTokenInit) (text more : List ℕ) → spelled_init token ≡ Some text →
+        init_of (text ++ more) ≡ Some token }
 {}
 
 /// The same of the other token.
 pub fn targ_reads_back()
-    ensures { (token : NegTokenTarg) (text more : List ℕ) → spelled_targ token ≡ Some text → targ_of (text ++ more) ≡ Some token }
+    ensures { (token : NegTokenTarg) (text more : List ℕ) → spelled_targ token ≡ Some text →
+        targ_of (text ++ more) ≡ Some token }
 {}
 
 /// An encoding is that of one mechanism list at most, so a MIC over it is one over the list.
 pub fn list_is_known_by_spelling()
-    ensures { (list other : List (List ℕ)) (text : List ℕ) → spelled_list list ≡ Some text → spelled_list other ≡ Some text → list ≡ other }
+    ensures { (list other : List (List ℕ)) (text : List ℕ) → spelled_list list ≡ Some text →
+        spelled_list other ≡ Some text → list ≡ other }
 {}
 
 /// Each known mechanism has one identifier, by which it is known.
@@ -41,5 +47,6 @@ pub fn kinds_are_identifiers()
     ensures ms_kerberos { (oid : List ℕ) → (kind_of oid ≡ MechKind.MsKerberos) ↔ (oid ≡ ms_krb5) }
     ensures kerberos { (oid : List ℕ) → (kind_of oid ≡ MechKind.Kerberos) ↔ (oid ≡ krb5) }
     ensures ntlm { (oid : List ℕ) → (kind_of oid ≡ MechKind.Ntlm) ↔ (oid ≡ ntlm_ssp) }
-    ensures known { (kind : MechKind) (oid : List ℕ) → identifier_of kind ≡ Some oid → kind_of oid ≡ kind }
+    ensures known { (kind : MechKind) (oid : List ℕ) → identifier_of kind ≡ Some oid →
+        kind_of oid ≡ kind }
 {}

@@ -15,7 +15,8 @@ use sspi_types::Error;
 use std::alloc::{AllocError, Global};
 use std::marker::Model;
 
-/// Mechanisms in the order of preference (MechTypeList, RFC 4178, section 4.1). Contracts see the list of their identifiers.
+/// Mechanisms in the order of preference (MechTypeList, RFC 4178, section 4.1). Contracts see the
+/// list of their identifiers.
 #[derive(Drop)]
 pub struct MechTypeList {
     list: Vec<Oid>,
@@ -76,9 +77,11 @@ impl MechTypeList {
     }
 }
 
-/// The list alone as a SEQUENCE, over which the MICs of a negotiation are made (RFC 4178, section 5).
+/// The list alone as a SEQUENCE, over which the MICs of a negotiation are made (RFC 4178, section
+/// 5).
 ///
-/// `InternalError` with the reason `TooLong` exactly where its content passes `sspi_ber::MAX_CONTENT`, 1048576 octets.
+/// `InternalError` with the reason `TooLong` exactly where its content passes
+/// `sspi_ber::MAX_CONTENT`, 1048576 octets.
 #[tactic(auto, using(crate::proofs::Encode::refused, crate::proofs::Encode::unwritten, crate::proofs::Encode::written))]
 pub fn encode_mech_types(alloc: Global, list: &MechTypeList) -> Result<Vec<u8>, Error>
     ensures { WritesAs (spelled_list list.now) result }

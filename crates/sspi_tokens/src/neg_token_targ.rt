@@ -28,17 +28,20 @@ pub struct NegTokenTarg {
     pub supported_mech: Option<Oid>,
     /// The next token of the mechanism (`responseToken`), as its octets.
     pub response_token: Option<Bytes>,
-    /// The MIC over the client's list, as `encode_mech_types` encodes it (`mechListMIC`), as its octets.
+    /// The MIC over the client's list, as `encode_mech_types` encodes it (`mechListMIC`), as its
+    /// octets.
     pub mech_list_mic: Option<Bytes>,
 }
 
 impl NegTokenTarg {
     /// Reads the token that `bytes` begin with; what follows it is not looked at.
     ///
-    /// A field that is absent, or whose place another field has, is `None`, and whatever is left over in an element is ignored.
+    /// A field that is absent, or whose place another field has, is `None`, and whatever is left
+    /// over in an element is ignored.
     ///
-    /// `InvalidToken` with the reason `TokenForm` exactly where the bytes begin with no such token. Memory is taken only once the
-    /// whole token was found there, so out of memory never comes in place of that refusal.
+    /// `InvalidToken` with the reason `TokenForm` exactly where the bytes begin with no such token.
+    /// Memory is taken only once the whole token was found there, so out of memory never comes in
+    /// place of that refusal.
     #[tactic(auto, using(crate::proofs::Decode::read_refused, crate::proofs::Decode::read_unkept, crate::proofs::Decode::read_kept))]
     pub fn decode(alloc: Global, bytes: &[u8]) -> Result<NegTokenTarg, Error>
         ensures { ReadsAs (targ_of bytes.now) result }
@@ -51,7 +54,8 @@ impl NegTokenTarg {
 
     /// The token in its shortest encoding.
     ///
-    /// `InternalError` with the reason `TooLong` exactly where a length passes the limit; that takes no memory.
+    /// `InternalError` with the reason `TooLong` exactly where a length passes the limit; that
+    /// takes no memory.
     #[tactic(auto, using(crate::proofs::Encode::refused, crate::proofs::Encode::unwritten, crate::proofs::Encode::written))]
     pub fn encode(&self, alloc: Global) -> Result<Vec<u8>, Error>
         ensures { WritesAs (spelled_targ self.now) result }

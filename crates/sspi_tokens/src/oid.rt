@@ -15,7 +15,8 @@ const KRB5: [u8; 9] = [0x2a, 0x86, 0x48, 0x86, 0xf7, 0x12, 0x01, 0x02, 0x02];
 
 const NTLM_SSP: [u8; 10] = [0x2b, 0x06, 0x01, 0x04, 0x01, 0x82, 0x37, 0x02, 0x02, 0x0a];
 
-/// An OBJECT IDENTIFIER as its content bytes (X.690 8.19), which are not looked into. Contracts see it as this list.
+/// An OBJECT IDENTIFIER as its content bytes (X.690 8.19), which are not looked into. Contracts see
+/// it as this list.
 #[derive(Drop)]
 pub struct Oid {
     content: Bytes,
@@ -49,8 +50,8 @@ impl Eq for Oid {
     ghost laws = { nat_list_eq_equiv };
 }
 
-/// The mechanisms that a negotiation here knows, by their identifiers. It is `Copy`, and stands for an `Oid` where memory is not
-/// to be taken.
+/// The mechanisms that a negotiation here knows, by their identifiers. It is `Copy`, and stands for
+/// an `Oid` where memory is not to be taken.
 #[derive(Clone, Copy, Debug, PartialEq, Eq)]
 pub enum MechKind {
     /// Kerberos under the identifier with the bit error of Windows 2000 (MS-SPNG 1.9).
@@ -64,7 +65,8 @@ pub enum MechKind {
 }
 
 impl MechKind {
-    /// The identifier that names this mechanism, as a token says it (`supported_mech`); `None` for `Other`.
+    /// The identifier that names this mechanism, as a token says it (`supported_mech`); `None` for
+    /// `Other`.
     pub fn identifier(self, alloc: Global) -> Result<Option<Oid>, AllocError>
         ensures { IfOk result (λ oid. oid ≡ identifier_of self) }
     {
@@ -101,7 +103,8 @@ impl Oid {
         Oid::from_content(alloc, &SPNEGO)
     }
 
-    /// 1.2.840.48018.1.2.2, Kerberos under the identifier with the bit error of Windows 2000 (MS-SPNG 1.9).
+    /// 1.2.840.48018.1.2.2, Kerberos under the identifier with the bit error of Windows 2000
+    /// (MS-SPNG 1.9).
     pub fn ms_krb5(alloc: Global) -> Result<Oid, AllocError>
         ensures { IfOk result (λ oid. oid ≡ ms_krb5) }
     {

@@ -1,12 +1,15 @@
-//! Tokens read where they stand, without memory. So every refusal is reached before memory is taken.
+//! Tokens read where they stand, without memory. So every refusal is reached before memory is
+//! taken.
 
 ghost use Rattle.std.specs.Prelude.{◌≡◌};
 ghost use Rattle.std.specs.Option.{option_copied, option_map};
 ghost use Rattle.sspi_ber.specs.Outside.{Gives, NeedsNoMemory};
 ghost use Rattle.sspi_ber.specs.Pieces.{element_at};
 ghost use Rattle.sspi_tokens.specs.Parts.{oids_in, init_seen, targ_seen};
-ghost use Rattle.sspi_tokens.specs.Reading.{is_next, around_at, optional_at, oids_at, mech_types_at, octets_at, result_at};
-ghost use Rattle.sspi_tokens.specs.Reading.{init_fields_at, init_content_at, init_at, targ_fields_at, targ_at};
+ghost use Rattle.sspi_tokens.specs.Reading.{is_next, around_at, optional_at, oids_at};
+ghost use Rattle.sspi_tokens.specs.Reading.{mech_types_at, octets_at, result_at};
+ghost use Rattle.sspi_tokens.specs.Reading.{init_fields_at, init_content_at, init_at};
+ghost use Rattle.sspi_tokens.specs.Reading.{targ_fields_at, targ_at};
 
 use crate::neg_result::NegResult;
 use crate::oid::SPNEGO;
@@ -57,7 +60,8 @@ fn read_field<'a>(
 /// Passes over an optional field by its length.
 #[tactic(auto, unfolding(crate::specs::Reading::optional_at))]
 fn skip_field<'a>(source: &mut SliceSource<'a>, tag: u8) -> Result<Option<&'a [u8]>, WireKind>
-    ensures read { Gives (λ content. option_copied content) source.new result (optional_at tag (element_at tag) source.old) }
+    ensures read { Gives (λ content. option_copied content) source.new result
+        (optional_at tag (element_at tag) source.old) }
     ensures memory { NeedsNoMemory result }
 {
     if !is_next(source, tag) {
@@ -68,7 +72,8 @@ fn skip_field<'a>(source: &mut SliceSource<'a>, tag: u8) -> Result<Option<&'a [u
 }
 
 fn read_octets<'a>(source: &mut SliceSource<'a>, tag: u8) -> Result<Option<&'a [u8]>, WireKind>
-    ensures read { Gives (λ octets. option_copied octets) source.new result (octets_at tag source.old) }
+    ensures read { Gives (λ octets. option_copied octets) source.new result
+        (octets_at tag source.old) }
     ensures memory { NeedsNoMemory result }
 {
     read_field(source, tag, OCTET_STRING)
@@ -151,7 +156,8 @@ pub(crate) fn read_init<'a>(source: &mut SliceSource<'a>) -> Result<InitParts<'a
 
 #[tactic(auto, unfolding(crate::specs::Reading::optional_at, crate::specs::Reading::around_at, crate::specs::Reading::result_at))]
 fn read_result(source: &mut SliceSource<'_>) -> Result<Option<NegResult>, WireKind>
-    ensures read { Gives (λ result. result) source.new result (optional_at 0xA0 (around_at 0xA0 result_at) source.old) }
+    ensures read { Gives (λ result. result) source.new result
+        (optional_at 0xA0 (around_at 0xA0 result_at) source.old) }
     ensures memory { NeedsNoMemory result }
 {
     match read_field(source, FIELD_0, ENUMERATED)? {

@@ -79,7 +79,8 @@ fn mech_types_len(list: &Option<MechTypeList>, len: usize) -> Option<usize>
 
 #[tactic(auto, using(crate::proofs::Lengths::sizing))]
 fn octets_len(octets: &Option<Bytes>) -> Option<usize>
-    ensures { (tag : ℕ) → Measures result (length (field tag (option_map (element 0x04) octets.now))) }
+    ensures { (tag : ℕ) → Measures result
+        (length (field tag (option_map (element 0x04) octets.now))) }
 {
     match octets {
         None => Some(0),
@@ -121,7 +122,8 @@ pub(crate) struct InitLengths {
 /// The lengths of a `NegTokenInit`, where they fit.
 #[tactic(auto, using(crate::proofs::Lengths::sizing))]
 pub(crate) fn init_lengths(token: &NegTokenInit) -> Option<InitLengths>
-    ensures { MatchOption result (max_content < length (init_content token.now)) (λ lengths. IsInitLengths token.now lengths) }
+    ensures { MatchOption result (max_content < length (init_content token.now))
+        (λ lengths. IsInitLengths token.now lengths) }
 {
     let list = list_len(&token.mech_types)?;
     let mech_types = mech_types_len(&token.mech_types, list)?;
@@ -139,7 +141,8 @@ pub(crate) fn init_lengths(token: &NegTokenInit) -> Option<InitLengths>
 /// The length of the fields of a `NegTokenTarg`, where the SEQUENCE of them fits.
 #[tactic(auto, using(crate::proofs::Lengths::sizing))]
 pub(crate) fn targ_fields_len(token: &NegTokenTarg) -> Option<usize>
-    ensures { SomeIff result (length (targ_content token.now) ≤ max_content) (length (targ_fields token.now)) }
+    ensures { SomeIff result (length (targ_content token.now) ≤ max_content)
+        (length (targ_fields token.now)) }
 {
     let neg_result = result_len(token.neg_result);
     let supported_mech = oid_len(&token.supported_mech)?;

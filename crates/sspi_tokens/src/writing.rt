@@ -4,8 +4,10 @@ ghost use Rattle.std.specs.Prelude.{◌≡◌, ◌≤◌, length};
 ghost use Rattle.std.specs.Option.{option_map};
 ghost use Rattle.sspi_ber.specs.Forms.{max_content};
 ghost use Rattle.sspi_ber.specs.Short.{header, element};
-ghost use Rattle.sspi_tokens.specs.Spelling.{field, oids_text, mech_types_text, result_text, init_fields};
-ghost use Rattle.sspi_tokens.specs.Spelling.{init_content, octet_fields, last_fields, targ_fields, targ_content};
+ghost use Rattle.sspi_tokens.specs.Spelling.{field, oids_text, mech_types_text, result_text};
+ghost use Rattle.sspi_tokens.specs.Spelling.{init_fields};
+ghost use Rattle.sspi_tokens.specs.Spelling.{init_content, octet_fields, last_fields, targ_fields};
+ghost use Rattle.sspi_tokens.specs.Spelling.{targ_content};
 ghost use Rattle.sspi_tokens.specs.Writing.{list_length, IsInitLengths, Puts};
 
 use crate::mech_type_list::MechTypeList;

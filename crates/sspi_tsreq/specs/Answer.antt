@@ -2,7 +2,9 @@
 use Rattle.std.specs.Prelude.{◌≡◌, ℕ, true, false, List, None, Some, Result, Ok, Err}
 use Rattle.std.specs.Global.{Vec}
 use Rattle.sspi_ber.specs.declared.wire_kind.WireKind.{WireKind}
-use Rattle.sspi_ber.specs.declared.wire_kind.WireKind.TheVariants.{UnexpectedEof, InvalidData, ReadFault, WriteFault, InsufficientMemory}
+use Rattle.sspi_ber.specs.declared.wire_kind.WireKind.TheVariants.{UnexpectedEof, InvalidData}
+use Rattle.sspi_ber.specs.declared.wire_kind.WireKind.TheVariants.{ReadFault, WriteFault}
+use Rattle.sspi_ber.specs.declared.wire_kind.WireKind.TheVariants.{InsufficientMemory}
 use Rattle.sspi_ber.specs.Pieces.{Ended, Invalid}
 use Rattle.sspi_tsreq.specs.declared.request.TsRequest.{TsRequest}
 use Rattle.sspi_tsreq.specs.Grammar.{IsRequest}
@@ -10,14 +12,16 @@ use Rattle.sspi_tsreq.specs.Quiet.{HasOctets}
 use Rattle.sspi_tsreq.specs.Reading.{fault}
 use Rattle.sspi_tsreq.specs.Spelling.{fits, spelled}
 
--- The answer has its cause. Memory is wanted only for a request that the bytes do begin with, and only for its OCTET STRINGs.
+-- The answer has its cause. Memory is wanted only for a request that the bytes do begin with, and
+-- only for its OCTET STRINGs.
 abbrev pub IsAnswer : List ℕ → Result TsRequest WireKind → Type 0
 IsAnswer bytes (Ok r) = ((count : ℕ) × IsRequest bytes r count) × (fault bytes ≡ None)
 IsAnswer bytes (Err UnexpectedEof) = fault bytes ≡ Some Ended
 IsAnswer bytes (Err InvalidData) = fault bytes ≡ Some Invalid
 IsAnswer bytes (Err ReadFault) = ⊥
 IsAnswer bytes (Err WriteFault) = ⊥
-IsAnswer bytes (Err InsufficientMemory) = (r : TsRequest) × (count : ℕ) × IsRequest bytes r count × HasOctets r
+IsAnswer bytes (Err InsufficientMemory) = (r : TsRequest) × (count : ℕ) × IsRequest bytes r count ×
+    HasOctets r
 
 -- this value, or out of memory
 abbrev pub IsUnlessMemory : {X : Type 0} → Result X WireKind → X → Type 0

@@ -1,14 +1,20 @@
 -- TSCredentials with a password (MS-CSSP 2.2.1.2, 2.2.1.2.1), in the pieces of BER:
 --
 --     TSCredentials   ::= SEQUENCE { [0] credType INTEGER, [1] credentials OCTET STRING }
---     TSPasswordCreds ::= SEQUENCE { [0] domainName OCTET STRING, [1] userName OCTET STRING, [2] password OCTET STRING }
+--     TSPasswordCreds ::= SEQUENCE { [0] domainName OCTET STRING, [1] userName OCTET STRING, [2]
+--     password OCTET STRING }
 --
--- An element is a tag, a length of n and n bytes. What stands inside an element is read inside these n bytes alone; bytes
--- behind what is read there are not looked at.
-use Rattle.std.specs.Prelude.{◌++◌, ◌==◌, nat_le, ℕ, List, [], ◌∷◌, length, Result, Ok, Err, None, if◌then◌else◌}
+-- An element is a tag, a length of n and n bytes. What stands inside an element is read inside
+-- these n bytes alone; bytes behind what is read there are not looked at.
+use Rattle.std.specs.Prelude.{◌++◌, ◌==◌, nat_le, ℕ, List, [], ◌∷◌, length, Result, Ok, Err, None}
+use Rattle.std.specs.Prelude.{if◌then◌else◌}
 use Rattle.sspi_types.specs.declared.error.Error.{Error}
-use Rattle.sspi_types.specs.declared.error_kind.ErrorKind.TheVariants.{InvalidToken, UnsupportedFunction, UnsupportedPreAuth, InternalError}
-use Rattle.sspi_types.specs.declared.reason.Reason.TheVariants.{TokenForm, CredType, SmartCard, Keytab, TooLong}
+use Rattle.sspi_types.specs.declared.error_kind.ErrorKind.TheVariants.{InvalidToken}
+use Rattle.sspi_types.specs.declared.error_kind.ErrorKind.TheVariants.{UnsupportedFunction}
+use Rattle.sspi_types.specs.declared.error_kind.ErrorKind.TheVariants.{UnsupportedPreAuth}
+use Rattle.sspi_types.specs.declared.error_kind.ErrorKind.TheVariants.{InternalError}
+use Rattle.sspi_types.specs.declared.reason.Reason.TheVariants.{TokenForm, CredType, SmartCard}
+use Rattle.sspi_types.specs.declared.reason.Reason.TheVariants.{Keytab, TooLong}
 use Rattle.sspi_ber.specs.Pieces.{Read, ◌>>=◌, element_at}
 use Rattle.sspi_ber.specs.Forms.{max_content}
 use Rattle.sspi_ber.specs.Short.{element, int_short}
@@ -89,7 +95,8 @@ spelled_or_malformed (Err fault) = Err malformed
 -- what the first content byte of credType says: 1 is a password, 2 a smart card
 abbrev pub password_type : List ℕ → Result (Unit {0}) Error
 password_type [] = Err unknown_type
-password_type (number ∷ rest) = if number == 1 then Ok tt else if number == 2 then Err smart_card else Err unknown_type
+password_type (number ∷ rest) = if number == 1 then Ok tt else if number == 2 then Err smart_card
+    else Err unknown_type
 
 -- the code units of a text
 abbrev pub text_or_refused : Result (List ℕ) Utf16Error → Result (List ℕ) Error
@@ -102,7 +109,11 @@ texts_of fields =
     text_or_refused (decode_le fields.domain) and_then λ domain.
     text_or_refused (decode_le fields.user) and_then λ user.
     text_or_refused (decode_le fields.password) and_then λ password.
-    Ok (credentials.AuthIdentity (record { user = user; domain = domain; password = record { value = password } }))
+    Ok (credentials.AuthIdentity (record {
+      user = user;
+      domain = domain;
+      password = record { value = password };
+    }))
 
 -- the buffers inside TSCredentials, or the first refusal
 unfoldable pub creds_in : List ℕ → Result CredentialsBuffers Error
@@ -121,10 +132,15 @@ creds_of text = spelled_or_malformed (element_at 0x30 text) and_then creds_in
 -- the buffers that are delegated: three empty texts where the client keeps its credentials
 abbrev pub delegated : CredSspMode → AuthIdentityBuffers → AuthIdentityBuffers
 delegated WithCredentials buffers = buffers
-delegated CredentialLess buffers = record { user = []; domain = []; password = record { value = [] } }
+delegated CredentialLess buffers = record {
+  user = [];
+  domain = [];
+  password = record { value = [] };
+}
 
 abbrev pub delegated_credentials : CredSspMode → CredentialsBuffers → CredentialsBuffers
-delegated_credentials mode (credentials.AuthIdentity buffers) = credentials.AuthIdentity (delegated mode buffers)
+delegated_credentials mode (credentials.AuthIdentity buffers) =
+    credentials.AuthIdentity (delegated mode buffers)
 delegated_credentials mode (credentials.Keytab identity) = credentials.Keytab identity
 
 -- a field with an OCTET STRING
@@ -133,7 +149,8 @@ wrapped_octets tag content = element tag (element 0x04 content)
 
 -- the content of TSPasswordCreds
 unfoldable pub password_fields : List ℕ → List ℕ → List ℕ → List ℕ
-password_fields domain user password = wrapped_octets 0xA0 domain ++ (wrapped_octets 0xA1 user ++ wrapped_octets 0xA2 password)
+password_fields domain user password = wrapped_octets 0xA0 domain ++
+    (wrapped_octets 0xA1 user ++ wrapped_octets 0xA2 password)
 
 -- the field with the number of passwords
 unfoldable pub password_type_field : List ℕ
@@ -141,15 +158,18 @@ password_type_field = element 0xA0 (int_short 1)
 
 -- the content of TSCredentials
 unfoldable pub creds_body : List ℕ → List ℕ → List ℕ → List ℕ
-creds_body domain user password = password_type_field ++ wrapped_octets 0xA1 (element 0x30 (password_fields domain user password))
+creds_body domain user password = password_type_field ++
+    wrapped_octets 0xA1 (element 0x30 (password_fields domain user password))
 
 -- a content, where it fits
 abbrev pub spelled_if_fits : List ℕ → Result (List ℕ) Error
-spelled_if_fits body = if nat_le (length body) max_content then Ok (element 0x30 body) else Err too_long
+spelled_if_fits body = if nat_le (length body) max_content then Ok (element 0x30 body)
+    else Err too_long
 
 -- the shortest encoding of buffers
 unfoldable pub buffers_text : AuthIdentityBuffers → Result (List ℕ) Error
-buffers_text b = spelled_if_fits (creds_body (bytes_le b.domain) (bytes_le b.user) (bytes_le b.password.value))
+buffers_text b = spelled_if_fits (creds_body (bytes_le b.domain) (bytes_le b.user)
+    (bytes_le b.password.value))
 
 -- the text of credentials; a keytab has none, whatever the mode
 abbrev pub creds_text : CredentialsBuffers → CredSspMode → Result (List ℕ) Error

@@ -1,7 +1,8 @@
 -- What TSCredentials are, as concatenations of their pieces (MS-CSSP 2.2.1.2, 2.2.1.2.1):
 --
 --     TSCredentials   ::= SEQUENCE { [0] credType INTEGER, [1] credentials OCTET STRING }
---     TSPasswordCreds ::= SEQUENCE { [0] domainName OCTET STRING, [1] userName OCTET STRING, [2] password OCTET STRING }
+--     TSPasswordCreds ::= SEQUENCE { [0] domainName OCTET STRING, [1] userName OCTET STRING, [2]
+--     password OCTET STRING }
 --
 -- Bytes behind the last piece that an element needs are left, and not looked at.
 use Rattle.std.specs.Prelude.{◌≡◌, ◌≢◌, ◌⊎◌, ℕ, List, [], ◌∷◌, ◌++◌, Ok, IsErr}
@@ -57,7 +58,8 @@ pub record IsCreds (text cred_type credentials : List ℕ) : Type 0 where
   pub type_is : IsIntegerIn 0xA0 number cred_type
   pub credentials_is : IsOctetsIn 0xA1 octets credentials
 
--- TSCredentials of this type, of which the first content byte alone is looked at: 1 is a password, 2 a smart card
+-- TSCredentials of this type, of which the first content byte alone is looked at: 1 is a password,
+-- 2 a smart card
 abbrev pub IsCredsOfType : ℕ → List ℕ → List ℕ → Type 0
 IsCredsOfType number text credentials = (more : List ℕ) × IsCreds text (number ∷ more) credentials
 
@@ -74,11 +76,13 @@ pub record AreTextsOf (texts : Passwords) (buffers : AuthIdentityBuffers) : Type
 
 -- TSCredentials of a password, and TSPasswordCreds in them
 abbrev pub HasPasswords : List ℕ → Type 0
-HasPasswords text = (credentials : List ℕ) × (texts : Passwords) × IsCredsOfType 1 text credentials × IsPasswordCreds credentials texts
+HasPasswords text = (credentials : List ℕ) × (texts : Passwords) ×
+    IsCredsOfType 1 text credentials × IsPasswordCreds credentials texts
 
 -- one of the texts is not UTF-16
 abbrev pub HasBadText : Passwords → Type 0
-HasBadText texts = IsErr (decode_le texts.domain) ⊎ (IsErr (decode_le texts.user) ⊎ IsErr (decode_le texts.password))
+HasBadText texts = IsErr (decode_le texts.domain) ⊎
+    (IsErr (decode_le texts.user) ⊎ IsErr (decode_le texts.password))
 
 -- The text begins with TSCredentials of a password, which stand for these buffers.
 pub record StandsFor (text : List ℕ) (buffers : AuthIdentityBuffers) : Type 0 where
@@ -97,10 +101,12 @@ abbrev pub LacksPasswords : List ℕ → Type 0
 LacksPasswords text = (credentials : List ℕ) × IsCredsOfType 1 text credentials ×
     ((texts : Passwords) → ¬ IsPasswordCreds credentials texts)
 
--- The text begins with TSCredentials of a password that stand for these buffers, and behind their SEQUENCE stands the rest.
+-- The text begins with TSCredentials of a password that stand for these buffers, and behind their
+-- SEQUENCE stands the rest.
 abbrev pub StandsBefore : List ℕ → AuthIdentityBuffers → List ℕ → Type 0
 StandsBefore text buffers rest = (t : StandsFor text buffers) × (t.creds_is.1.behind ≡ rest)
 
 -- the text begins with the header of a SEQUENCE
 abbrev pub BeginsSequence : List ℕ → Type 0
-BeginsSequence text = (len following : List ℕ) × (n : ℕ) × IsLength len n × (text ≡ (0x30 ∷ len) ++ following)
+BeginsSequence text = (len following : List ℕ) × (n : ℕ) × IsLength len n ×
+    (text ≡ (0x30 ∷ len) ++ following)

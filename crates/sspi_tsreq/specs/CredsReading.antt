@@ -6,7 +6,9 @@ use Rattle.sspi_names.specs.Utf16.{bad_text, decode_le}
 use Rattle.sspi_names.specs.declared.credentials.CredentialsBuffers.{CredentialsBuffers}
 use Rattle.sspi_ber.specs.Kinds.{error_of}
 use Rattle.sspi_ber.specs.declared.wire_kind.WireKind.{WireKind}
-use Rattle.sspi_ber.specs.declared.wire_kind.WireKind.TheVariants.{UnexpectedEof, InvalidData, ReadFault, WriteFault, InsufficientMemory}
+use Rattle.sspi_ber.specs.declared.wire_kind.WireKind.TheVariants.{UnexpectedEof, InvalidData}
+use Rattle.sspi_ber.specs.declared.wire_kind.WireKind.TheVariants.{ReadFault, WriteFault}
+use Rattle.sspi_ber.specs.declared.wire_kind.WireKind.TheVariants.{InsufficientMemory}
 use Rattle.sspi_tsreq.specs.Creds.{malformed, Passwords}
 
 -- exactly this answer, with the value seen by view
@@ -19,7 +21,8 @@ abbrev pub IsLate : Result CredentialsBuffers Error → Type 0
 IsLate (Ok buffers) = Unit {0}
 IsLate (Err error) = error ≡ bad_text
 
--- what a fault of reading is to a caller: what is malformed is malformed, all else a fault of the outside
+-- what a fault of reading is to a caller: what is malformed is malformed, all else a fault of the
+-- outside
 abbrev pub refusal_by : WireKind → Error
 refusal_by UnexpectedEof = malformed
 refusal_by InvalidData = malformed
@@ -29,4 +32,5 @@ refusal_by InsufficientMemory = error_of InsufficientMemory
 
 -- whether each of them is a text
 abbrev pub are_texts : Passwords → Bool
-are_texts texts = is_ok (decode_le texts.domain) && (is_ok (decode_le texts.user) && is_ok (decode_le texts.password))
+are_texts texts = is_ok (decode_le texts.domain) &&
+    (is_ok (decode_le texts.user) && is_ok (decode_le texts.password))

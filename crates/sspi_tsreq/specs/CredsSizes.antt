@@ -10,7 +10,8 @@ password_fields_size domain user password = element_size (element_size domain) +
 
 -- the content of TSCredentials
 abbrev pub body_size : ℕ → ℕ → ℕ → ℕ
-body_size domain user password = 5 + element_size (element_size (element_size (password_fields_size domain user password)))
+body_size domain user password = 5 + element_size
+    (element_size (element_size (password_fields_size domain user password)))
 
 -- each element fits into the one round it
 pub record FitTexts (domain user password : ℕ) : Type 0 where

@@ -1,5 +1,6 @@
 -- The Early User Authorization Result PDU (MS-RDPBCGR 2.2.10.2): four bytes, the low one first.
-use Rattle.std.specs.Prelude.{ℕ, ◌+◌, ◌*◌, ◌==◌, List, [], ◌∷◌, Option, None, Some, Ok, Err, if◌then◌else◌, slice_index}
+use Rattle.std.specs.Prelude.{ℕ, ◌+◌, ◌*◌, ◌==◌, List, [], ◌∷◌, Option, None, Some, Ok, Err}
+use Rattle.std.specs.Prelude.{if◌then◌else◌, slice_index}
 use Rattle.sspi_ber.specs.Pieces.{Invalid, Read, ◌>>=◌, bytes_at}
 use Rattle.sspi_tsreq.specs.declared.early.EarlyUserAuthResult.{EarlyUserAuthResult}
 use Rattle.sspi_tsreq.specs.declared.early.EarlyUserAuthResult.TheVariants.{Success, AccessDenied}
@@ -14,7 +15,8 @@ result_of n = if n == 0 then Some Success else if n == 5 then Some AccessDenied 
 
 -- the number of four bytes, the low one first
 abbrev pub little_endian : List ℕ → ℕ
-little_endian bytes = slice_index bytes 0 + slice_index bytes 1 * 0x100 + slice_index bytes 2 * 0x10000 + slice_index bytes 3 * 0x1000000
+little_endian bytes = slice_index bytes 0 + slice_index bytes 1 * 0x100 + slice_index bytes
+    2 * 0x10000 + slice_index bytes 3 * 0x1000000
 
 abbrev pub result_or_invalid : Option EarlyUserAuthResult → List ℕ → Read EarlyUserAuthResult
 result_or_invalid None rest = Err Invalid

@@ -13,5 +13,7 @@ same_code a b = option_eq (λ x y. nat_eq x.0 y.0) a b
 
 abbrev pub same_request : TsRequest → TsRequest → Bool
 same_request a b =
-    nat_eq a.version b.version && (same_octets a.nego_tokens b.nego_tokens && (same_octets a.auth_info b.auth_info
-    && (same_octets a.pub_key_auth b.pub_key_auth && (same_code a.error_code b.error_code && same_octets a.client_nonce b.client_nonce))))
+    nat_eq a.version b.version && (same_octets a.nego_tokens b.nego_tokens &&
+    (same_octets a.auth_info b.auth_info
+    && (same_octets a.pub_key_auth b.pub_key_auth &&
+    (same_code a.error_code b.error_code && same_octets a.client_nonce b.client_nonce))))

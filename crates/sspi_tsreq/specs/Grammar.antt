@@ -1,13 +1,22 @@
--- What a TSRequest is: the values that it may have, and its bytes as a concatenation of its pieces (MS-CSSP 2.2.1). Lengths of tags
--- are judged by their form alone; only those of OCTET STRINGs and INTEGERs are compared with what they announce.
-use Rattle.std.specs.Prelude.{◌≡◌, ℕ, ◌<◌, ◌^◌, length, None, IfSome, ◌%◌, nat_le, Bool, true, false, List, [], ◌∷◌, ◌++◌, Option}
+-- What a TSRequest is: the values that it may have, and its bytes as a concatenation of its pieces
+-- (MS-CSSP 2.2.1). Lengths of tags are judged by their form alone; only those of OCTET STRINGs and
+-- INTEGERs are compared with what they announce.
+use Rattle.std.specs.Prelude.{◌≡◌, ℕ, ◌<◌, ◌^◌, length, None, IfSome, ◌%◌, nat_le, Bool, true}
+use Rattle.std.specs.Prelude.{false, List, [], ◌∷◌, ◌++◌, Option}
 use Rattle.sspi_types.specs.declared.nstatus.NStatusCode.{NStatusCode}
 use Rattle.sspi_ber.specs.Forms.{IsLength, IsElement, IsInteger, IsWrapped, IsField}
 use Rattle.sspi_tsreq.specs.declared.request.TsRequest.{TsRequest}
 
 -- a request of this version and nothing else
 abbrev pub bare : ℕ → TsRequest
-bare v = record { version = v; nego_tokens = None; auth_info = None; pub_key_auth = None; error_code = None; client_nonce = None }
+bare v = record {
+  version = v;
+  nego_tokens = None;
+  auth_info = None;
+  pub_key_auth = None;
+  error_code = None;
+  client_nonce = None;
+}
 
 -- the request that a client begins with
 abbrev pub first_request : TsRequest
@@ -41,7 +50,8 @@ abbrev pub IsNonce : List ℕ → List ℕ → Type 0
 IsNonce text nonce = IsElement 0x04 text nonce × (length nonce ≡ 32)
 
 -- a field that is empty where the version does not look for it
-abbrev pub IsLookedFor : {A : Type 0} → Bool → ℕ → (List ℕ → A → Type 0) → List ℕ → Option A → List ℕ → Type 0
+abbrev pub IsLookedFor : {A : Type 0} → Bool → ℕ → (List ℕ → A → Type 0) → List ℕ → Option A →
+    List ℕ → Type 0
 IsLookedFor true tag Inner text x following = IsField tag Inner text x following
 IsLookedFor false tag Inner text x following = (text ≡ []) × (x ≡ None)
 

@@ -1,7 +1,10 @@
--- What a reader that is fed with pieces answers from each place of the grammar, if these bytes still come.
-use Rattle.std.specs.Prelude.{ℕ, ◌+◌, ◌-◌, ◌*◌, ◌%◌, ◌^◌, nat_lt, nat_le, ◌==◌, List, [], ◌++◌, take, fold, Option}
+-- What a reader that is fed with pieces answers from each place of the grammar, if these bytes
+-- still come.
+use Rattle.std.specs.Prelude.{ℕ, ◌+◌, ◌-◌, ◌*◌, ◌%◌, ◌^◌, nat_lt, nat_le, ◌==◌, List, [], ◌++◌}
+use Rattle.std.specs.Prelude.{take, fold, Option}
 use Rattle.std.specs.Prelude.{None, Some, Result, Ok, Err, if◌then◌else◌}
-use Rattle.sspi_ber.specs.Pieces.{Fault, Invalid, Read, ◌>>=◌, bytes_at, number_at, length_at, tagged_at}
+use Rattle.sspi_ber.specs.Pieces.{Fault, Invalid, Read, ◌>>=◌, bytes_at, number_at, length_at}
+use Rattle.sspi_ber.specs.Pieces.{tagged_at}
 use Rattle.sspi_ber.specs.Forms.{is_integer_size, max_content}
 use Rattle.sspi_tsreq.specs.declared.request.TsRequest.{TsRequest}
 use Rattle.sspi_tsreq.specs.declared.place.LengthPart.{LengthPart}
@@ -11,12 +14,15 @@ use Rattle.sspi_tsreq.specs.declared.place.Text.TheVariants.{NegoTokens, AuthInf
 use Rattle.sspi_tsreq.specs.declared.place.Element.{Element}
 use Rattle.sspi_tsreq.specs.declared.place.Element.TheVariants.{Optional, Required}
 use Rattle.sspi_tsreq.specs.declared.place.Field.TheVariants.{Nego, Auth, Key, Code, Nonce}
-use Rattle.sspi_tsreq.specs.declared.place.Inner.TheVariants.{Version, VersionNumber, TokenList, TokenItem, Token, Octets, CodeNumber}
+use Rattle.sspi_tsreq.specs.declared.place.Inner.TheVariants.{Version, VersionNumber, TokenList}
+use Rattle.sspi_tsreq.specs.declared.place.Inner.TheVariants.{TokenItem, Token, Octets, CodeNumber}
 use Rattle.sspi_tsreq.specs.declared.place.Inner.TheVariants.{NonceOctets}
 use Rattle.sspi_tsreq.specs.declared.place.Place.{Place}
-use Rattle.sspi_tsreq.specs.declared.place.Place.TheVariants.{AtTag, InLength, InVersion, InCode, InText, InNonce, Whole, Faulty}
+use Rattle.sspi_tsreq.specs.declared.place.Place.TheVariants.{AtTag, InLength, InVersion, InCode}
+use Rattle.sspi_tsreq.specs.declared.place.Place.TheVariants.{InText, InNonce, Whole, Faulty}
 use Rattle.sspi_tsreq.specs.Grammar.{bare}
-use Rattle.sspi_tsreq.specs.Reading.{low_at, octets_at, nonce_at, after_code, after_key, after_auth, after_nego, after_version, body_at}
+use Rattle.sspi_tsreq.specs.Reading.{low_at, octets_at, nonce_at, after_code, after_key, after_auth}
+use Rattle.sspi_tsreq.specs.Reading.{after_nego, after_version, body_at}
 
 -- ---- numbers, of which some octets were read
 
@@ -57,14 +63,17 @@ nonce_then r nonce = Ok (record r { client_nonce = Some nonce.0 }, nonce.1)
 
 -- a number of so many bytes
 abbrev pub sized_low : ℕ → List ℕ → Read ℕ
-sized_low n bytes = (if is_integer_size n then number_at n bytes else Err Invalid) >>= λ w. Ok (w.0 % 2 ^ 32, w.1)
+sized_low n bytes = (if is_integer_size n then number_at n bytes else Err Invalid) >>= λ w. Ok
+    (w.0 % 2 ^ 32, w.1)
 
 -- behind the length n of an element
 abbrev pub behind : Element → TsRequest → ℕ → List ℕ → Read TsRequest
 behind (Required Version) r n bytes = low_at bytes >>= version_then
 behind (Required VersionNumber) r n bytes = sized_low n bytes >>= version_then
-behind (Optional Nego) r n bytes = tagged_at 0x30 (tagged_at 0x30 (tagged_at 0xA0 octets_at)) bytes >>= text_then NegoTokens r
-behind (Required TokenList) r n bytes = tagged_at 0x30 (tagged_at 0xA0 octets_at) bytes >>= text_then NegoTokens r
+behind (Optional Nego) r n bytes = tagged_at 0x30 (tagged_at 0x30 (tagged_at 0xA0 octets_at)) bytes
+    >>= text_then NegoTokens r
+behind (Required TokenList) r n bytes = tagged_at 0x30 (tagged_at 0xA0 octets_at) bytes >>=
+    text_then NegoTokens r
 behind (Required TokenItem) r n bytes = tagged_at 0xA0 octets_at bytes >>= text_then NegoTokens r
 behind (Required Token) r n bytes = octets_at bytes >>= text_then NegoTokens r
 behind (Required (Octets text)) r n bytes = bytes_at n bytes >>= text_then text r
@@ -73,7 +82,8 @@ behind (Optional Key) r n bytes = octets_at bytes >>= text_then PubKeyAuth r
 behind (Optional Code) r n bytes = low_at bytes >>= code_then r
 behind (Required CodeNumber) r n bytes = sized_low n bytes >>= code_then r
 behind (Optional Nonce) r n bytes = nonce_at bytes >>= nonce_then r
-behind (Required NonceOctets) r n bytes = (if n == 32 then bytes_at n bytes else Err Invalid) >>= nonce_then r
+behind (Required NonceOctets) r n bytes = (if n == 32 then bytes_at n bytes
+    else Err Invalid) >>= nonce_then r
 
 -- from the identifier octet of an element on
 abbrev pub from_tag : Element → TsRequest → List ℕ → Read TsRequest
@@ -109,7 +119,8 @@ text_more text r rest = text_then text r (text_of text r ++ rest.0, rest.1)
 
 -- what is left of a nonce of which `have` bytes stand in `nonce`
 abbrev pub nonce_rest : List ℕ → ℕ → List ℕ → Read (List ℕ)
-nonce_rest nonce have bytes = if nat_lt have 32 then (bytes_at (32 - have) bytes >>= λ rest. Ok (take have nonce ++ rest.0, rest.1)) else
+nonce_rest nonce have bytes = if nat_lt have 32
+    then (bytes_at (32 - have) bytes >>= λ rest. Ok (take have nonce ++ rest.0, rest.1)) else
     Err Invalid
 
 -- the pieces of which some bytes were read, and what follows them

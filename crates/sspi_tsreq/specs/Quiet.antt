@@ -4,10 +4,12 @@ use Rattle.std.specs.Option.{IsSome}
 use Rattle.sspi_tsreq.specs.declared.place.Element.{Element}
 use Rattle.sspi_tsreq.specs.declared.place.Element.TheVariants.{Optional, Required}
 use Rattle.sspi_tsreq.specs.declared.place.Inner.{Inner}
-use Rattle.sspi_tsreq.specs.declared.place.Inner.TheVariants.{Version, VersionNumber, TokenList, TokenItem, Token, Octets, CodeNumber}
+use Rattle.sspi_tsreq.specs.declared.place.Inner.TheVariants.{Version, VersionNumber, TokenList}
+use Rattle.sspi_tsreq.specs.declared.place.Inner.TheVariants.{TokenItem, Token, Octets, CodeNumber}
 use Rattle.sspi_tsreq.specs.declared.place.Inner.TheVariants.{NonceOctets}
 use Rattle.sspi_tsreq.specs.declared.place.Place.{Place}
-use Rattle.sspi_tsreq.specs.declared.place.Place.TheVariants.{AtTag, InLength, InVersion, InCode, InText, InNonce, Whole, Faulty}
+use Rattle.sspi_tsreq.specs.declared.place.Place.TheVariants.{AtTag, InLength, InVersion, InCode}
+use Rattle.sspi_tsreq.specs.declared.place.Place.TheVariants.{InText, InNonce, Whole, Faulty}
 use Rattle.sspi_tsreq.specs.declared.request.TsRequest.{TsRequest}
 
 -- the bytes have none of this value
@@ -41,6 +43,7 @@ Opened (InNonce have) = ⊥
 Opened Whole = ⊥
 Opened Faulty = ⊥
 
--- the request has an OCTET STRING that is copied; the nonce is none, since it has its place in the request
+-- the request has an OCTET STRING that is copied; the nonce is none, since it has its place in the
+-- request
 abbrev pub HasOctets : TsRequest → Type 0
 HasOctets r = IsSome r.nego_tokens ⊎ (IsSome r.auth_info ⊎ IsSome r.pub_key_auth)

@@ -1,8 +1,10 @@
--- A TSRequest read from left to right, with the first fault (MS-CSSP 2.2.1). What follows a field is a definition of its
--- own, over the fields read so far.
-use Rattle.std.specs.Prelude.{ℕ, ◌%◌, ◌^◌, nat_le, ◌==◌, Bool, List, Option, None, Ok, Err, if◌then◌else◌}
+-- A TSRequest read from left to right, with the first fault (MS-CSSP 2.2.1). What follows a field
+-- is a definition of its own, over the fields read so far.
+use Rattle.std.specs.Prelude.{ℕ, ◌%◌, ◌^◌, nat_le, ◌==◌, Bool, List, Option, None, Ok, Err}
+use Rattle.std.specs.Prelude.{if◌then◌else◌}
 use Rattle.sspi_types.specs.declared.nstatus.NStatusCode.{NStatusCode}
-use Rattle.sspi_ber.specs.Pieces.{Fault, Invalid, Read, ◌>>=◌, as_ended, fault_of, bytes_at, header_at, element_at, integer_at, field_at}
+use Rattle.sspi_ber.specs.Pieces.{Fault, Invalid, Read, ◌>>=◌, as_ended, fault_of, bytes_at}
+use Rattle.sspi_ber.specs.Pieces.{header_at, element_at, integer_at, field_at}
 use Rattle.sspi_ber.specs.Pieces.{tagged_at}
 use Rattle.sspi_tsreq.specs.declared.request.TsRequest.{TsRequest}
 use Rattle.sspi_tsreq.specs.Grammar.{bare}
@@ -71,7 +73,8 @@ body_at bytes = do
   version ← version_at bytes
   after_version (bare version.0) version.1
 
--- Each fault of the outer header counts as the end. Nothing is read past the length that it announces.
+-- Each fault of the outer header counts as the end. Nothing is read past the length that it
+-- announces.
 unfoldable pub request_at : List ℕ → Read TsRequest
 request_at bytes = do
   n ← as_ended (header_at 0x30 bytes)

@@ -9,7 +9,8 @@ use Rattle.sspi_tsreq.specs.Grammar.{IsBody}
 abbrev pub IsNoTag : ℕ → Type 0
 IsNoTag byte = (byte < 0xA1) ⊎ (0xA5 < byte)
 
--- whatever follows, one and the same request is read, or whatever follows, the content is refused as invalid
+-- whatever follows, one and the same request is read, or whatever follows, the content is refused
+-- as invalid
 abbrev pub IsSettled : List ℕ → Type 0
 IsSettled front = ((r : TsRequest) × ((more : List ℕ) → IsBody (front ++ more) r)) ⊎
     ((more : List ℕ) → body_fault (front ++ more) ≡ Some Invalid)

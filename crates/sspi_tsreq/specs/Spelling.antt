@@ -1,5 +1,6 @@
 -- How a TSRequest is written: each field in its shortest encoding (MS-CSSP 2.2.1).
-use Rattle.std.specs.Prelude.{ℕ, ◌==◌, nat_le, Bool, not, ◌&&◌, List, [], ◌++◌, length, Option, None, Some, if◌then◌else◌}
+use Rattle.std.specs.Prelude.{ℕ, ◌==◌, nat_le, Bool, not, ◌&&◌, List, [], ◌++◌, length, Option}
+use Rattle.std.specs.Prelude.{None, Some, if◌then◌else◌}
 use Rattle.sspi_types.specs.declared.nstatus.NStatusCode.{NStatusCode}
 use Rattle.sspi_ber.specs.Forms.{max_content}
 use Rattle.sspi_ber.specs.Short.{element, int_short}
@@ -49,7 +50,8 @@ last_fields r = code_field r.error_code ++ octets_field 0xA5 r.client_nonce
 
 -- the fields behind negoTokens
 unfoldable pub later_fields : TsRequest → List ℕ
-later_fields r = octets_field 0xA2 r.auth_info ++ (octets_field 0xA3 r.pub_key_auth ++ last_fields r)
+later_fields r = octets_field 0xA2 r.auth_info ++
+    (octets_field 0xA3 r.pub_key_auth ++ last_fields r)
 
 -- all fields of a request, in their order
 unfoldable pub fields : TsRequest → List ℕ

@@ -7,7 +7,11 @@ use Rattle.sspi_types.specs.declared.reason.Reason.TheVariants.{ErrorStatus}
 
 -- an invalid token with the status that came
 abbrev pub status_error : NStatusCode → Error
-status_error code = record { error_type = InvalidToken; description = ErrorStatus; nstatus = Some code }
+status_error code = record {
+  error_type = InvalidToken;
+  description = ErrorStatus;
+  nstatus = Some code;
+}
 
 -- a code other than SUCCESS, and only such a code, is a refusal
 abbrev pub ChecksCode : {X : Type 0} → Option NStatusCode → Result X Error → Type 0

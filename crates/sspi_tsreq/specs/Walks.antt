@@ -3,27 +3,33 @@ use Rattle.std.specs.Prelude.{◌≡◌, ℕ, List, Option, None, Some, Result, 
 use Rattle.sspi_ber.specs.Pieces.{Fault, Read, Invalid, Ended}
 use Rattle.sspi_ber.specs.Forms.{max_content}
 use Rattle.sspi_ber.specs.declared.wire_kind.WireKind.{WireKind}
-use Rattle.sspi_ber.specs.declared.wire_kind.WireKind.TheVariants.{UnexpectedEof, InvalidData, ReadFault, WriteFault, InsufficientMemory}
+use Rattle.sspi_ber.specs.declared.wire_kind.WireKind.TheVariants.{UnexpectedEof, InvalidData}
+use Rattle.sspi_ber.specs.declared.wire_kind.WireKind.TheVariants.{ReadFault, WriteFault}
+use Rattle.sspi_ber.specs.declared.wire_kind.WireKind.TheVariants.{InsufficientMemory}
 use Rattle.sspi_tsreq.specs.declared.place.Element.TheVariants.{Optional, Required}
 use Rattle.sspi_tsreq.specs.declared.place.Field.{Field}
 use Rattle.sspi_tsreq.specs.declared.place.Inner.{Inner}
-use Rattle.sspi_tsreq.specs.declared.place.Inner.TheVariants.{Version, VersionNumber, TokenList, TokenItem, Token, Octets, CodeNumber}
+use Rattle.sspi_tsreq.specs.declared.place.Inner.TheVariants.{Version, VersionNumber, TokenList}
+use Rattle.sspi_tsreq.specs.declared.place.Inner.TheVariants.{TokenItem, Token, Octets, CodeNumber}
 use Rattle.sspi_tsreq.specs.declared.place.Inner.TheVariants.{NonceOctets}
 use Rattle.sspi_tsreq.specs.declared.place.Next.{Next}
 use Rattle.sspi_tsreq.specs.declared.place.Next.TheVariants as next
 use Rattle.sspi_tsreq.specs.declared.place.Place.{Place}
-use Rattle.sspi_tsreq.specs.declared.place.Place.TheVariants.{AtTag, InLength, InVersion, InCode, InText, InNonce, Whole, Faulty}
+use Rattle.sspi_tsreq.specs.declared.place.Place.TheVariants.{AtTag, InLength, InVersion, InCode}
+use Rattle.sspi_tsreq.specs.declared.place.Place.TheVariants.{InText, InNonce, Whole, Faulty}
 use Rattle.sspi_tsreq.specs.declared.request.TsRequest.{TsRequest}
 use Rattle.sspi_tsreq.specs.declared.walk.Slot.{Slot}
 use Rattle.sspi_tsreq.specs.declared.walk.Slot.TheVariants.{Kept, Absent, Here}
 use Rattle.sspi_tsreq.specs.declared.walk.Walk.{Walk}
-use Rattle.sspi_tsreq.specs.Places.{answered, behind, code_then, from_tag, rest_at, version_then, length_rest, text_of}
+use Rattle.sspi_tsreq.specs.Places.{answered, behind, code_then, from_tag, rest_at, version_then}
+use Rattle.sspi_tsreq.specs.Places.{length_rest, text_of}
 use Rattle.sspi_tsreq.specs.declared.place.LengthStep.{LengthStep}
 use Rattle.sspi_tsreq.specs.declared.place.LengthStep.TheVariants.{Part, Known, Bad}
 use Rattle.sspi_tsreq.specs.declared.place.Text.{Text}
 use Rattle.sspi_tsreq.specs.declared.place.Text.TheVariants.{NegoTokens, AuthInfo, PubKeyAuth}
 use Rattle.sspi_tsreq.specs.declared.place.Stage.{Stage}
-use Rattle.sspi_tsreq.specs.declared.place.Stage.TheVariants.{OuterTag, OuterLength, Content, Refused}
+use Rattle.sspi_tsreq.specs.declared.place.Stage.TheVariants.{OuterTag, OuterLength, Content}
+use Rattle.sspi_tsreq.specs.declared.place.Stage.TheVariants.{Refused}
 use Rattle.sspi_tsreq.specs.Quiet.{Opened, IsWithout}
 use Rattle.sspi_tsreq.specs.declared.reader.TsReader.{TsReader}
 
@@ -73,7 +79,8 @@ IsHere (Here octets) = Unit {0}
 
 -- the walk met no OCTET STRING
 abbrev pub IsQuiet : Walk → Type 0
-IsQuiet walk = (Opened walk.place → ⊥) × ((IsHere walk.nego_tokens → ⊥) × ((IsHere walk.auth_info → ⊥) × (IsHere walk.pub_key_auth → ⊥)))
+IsQuiet walk = (Opened walk.place → ⊥) × ((IsHere walk.nego_tokens → ⊥) ×
+    ((IsHere walk.auth_info → ⊥) × (IsHere walk.pub_key_auth → ⊥)))
 
 -- ---- one byte
 
@@ -140,7 +147,11 @@ lengthened Faulty r octets = r
 
 -- another request's texts with this one's version, code and nonce
 abbrev pub numbered : TsRequest → TsRequest → TsRequest
-numbered r base = record base { version = r.version; error_code = r.error_code; client_nonce = r.client_nonce }
+numbered r base = record base {
+  version = r.version;
+  error_code = r.error_code;
+  client_nonce = r.client_nonce;
+}
 
 -- what a list reads as, told as a result
 abbrev pub EndsAs : Result TsRequest Fault → Result TsRequest WireKind → Type 0
@@ -163,9 +174,12 @@ IsPast (OuterLength part) = ⊥
 IsPast (Content left place) = left ≡ 0
 IsPast Refused = Unit {0}
 
--- the reader went on through these bytes of the content, from a place over a request, and so many are left
-pub record WentOn (nonce : List ℕ) (place : Place) (r : TsRequest) (body : List ℕ) (left : ℕ) (reader : TsReader) : Type 0 where
+-- the reader went on through these bytes of the content, from a place over a request, and so many
+-- are left
+pub record WentOn (nonce : List ℕ) (place : Place) (r : TsRequest) (body : List ℕ) (left : ℕ)
+    (reader : TsReader) : Type 0 where
   pub now : Place
   pub stage : reader.stage ≡ Content left now
-  pub goes : (more : List ℕ) → answered (rest_at nonce place r (body ++ more)) ≡ answered (rest_at reader.nonce now reader.request more)
+  pub goes : (more : List ℕ) → answered (rest_at nonce place r (body ++ more)) ≡ answered
+      (rest_at reader.nonce now reader.request more)
   pub quiet : (Opened place → ⊥) → IsWithout 0x04 body → Opened now → ⊥

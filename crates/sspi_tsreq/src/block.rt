@@ -11,7 +11,8 @@ use std::alloc::Global;
 /// So many bytes are read before memory is taken for them.
 const PIECE_LENGTH: usize = 1024;
 
-/// Fills `into` with the next bytes of the source, in as many reads as it needs. `UnexpectedEof` where fewer are left.
+/// Fills `into` with the next bytes of the source, in as many reads as it needs. `UnexpectedEof`
+/// where fewer are left.
 pub(crate) fn read_block<S: Source>(source: &mut S, into: &mut [u8]) -> Result<(), WireKind>
     ensures read { Fills (S.left source.old) (S.left source.new) result into.new (length into.old) }
     ensures cause { ReadCause (S.faults source.old) (S.faults source.new) result }
@@ -28,14 +29,16 @@ pub(crate) fn read_block<S: Source>(source: &mut S, into: &mut [u8]) -> Result<(
     Ok(())
 }
 
-/// The next `len` bytes of the source, in memory of their own. `UnexpectedEof` where fewer are left. Memory is taken piece by
-/// piece, for bytes that came: a source that has fewer than it announces costs no more than these.
+/// The next `len` bytes of the source, in memory of their own. `UnexpectedEof` where fewer are
+/// left. Memory is taken piece by piece, for bytes that came: a source that has fewer than it
+/// announces costs no more than these.
 pub(crate) fn read_content<S: Source>(
     alloc: Global,
     source: &mut S,
     len: usize,
 ) -> Result<Vec<u8>, WireKind>
-    ensures read { Reads (λ content. content.items) (S.left source.old) (S.left source.new) result (bytes_at len) }
+    ensures read { Reads (λ content. content.items) (S.left source.old) (S.left source.new) result
+        (bytes_at len) }
     ensures memory { WantsForContent (S.left source.old) result }
     ensures cause { CopyCause (S.faults source.old) (S.faults source.new) result }
     ensures rest { LeavesRest (S.left source.old) (S.left source.new) }

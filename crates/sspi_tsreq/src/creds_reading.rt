@@ -7,7 +7,8 @@ ghost use Rattle.sspi_tsreq.specs.CredsAnswers.{CredsCause, IsCredsRefusal, IsOr
 ghost use Rattle.sspi_tsreq.specs.CredsReading.{refusal_by, Is, IsLate, are_texts};
 ghost use Rattle.sspi_tsreq.specs.CredsGrammar.{BeginsSequence, HasPasswords};
 ghost use Rattle.sspi_types.specs.Errors.{memory_error};
-ghost use Rattle.sspi_tsreq.specs.Creds.{creds_in, creds_of, fields_at, malformed, octets_in, password_type, passwords_at};
+ghost use Rattle.sspi_tsreq.specs.Creds.{creds_in, creds_of, fields_at, malformed, octets_in};
+ghost use Rattle.sspi_tsreq.specs.Creds.{password_type, passwords_at};
 ghost use Rattle.sspi_tsreq.specs.Creds.{spelled_or_malformed, text_or_refused, texts_of};
 
 use crate::block::read_content;
@@ -19,11 +20,13 @@ use std::alloc::Global;
 
 /// Reads TSCredentials (MS-CSSP 2.2.1.2) with a password. Bytes behind them stay in the source.
 ///
-/// `InvalidToken` comes for a structure that is malformed and for a credType without content; then, by its first content
-/// byte, `UnsupportedFunction` for a smart card (2) and `InvalidToken` for another type than a password (1); then
-/// `InvalidToken` for password credentials that are malformed; and `InvalidParameter` for a text with an odd number of bytes
-/// or an unpaired surrogate. `InternalError` comes only where the source failed. The content is read into memory once its
-/// header was read, so out of memory may come in place of any refusal but that of the header.
+/// `InvalidToken` comes for a structure that is malformed and for a credType without content; then,
+/// by its first content byte, `UnsupportedFunction` for a smart card (2) and `InvalidToken` for
+/// another type than a password (1); then `InvalidToken` for password credentials that are
+/// malformed; and `InvalidParameter` for a text with an odd number of bytes or an unpaired
+/// surrogate. `InternalError` comes only where the source failed. The content is read into memory
+/// once its header was read, so out of memory may come in place of any refusal but that of the
+/// header.
 #[tactic(auto, using(crate::proofs::Unwanted::header_unwanted, crate::proofs::Unwanted::header_begins))]
 pub fn read_ts_credentials<S: Source>(
     alloc: Global,
@@ -33,7 +36,8 @@ pub fn read_ts_credentials<S: Source>(
     ensures read { ReadsCreds (S.left source.old) (S.left source.new) result }
     // What a refusal says.
     ensures kinds { IfErr result IsCredsRefusal }
-    ensures memory { IfErr result (λ error. error ≡ memory_error → IfSome (S.left source.old) BeginsSequence) }
+    ensures memory { IfErr result (λ error. error ≡ memory_error →
+        IfSome (S.left source.old) BeginsSequence) }
     // What became of the source.
     ensures cause { CredsCause (S.faults source.old) (S.faults source.new) result }
     ensures rest { LeavesRest (S.left source.old) (S.left source.new) }
@@ -48,8 +52,9 @@ pub fn read_ts_credentials<S: Source>(
     }
 }
 
-/// The same of bytes in memory, which are read where they stand. Memory is taken for the texts alone, once all of them are known to
-/// be texts. So out of memory comes only where the bytes stand for credentials, and never in place of another refusal.
+/// The same of bytes in memory, which are read where they stand. Memory is taken for the texts
+/// alone, once all of them are known to be texts. So out of memory comes only where the bytes stand
+/// for credentials, and never in place of another refusal.
 #[tactic(auto, using(crate::proofs::Unwanted::late_has), unfolding(crate::specs::Creds::creds_of))]
 pub fn read_ts_credentials_from_slice(
     alloc: Global,
@@ -95,7 +100,10 @@ fn read_creds(alloc: Global, body: &[u8]) -> Result<CredentialsBuffers, Error>
 }
 
 fn spelled_fields(body: &[u8]) -> Result<Fields<'_>, Error>
-    ensures { Is (λ fields. record { cred_type = fields.cred_type.now; credentials = fields.credentials.now }) result
+    ensures { Is (λ fields. record {
+      cred_type = fields.cred_type.now;
+      credentials = fields.credentials.now;
+    }) result
         (spelled_or_malformed (fields_at body.now)) }
 {
     match read_fields(&mut SliceSource::new(body)) {
@@ -105,7 +113,11 @@ fn spelled_fields(body: &[u8]) -> Result<Fields<'_>, Error>
 }
 
 fn spelled_passwords(bytes: &[u8]) -> Result<Passwords<'_>, Error>
-    ensures { Is (λ passwords. record { domain = passwords.domain.now; user = passwords.user.now; password = passwords.password.now })
+    ensures { Is (λ passwords. record {
+      domain = passwords.domain.now;
+      user = passwords.user.now;
+      password = passwords.password.now;
+    })
         result
         (spelled_or_malformed (passwords_at bytes.now)) }
 {
@@ -117,7 +129,10 @@ fn spelled_passwords(bytes: &[u8]) -> Result<Passwords<'_>, Error>
 
 #[tactic(auto, unfolding(crate::specs::Creds::fields_at))]
 fn read_fields<'a>(source: &mut SliceSource<'a>) -> Result<Fields<'a>, WireKind>
-    ensures read { Gives (λ fields. record { cred_type = fields.cred_type.now; credentials = fields.credentials.now }) source.new result
+    ensures read { Gives (λ fields. record {
+      cred_type = fields.cred_type.now;
+      credentials = fields.credentials.now;
+    }) source.new result
         (fields_at source.old) }
     ensures memory { NeedsNoMemory result }
 {
@@ -175,7 +190,11 @@ fn expect_password(cred_type: &[u8]) -> Result<(), Error>
 /// Whether each is a text. Takes no memory.
 fn are_texts(passwords: &Passwords<'_>) -> bool
     ensures { result ≡ are_texts
-        (record { domain = passwords.now.domain.now; user = passwords.now.user.now; password = passwords.now.password.now }) }
+        (record {
+          domain = passwords.now.domain.now;
+          user = passwords.now.user.now;
+          password = passwords.now.password.now;
+        }) }
 {
     Utf16Text::is_text_le(passwords.domain)
         && Utf16Text::is_text_le(passwords.user)
@@ -185,9 +204,17 @@ fn are_texts(passwords: &Passwords<'_>) -> bool
 #[tactic(auto, using(crate::proofs::Unwanted::judged), unfolding(crate::specs::Creds::texts_of))]
 fn read_texts(alloc: Global, passwords: &Passwords<'_>) -> Result<CredentialsBuffers, Error>
     ensures read { IsOrMemory (λ buffers. buffers) result
-        (texts_of (record { domain = passwords.now.domain.now; user = passwords.now.user.now; password = passwords.now.password.now })) }
+        (texts_of (record {
+          domain = passwords.now.domain.now;
+          user = passwords.now.user.now;
+          password = passwords.now.password.now;
+        })) }
     ensures exact { IfErr result (λ error. error ≡ memory_error → IsOk
-        (texts_of (record { domain = passwords.now.domain.now; user = passwords.now.user.now; password = passwords.now.password.now }))) }
+        (texts_of (record {
+          domain = passwords.now.domain.now;
+          user = passwords.now.user.now;
+          password = passwords.now.password.now;
+        }))) }
 {
     if !are_texts(passwords) {
         return Err(no_texts());
@@ -211,7 +238,8 @@ fn read_text(alloc: Global, bytes: &[u8]) -> Result<Utf16Text, Error>
     }
 }
 
-/// What a fault of reading is to a caller: a failed source is `InternalError`, all else a malformed structure.
+/// What a fault of reading is to a caller: a failed source is `InternalError`, all else a malformed
+/// structure.
 fn refusal_of(kind: WireKind) -> Error
     ensures { result ≡ refusal_by kind }
 {

@@ -6,8 +6,10 @@ ghost use Rattle.sspi_ber.specs.Forms.{max_content};
 ghost use Rattle.sspi_ber.specs.Outside.{Writes, WriteCause};
 ghost use Rattle.sspi_ber.specs.Short.{element, element_size};
 ghost use Rattle.sspi_names.specs.Identity.{AreBuffers};
-ghost use Rattle.sspi_tsreq.specs.Creds.{buffers_text, delegated_credentials, creds_body, creds_of, creds_text, wrapped_octets};
-ghost use Rattle.sspi_tsreq.specs.Creds.{password_fields, password_type_field, spelled_if_fits, too_long};
+ghost use Rattle.sspi_tsreq.specs.Creds.{buffers_text, delegated_credentials, creds_body, creds_of};
+ghost use Rattle.sspi_tsreq.specs.Creds.{creds_text, wrapped_octets};
+ghost use Rattle.sspi_tsreq.specs.Creds.{password_fields, password_type_field, spelled_if_fits};
+ghost use Rattle.sspi_tsreq.specs.Creds.{too_long};
 ghost use Rattle.sspi_tsreq.specs.CredsAnswers.{IsOrMemory, RefusesKeytab};
 ghost use Rattle.sspi_tsreq.specs.CredsSizes.{FitTexts, body_size, password_fields_size};
 ghost use Rattle.sspi_tsreq.specs.Size.{IsCapped};
@@ -31,21 +33,25 @@ struct Texts<'a> {
     password: &'a [u8],
 }
 
-/// Writes TSCredentials (MS-CSSP 2.2.1.2) with a password, in their shortest encoding; without the credentials, in
-/// `CredentialLess`, with three empty texts.
+/// Writes TSCredentials (MS-CSSP 2.2.1.2) with a password, in their shortest encoding; without the
+/// credentials, in `CredentialLess`, with three empty texts.
 ///
-/// `UnsupportedPreAuth` comes exactly for a keytab, in both modes, and then no memory is taken; `InternalError` exactly where the
-/// content passes `sspi_ber::MAX_CONTENT`, 1048576 octets, which is measured before the texts are encoded. So out of memory comes only
-/// where there is a text to be written.
+/// `UnsupportedPreAuth` comes exactly for a keytab, in both modes, and then no memory is taken;
+/// `InternalError` exactly where the content passes `sspi_ber::MAX_CONTENT`, 1048576 octets, which
+/// is measured before the texts are encoded. So out of memory comes only where there is a text to
+/// be written.
 pub fn write_ts_credentials(
     alloc: Global,
     credentials: &CredentialsBuffers,
     cred_ssp_mode: CredSspMode,
 ) -> Result<Vec<u8>, Error>
-    ensures text { IsOrMemory (λ text. text.items) result (creds_text credentials.now cred_ssp_mode) }
+    ensures text { IsOrMemory (λ text. text.items) result
+        (creds_text credentials.now cred_ssp_mode) }
     ensures keytab { RefusesKeytab credentials.now result }
-    ensures exact { IfErr result (λ error. error ≡ memory_error → IsOk (creds_text credentials.now cred_ssp_mode)) }
-    ensures read_back { IfOk result (λ text. creds_of text.items ≡ Ok (delegated_credentials cred_ssp_mode credentials.now)) }
+    ensures exact { IfErr result (λ error. error ≡ memory_error →
+        IsOk (creds_text credentials.now cred_ssp_mode)) }
+    ensures read_back { IfOk result (λ text. creds_of text.items ≡ Ok
+        (delegated_credentials cred_ssp_mode credentials.now)) }
 {
     match credentials {
         CredentialsBuffers::AuthIdentity(buffers) => match cred_ssp_mode {
@@ -94,9 +100,11 @@ fn write_buffers(alloc: Global, buffers: &AuthIdentityBuffers) -> Result<Vec<u8>
 #[tactic(auto, using(crate::proofs::Room::fits_ok, crate::proofs::Room::long_unwanted))]
 fn write_texts(alloc: Global, texts: &Texts<'_>) -> Result<Vec<u8>, Error>
     ensures text { IsOrMemory (λ text. text.items) result
-        (spelled_if_fits (creds_body texts.now.domain.now texts.now.user.now texts.now.password.now)) }
+        (spelled_if_fits (creds_body texts.now.domain.now texts.now.user.now
+        texts.now.password.now)) }
     ensures exact { IfErr result (λ error. error ≡ memory_error →
-        IsOk (spelled_if_fits (creds_body texts.now.domain.now texts.now.user.now texts.now.password.now))) }
+        IsOk (spelled_if_fits (creds_body texts.now.domain.now texts.now.user.now
+        texts.now.password.now))) }
 {
     let size = capped_body(texts.domain.len(), texts.user.len(), texts.password.len());
     if size > MAX_CONTENT {
@@ -115,7 +123,8 @@ fn too_long() -> Error
     Error::new(ErrorKind::InternalError, Reason::TooLong)
 }
 
-/// How many bytes the content of TSPasswordCreds takes whose texts have so many, or a number past the limit.
+/// How many bytes the content of TSPasswordCreds takes whose texts have so many, or a number past
+/// the limit.
 #[tactic(auto, using(crate::proofs::Room::fields_capped))]
 fn capped_fields(domain: usize, user: usize, password: usize) -> usize
     ensures capped { IsCapped result (password_fields_size domain user password) }
@@ -127,7 +136,8 @@ fn capped_fields(domain: usize, user: usize, password: usize) -> usize
     domain + (user + password)
 }
 
-/// How many bytes the content of TSCredentials takes whose texts have so many, or a number past the limit.
+/// How many bytes the content of TSCredentials takes whose texts have so many, or a number past the
+/// limit.
 #[tactic(auto, using(crate::proofs::Room::body_capped))]
 fn capped_body(domain: usize, user: usize, password: usize) -> usize
     ensures { IsCapped result (body_size domain user password) }
@@ -140,8 +150,10 @@ fn capped_body(domain: usize, user: usize, password: usize) -> usize
 #[tactic(auto, using(sspi_ber::proofs::Written::writing), unfolding(sspi_ber::specs::Short::element))]
 fn write_creds<W: Sink>(sink: &mut W, texts: &Texts<'_>, size: usize) -> Result<(), WireKind>
     // What must hold before.
-    requires fit { FitTexts (length texts.now.domain.now) (length texts.now.user.now) (length texts.now.password.now) }
-    requires size { size ≡ length (creds_body texts.now.domain.now texts.now.user.now texts.now.password.now) }
+    requires fit { FitTexts (length texts.now.domain.now) (length texts.now.user.now)
+        (length texts.now.password.now) }
+    requires size { size ≡ length (creds_body texts.now.domain.now texts.now.user.now
+        texts.now.password.now) }
     requires small { size ≤ max_content }
     // What was written, and why not all.
     ensures wrote { Writes (W.written sink.old) (W.written sink.new) result
@@ -155,7 +167,8 @@ fn write_creds<W: Sink>(sink: &mut W, texts: &Texts<'_>, size: usize) -> Result<
 /// The content of TSCredentials.
 #[tactic(auto, using(sspi_ber::proofs::Written::writing), unfolding(crate::specs::Creds::creds_body, crate::specs::Creds::wrapped_octets))]
 fn write_body<W: Sink>(sink: &mut W, texts: &Texts<'_>) -> Result<(), WireKind>
-    requires { FitTexts (length texts.now.domain.now) (length texts.now.user.now) (length texts.now.password.now) }
+    requires { FitTexts (length texts.now.domain.now) (length texts.now.user.now)
+        (length texts.now.password.now) }
     ensures wrote { Writes (W.written sink.old) (W.written sink.new) result
         (creds_body texts.now.domain.now texts.now.user.now texts.now.password.now) }
     ensures cause { WriteCause (W.faults sink.old) (W.faults sink.new) result }
@@ -176,9 +189,11 @@ fn write_password_type<W: Sink>(sink: &mut W) -> Result<(), WireKind>
 /// The field of the credentials.
 #[tactic(auto, using(sspi_ber::proofs::Written::writing, sspi_ber::proofs::Written::lengths), unfolding(sspi_ber::specs::Short::element))]
 fn write_credentials_field<W: Sink>(sink: &mut W, texts: &Texts<'_>) -> Result<(), WireKind>
-    requires { FitTexts (length texts.now.domain.now) (length texts.now.user.now) (length texts.now.password.now) }
+    requires { FitTexts (length texts.now.domain.now) (length texts.now.user.now)
+        (length texts.now.password.now) }
     ensures wrote { Writes (W.written sink.old) (W.written sink.new) result
-        (element 0xA1 (element 0x04 (element 0x30 (password_fields texts.now.domain.now texts.now.user.now texts.now.password.now)))) }
+        (element 0xA1 (element 0x04 (element 0x30
+        (password_fields texts.now.domain.now texts.now.user.now texts.now.password.now)))) }
     ensures cause { WriteCause (W.faults sink.old) (W.faults sink.new) result }
 {
     write_header(sink, 0xa1, size_of_element(sequence_size(texts)))?;
@@ -188,9 +203,11 @@ fn write_credentials_field<W: Sink>(sink: &mut W, texts: &Texts<'_>) -> Result<(
 /// The OCTET STRING in which the credentials stand.
 #[tactic(auto, using(sspi_ber::proofs::Written::writing), unfolding(sspi_ber::specs::Short::element))]
 fn write_octets<W: Sink>(sink: &mut W, texts: &Texts<'_>) -> Result<(), WireKind>
-    requires { FitTexts (length texts.now.domain.now) (length texts.now.user.now) (length texts.now.password.now) }
+    requires { FitTexts (length texts.now.domain.now) (length texts.now.user.now)
+        (length texts.now.password.now) }
     ensures wrote { Writes (W.written sink.old) (W.written sink.new) result
-        (element 0x04 (element 0x30 (password_fields texts.now.domain.now texts.now.user.now texts.now.password.now))) }
+        (element 0x04 (element 0x30 (password_fields texts.now.domain.now texts.now.user.now
+        texts.now.password.now))) }
     ensures cause { WriteCause (W.faults sink.old) (W.faults sink.new) result }
 {
     write_header(sink, OCTET_STRING, sequence_size(texts))?;
@@ -200,9 +217,11 @@ fn write_octets<W: Sink>(sink: &mut W, texts: &Texts<'_>) -> Result<(), WireKind
 /// TSPasswordCreds.
 #[tactic(auto, using(sspi_ber::proofs::Written::writing), unfolding(sspi_ber::specs::Short::element))]
 fn write_password_creds<W: Sink>(sink: &mut W, texts: &Texts<'_>) -> Result<(), WireKind>
-    requires { FitTexts (length texts.now.domain.now) (length texts.now.user.now) (length texts.now.password.now) }
+    requires { FitTexts (length texts.now.domain.now) (length texts.now.user.now)
+        (length texts.now.password.now) }
     ensures wrote { Writes (W.written sink.old) (W.written sink.new) result
-        (element 0x30 (password_fields texts.now.domain.now texts.now.user.now texts.now.password.now)) }
+        (element 0x30 (password_fields texts.now.domain.now texts.now.user.now
+        texts.now.password.now)) }
     ensures cause { WriteCause (W.faults sink.old) (W.faults sink.new) result }
 {
     write_header(sink, SEQUENCE, content_size(texts))?;
@@ -212,7 +231,8 @@ fn write_password_creds<W: Sink>(sink: &mut W, texts: &Texts<'_>) -> Result<(), 
 /// The three texts.
 #[tactic(auto, using(crate::proofs::Room::writing), unfolding(crate::specs::Creds::password_fields, crate::specs::Creds::wrapped_octets))]
 fn write_password_fields<W: Sink>(sink: &mut W, texts: &Texts<'_>) -> Result<(), WireKind>
-    requires { FitTexts (length texts.now.domain.now) (length texts.now.user.now) (length texts.now.password.now) }
+    requires { FitTexts (length texts.now.domain.now) (length texts.now.user.now)
+        (length texts.now.password.now) }
     ensures wrote { Writes (W.written sink.old) (W.written sink.new) result
         (password_fields texts.now.domain.now texts.now.user.now texts.now.password.now) }
     ensures cause { WriteCause (W.faults sink.old) (W.faults sink.new) result }
@@ -225,8 +245,10 @@ fn write_password_fields<W: Sink>(sink: &mut W, texts: &Texts<'_>) -> Result<(),
 /// How many bytes the content of TSPasswordCreds takes.
 #[tactic(auto, using(crate::proofs::Room::fields_length))]
 fn content_size(texts: &Texts<'_>) -> usize
-    requires { FitTexts (length texts.now.domain.now) (length texts.now.user.now) (length texts.now.password.now) }
-    ensures size { result ≡ length (password_fields texts.now.domain.now texts.now.user.now texts.now.password.now) }
+    requires { FitTexts (length texts.now.domain.now) (length texts.now.user.now)
+        (length texts.now.password.now) }
+    ensures size { result ≡ length (password_fields texts.now.domain.now texts.now.user.now
+        texts.now.password.now) }
     ensures small { result ≤ max_content }
 {
     let domain = size_of_element(size_of_element(texts.domain.len()));
@@ -238,8 +260,10 @@ fn content_size(texts: &Texts<'_>) -> usize
 /// How many bytes TSPasswordCreds take.
 #[tactic(auto, using(crate::proofs::Room::sequence))]
 fn sequence_size(texts: &Texts<'_>) -> usize
-    requires { FitTexts (length texts.now.domain.now) (length texts.now.user.now) (length texts.now.password.now) }
-    ensures size { result ≡ length (element 0x30 (password_fields texts.now.domain.now texts.now.user.now texts.now.password.now)) }
+    requires { FitTexts (length texts.now.domain.now) (length texts.now.user.now)
+        (length texts.now.password.now) }
+    ensures size { result ≡ length (element 0x30
+        (password_fields texts.now.domain.now texts.now.user.now texts.now.password.now)) }
     ensures small { result ≤ max_content }
     ensures nested { element_size result ≤ max_content }
 {

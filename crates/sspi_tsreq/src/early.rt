@@ -9,7 +9,8 @@ use sspi_ber::{Sink, Source, WireKind, write_all};
 /// How many bytes an Early User Authorization Result PDU has.
 pub const EARLY_USER_AUTH_RESULT_PDU_SIZE: usize = 4;
 
-/// Whether the user may log on, which a server that supports HYBRID_EX says behind CredSSP (MS-RDPBCGR 2.2.10.2).
+/// Whether the user may log on, which a server that supports HYBRID_EX says behind CredSSP
+/// (MS-RDPBCGR 2.2.10.2).
 #[derive(Clone, Copy, Debug, PartialEq, Eq)]
 pub enum EarlyUserAuthResult {
     /// The user may log on: the number 0 (AUTHZ_SUCCESS).
@@ -19,7 +20,8 @@ pub enum EarlyUserAuthResult {
 }
 
 impl EarlyUserAuthResult {
-    ghost use Rattle.sspi_tsreq.specs.Early.{number_of, result_of, early_result_at, early_result_text};
+    ghost use Rattle.sspi_tsreq.specs.Early.{number_of, result_of, early_result_at};
+    ghost use Rattle.sspi_tsreq.specs.Early.{early_result_text};
 
     /// The result of this number, 0 or 5; none for another.
     pub fn from_u32(value: u32) -> Option<EarlyUserAuthResult>
@@ -42,11 +44,12 @@ impl EarlyUserAuthResult {
         }
     }
 
-    /// Reads a result, four bytes with the low one first. `UnexpectedEof` where fewer are left, `InvalidData` for a number
-    /// that is no result, `ReadFault` only where the source failed.
+    /// Reads a result, four bytes with the low one first. `UnexpectedEof` where fewer are left,
+    /// `InvalidData` for a number that is no result, `ReadFault` only where the source failed.
     #[tactic(auto, unfolding(crate::specs::Early::early_result_at))]
     pub fn from_buffer<S: Source>(source: &mut S) -> Result<EarlyUserAuthResult, WireKind>
-        ensures read { Reads (λ result. result) (S.left source.old) (S.left source.new) result early_result_at }
+        ensures read { Reads (λ result. result) (S.left source.old) (S.left source.new) result
+            early_result_at }
         ensures cause { ReadCause (S.faults source.old) (S.faults source.new) result }
         ensures rest { LeavesRest (S.left source.old) (S.left source.new) }
     {
@@ -58,10 +61,11 @@ impl EarlyUserAuthResult {
         }
     }
 
-    /// Writes the four bytes. `WriteFault` only where the sink failed; after it, and when out of memory, at most three of them
-    /// were written, from the first on.
+    /// Writes the four bytes. `WriteFault` only where the sink failed; after it, and when out of
+    /// memory, at most three of them were written, from the first on.
     pub fn to_buffer<W: Sink>(self, sink: &mut W) -> Result<(), WireKind>
-        ensures wrote { Writes (W.written sink.old) (W.written sink.new) result (early_result_text self) }
+        ensures wrote { Writes (W.written sink.old) (W.written sink.new) result
+            (early_result_text self) }
         ensures cause { WriteCause (W.faults sink.old) (W.faults sink.new) result }
     {
         write_all(sink, &self.to_u32().to_le_bytes())

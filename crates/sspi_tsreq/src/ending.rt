@@ -64,7 +64,8 @@ fn missing(inner: Inner) -> Result<TsRequest, WireKind>
 
 /// What is wrong with a nonce that ends here.
 fn nonce_fault(have: u32) -> WireKind
-    ensures ends { (nonce : List ℕ) (r : TsRequest) → EndsAs (answered (nonce_from nonce have r [])) (Err result) }
+    ensures ends { (nonce : List ℕ) (r : TsRequest) →
+        EndsAs (answered (nonce_from nonce have r [])) (Err result) }
     ensures memory { NeedsNoMemory {X = TsRequest} (Err result) }
 {
     if have >= 32 {

@@ -23,7 +23,8 @@ pub(crate) fn next_length(part: LengthPart, byte: u8) -> LengthStep
 }
 
 fn first_octet(byte: u8) -> LengthStep
-    ensures { (more : List ℕ) → LengthSteps (length_rest LengthPart.First (byte ∷ more)) result more }
+    ensures { (more : List ℕ) → LengthSteps (length_rest LengthPart.First (byte ∷ more)) result
+        more }
 {
     if byte < 0x80 {
         LengthStep::Known(u32::from(byte))

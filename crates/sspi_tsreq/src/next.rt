@@ -12,7 +12,8 @@ use crate::walk::{after_text, code_place, inside, nonce_place, push_low, tag_of,
 
 /// What this byte makes of the place.
 pub(crate) fn next_place(place: Place, byte: u8) -> Next
-    ensures goes { (nonce more : List ℕ) (r : TsRequest) → LeadsTo (rest_at nonce place r (byte ∷ more)) nonce r more result }
+    ensures goes { (nonce more : List ℕ) (r : TsRequest) →
+        LeadsTo (rest_at nonce place r (byte ∷ more)) nonce r more result }
     ensures quiet { (Opened place → ⊥) → (byte ≡ 0x04 → ⊥) → IsOpening result → ⊥ }
 {
     match place {
@@ -29,7 +30,8 @@ pub(crate) fn next_place(place: Place, byte: u8) -> Next
 }
 
 fn tag_place(inner: Inner, byte: u8) -> Place
-    ensures goes { (nonce more : List ℕ) (r : TsRequest) → from_inner inner r (byte ∷ more) ≡ rest_at nonce result r more }
+    ensures goes { (nonce more : List ℕ) (r : TsRequest) →
+        from_inner inner r (byte ∷ more) ≡ rest_at nonce result r more }
     ensures quiet { (byte ≡ 0x04 → ⊥) → Opened result → ⊥ }
 {
     if byte == tag_of(inner) {
@@ -66,7 +68,8 @@ fn code_next(more: u32, value: u32, byte: u8) -> Next
 }
 
 fn length_next(element: Element, part: LengthPart, byte: u8) -> Next
-    ensures goes { (nonce more : List ℕ) (r : TsRequest) → LeadsTo (length_from element part r (byte ∷ more)) nonce r more result }
+    ensures goes { (nonce more : List ℕ) (r : TsRequest) →
+        LeadsTo (length_from element part r (byte ∷ more)) nonce r more result }
     ensures quiet { (IsOctetsElement element → ⊥) → IsOpening result → ⊥ }
 {
     match next_length(part, byte) {
@@ -78,7 +81,8 @@ fn length_next(element: Element, part: LengthPart, byte: u8) -> Next
 
 /// What stands behind a length.
 fn content_next(element: Element, len: u32) -> Next
-    ensures goes { (nonce more : List ℕ) (r : TsRequest) → LeadsTo (behind element r len more) nonce r more result }
+    ensures goes { (nonce more : List ℕ) (r : TsRequest) →
+        LeadsTo (behind element r len more) nonce r more result }
     ensures quiet { (IsOctetsElement element → ⊥) → IsOpening result → ⊥ }
 {
     match element {
@@ -88,7 +92,8 @@ fn content_next(element: Element, len: u32) -> Next
 }
 
 fn inner_next(inner: Inner, len: u32) -> Next
-    ensures goes { (nonce more : List ℕ) (r : TsRequest) → LeadsTo (behind (Element.Required inner) r len more) nonce r more result }
+    ensures goes { (nonce more : List ℕ) (r : TsRequest) →
+        LeadsTo (behind (Element.Required inner) r len more) nonce r more result }
     ensures quiet { (IsOctetsElement (Element.Required inner) → ⊥) → IsOpening result → ⊥ }
 {
     Next::At(match inner {
@@ -105,7 +110,8 @@ fn inner_next(inner: Inner, len: u32) -> Next
 
 /// The place in a field of which so many bytes are to come, behind those that it has.
 pub(crate) fn text_place(text: Text, more: u32) -> Place
-    ensures { (nonce rest octets : List ℕ) (r : TsRequest) → text_left text more (with_text text r octets) rest ≡
+    ensures { (nonce rest octets : List ℕ) (r : TsRequest) →
+        text_left text more (with_text text r octets) rest ≡
         rest_at nonce result (with_text text r octets) rest }
 {
     if more > 0 {

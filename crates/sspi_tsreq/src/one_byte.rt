@@ -31,7 +31,8 @@ fn push_octet(alloc: Global, field: &mut Option<Bytes>, byte: u8) -> Result<(), 
 impl TsReader {
     /// One byte of the content, behind which `left` are to come.
     pub(crate) fn read_byte(&mut self, left: u32, place: Place, byte: u8) -> Result<(), AllocError>
-        ensures ok { OnOk result (WentOn self.old.nonce place self.old.request (byte ∷ []) left self.new) }
+        ensures ok { OnOk result (WentOn self.old.nonce place self.old.request (byte ∷ []) left
+            self.new) }
         ensures err { OnErr result (self.new ≡ self.old) }
         ensures free { (Opened place → ⊥) → (byte ≡ 0x04 → ⊥) → IsOk result }
     {
@@ -64,7 +65,8 @@ impl TsReader {
 
     fn nonce_byte(&mut self, left: u32, have: u32, byte: u8)
         requires { have < 32 }
-        ensures { WentOn self.old.nonce (Place.InNonce have) self.old.request (byte ∷ []) left self.new }
+        ensures { WentOn self.old.nonce (Place.InNonce have) self.old.request (byte ∷ []) left
+            self.new }
     {
         put_byte(&mut self.nonce, have as usize, byte);
         if have == 31 {
@@ -77,7 +79,8 @@ impl TsReader {
 
     /// One byte that is none of a field's content, or the last of its number.
     fn step_byte(&mut self, left: u32, place: Place, byte: u8) -> Result<(), AllocError>
-        ensures ok { OnOk result (WentOn self.old.nonce place self.old.request (byte ∷ []) left self.new) }
+        ensures ok { OnOk result (WentOn self.old.nonce place self.old.request (byte ∷ []) left
+            self.new) }
         ensures err { OnErr result (self.new ≡ self.old) }
         ensures free { (Opened place → ⊥) → (byte ≡ 0x04 → ⊥) → IsOk result }
     {

@@ -11,7 +11,8 @@ use crate::place::{Element, Inner, LengthPart, LengthStep, Place, Stage};
 /// What one byte makes of the outer header.
 fn outer_step(stage: Stage, byte: u8) -> Stage
     requires { IsOuter stage }
-    ensures stands { (nonce bytes : List ℕ) (r : TsRequest) → StandsAt nonce stage r bytes → StandsAt nonce result r (bytes ++ byte ∷ []) }
+    ensures stands { (nonce bytes : List ℕ) (r : TsRequest) → StandsAt nonce stage r bytes →
+        StandsAt nonce result r (bytes ++ byte ∷ []) }
     ensures past { IsPast stage → IsPast result }
 {
     match stage {

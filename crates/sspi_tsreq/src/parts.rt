@@ -35,7 +35,8 @@ fn copy_octets(alloc: Global, octets: Option<&[u8]>) -> Result<Option<Bytes>, Al
 /// The request of these parts. Memory is taken only where there is an OCTET STRING to copy.
 pub(crate) fn copy_request(alloc: Global, parts: &Parts<'_>) -> Result<TsRequest, WireKind>
     ensures ok { IfOk result (λ request. request ≡ seen parts.now) }
-    ensures memory { IfErr result (λ kind. (kind ≡ WireKind.InsufficientMemory) × HasOctets (seen parts.now)) }
+    ensures memory { IfErr result (λ kind. (kind ≡ WireKind.InsufficientMemory) ×
+        HasOctets (seen parts.now)) }
 {
     let nego_tokens = copy_octets(alloc, parts.nego_tokens)?;
     let auth_info = copy_octets(alloc, parts.auth_info)?;

@@ -1,12 +1,14 @@
 //! A request that is read from pieces, as a stream gives them.
 
-ghost use Rattle.std.specs.Prelude.{◌≡◌, ◌≤◌, ℕ, List, [], ◌∷◌, ◌++◌, length, take, drop, None, Some, Ok, Err, IfOk, IfErr, IsOk};
+ghost use Rattle.std.specs.Prelude.{◌≡◌, ◌≤◌, ℕ, List, [], ◌∷◌, ◌++◌, length, take, drop, None};
+ghost use Rattle.std.specs.Prelude.{Some, Ok, Err, IfOk, IfErr, IsOk};
 ghost use Rattle.std.specs.Prelude.{OnOk, OnErr};
 ghost use Rattle.sspi_ber.specs.Outside.{NeedsNoMemory};
 ghost use Rattle.sspi_tsreq.specs.declared.request.TsRequest.{TsRequest};
 ghost use Rattle.sspi_tsreq.specs.Answer.{IsAnswer};
 ghost use Rattle.sspi_tsreq.specs.Feeding.{IsPastReading, Stands, StandsInside};
-ghost use Rattle.sspi_tsreq.specs.Walks.{WentOn, lengthened, numbered, with_text, filled, slot, IsHere, IsInText, IsQuiet};
+ghost use Rattle.sspi_tsreq.specs.Walks.{WentOn, lengthened, numbered, with_text, filled, slot};
+ghost use Rattle.sspi_tsreq.specs.Walks.{IsHere, IsInText, IsQuiet};
 ghost use Rattle.sspi_tsreq.specs.Grammar.{IsRequest};
 ghost use Rattle.sspi_tsreq.specs.Quiet.{IsWithout, Opened};
 ghost use Rattle.sspi_tsreq.specs.Places.{octets_of, rest_at, text_from, text_of};
@@ -20,8 +22,8 @@ use sspi_ber::WireKind;
 use sspi_types::Bytes;
 use std::alloc::{AllocError, Global};
 
-/// A reader of one request, which is fed with pieces of any size and keeps the fields that it read, not the bytes. It is told
-/// nothing of how long the request is, and keeps no more than came.
+/// A reader of one request, which is fed with pieces of any size and keeps the fields that it read,
+/// not the bytes. It is told nothing of how long the request is, and keeps no more than came.
 #[derive(Drop)]
 pub struct TsReader {
     pub(crate) alloc: Global,
@@ -68,13 +70,15 @@ fn lengthen(alloc: Global, field: &mut Option<Bytes>, octets: &[u8]) -> Result<(
     }
 }
 
-/// The bytes of the piece that belong to the field in which the reader stands, and the place behind them.
+/// The bytes of the piece that belong to the field in which the reader stands, and the place behind
+/// them.
 fn first_octets<'a>(place: Place, body: &'a [u8]) -> (&'a [u8], Place)
     // Which bytes these are.
     ensures front { result.0.now ≡ take (length result.0.now) body.now }
     ensures within { length result.0.now ≤ length body.now }
     // Where reading goes on.
-    ensures goes { (nonce more : List ℕ) (r : TsRequest) → rest_at nonce place r (result.0.now ++ more) ≡ rest_at nonce result.1
+    ensures goes { (nonce more : List ℕ) (r : TsRequest) →
+        rest_at nonce place r (result.0.now ++ more) ≡ rest_at nonce result.1
         (lengthened place r result.0.now) more }
     ensures text { IsInText result.1 → drop (length result.0.now) body.now ≡ [] }
     ensures quiet { (Opened place → ⊥) → Opened result.1 → ⊥ }
@@ -95,7 +99,8 @@ fn first_octets<'a>(place: Place, body: &'a [u8]) -> (&'a [u8], Place)
 fn octets_of_field<'a>(text: Text, more: u32, body: &'a [u8]) -> (&'a [u8], Place)
     ensures front { result.0.now ≡ take (length result.0.now) body.now }
     ensures within { length result.0.now ≤ length body.now }
-    ensures goes { (nonce rest : List ℕ) (r : TsRequest) → text_from text more r (result.0.now ++ rest) ≡ rest_at nonce result.1
+    ensures goes { (nonce rest : List ℕ) (r : TsRequest) →
+        text_from text more r (result.0.now ++ rest) ≡ rest_at nonce result.1
         (with_text text r (text_of text r ++ result.0.now)) rest }
     ensures text { IsInText result.1 → drop (length result.0.now) body.now ≡ [] }
 {
@@ -121,19 +126,23 @@ impl TsReader {
         }
     }
 
-    /// Reads on, with `piece` behind what was fed before. `InsufficientMemory` is the only refusal; it leaves the reader as it
-    /// was, so the same piece may be fed again. Memory is taken for the octets of fields alone: none while no byte was 0x04,
-    /// the identifier octet of an OCTET STRING, and none once the message is whole or its header is none. What stands behind
-    /// the request is dropped. Faults are told by `finish`.
+    /// Reads on, with `piece` behind what was fed before. `InsufficientMemory` is the only refusal;
+    /// it leaves the reader as it was, so the same piece may be fed again. Memory is taken for the
+    /// octets of fields alone: none while no byte was 0x04, the identifier octet of an OCTET
+    /// STRING, and none once the message is whole or its header is none. What stands behind the
+    /// request is dropped. Faults are told by `finish`.
     pub fn feed(&mut self, piece: &[u8]) -> Result<(), WireKind>
         // What `Ok` holds.
-        ensures ok { (bytes : List ℕ) → Stands self.old bytes → OnOk result (Stands self.new (bytes ++ piece.now)) }
+        ensures ok { (bytes : List ℕ) → Stands self.old bytes →
+            OnOk result (Stands self.new (bytes ++ piece.now)) }
         // What a refusal says, and what it leaves.
         ensures err { OnErr result (self.new ≡ self.old) }
         ensures kind { IfErr result (λ kind. kind ≡ WireKind.InsufficientMemory) }
         // Where no refusal comes.
-        ensures free { (bytes : List ℕ) → Stands self.old bytes → IsWithout 0x04 (bytes ++ piece.now) → IsOk result }
-        ensures past { (bytes : List ℕ) → Stands self.old bytes → IsPastReading bytes → IsOk result }
+        ensures free { (bytes : List ℕ) → Stands self.old bytes →
+            IsWithout 0x04 (bytes ++ piece.now) → IsOk result }
+        ensures past { (bytes : List ℕ) → Stands self.old bytes → IsPastReading bytes →
+            IsOk result }
     {
         if let [byte] = piece {
             return self.feed_byte(*byte);
@@ -150,13 +159,16 @@ impl TsReader {
         // What must hold before.
         requires { self.old.stage ≡ Stage.OuterTag }
         // What `Ok` holds.
-        ensures ok { (bytes : List ℕ) → Stands self.old bytes → OnOk result (Stands self.new (bytes ++ piece.now)) }
+        ensures ok { (bytes : List ℕ) → Stands self.old bytes →
+            OnOk result (Stands self.new (bytes ++ piece.now)) }
         // What a refusal says, and what it leaves.
         ensures err { OnErr result (self.new ≡ self.old) }
         ensures kind { IfErr result (λ kind. kind ≡ WireKind.InsufficientMemory) }
         // Where no refusal comes.
-        ensures free { (bytes : List ℕ) → Stands self.old bytes → IsWithout 0x04 (bytes ++ piece.now) → IsOk result }
-        ensures past { (bytes : List ℕ) → Stands self.old bytes → IsPastReading bytes → IsOk result }
+        ensures free { (bytes : List ℕ) → Stands self.old bytes →
+            IsWithout 0x04 (bytes ++ piece.now) → IsOk result }
+        ensures past { (bytes : List ℕ) → Stands self.old bytes → IsPastReading bytes →
+            IsOk result }
     {
         match self.read_whole(piece) {
             Ok(()) => Ok(()),
@@ -181,13 +193,16 @@ impl TsReader {
     #[inline(never)]
     fn feed_byte(&mut self, byte: u8) -> Result<(), WireKind>
         // What `Ok` holds.
-        ensures ok { (bytes : List ℕ) → Stands self.old bytes → OnOk result (Stands self.new (bytes ++ byte ∷ [])) }
+        ensures ok { (bytes : List ℕ) → Stands self.old bytes →
+            OnOk result (Stands self.new (bytes ++ byte ∷ [])) }
         // What a refusal says, and what it leaves.
         ensures err { OnErr result (self.new ≡ self.old) }
         ensures kind { IfErr result (λ kind. kind ≡ WireKind.InsufficientMemory) }
         // Where no refusal comes.
-        ensures free { (bytes : List ℕ) → Stands self.old bytes → IsWithout 0x04 (bytes ++ byte ∷ []) → IsOk result }
-        ensures past { (bytes : List ℕ) → Stands self.old bytes → IsPastReading bytes → IsOk result }
+        ensures free { (bytes : List ℕ) → Stands self.old bytes →
+            IsWithout 0x04 (bytes ++ byte ∷ []) → IsOk result }
+        ensures past { (bytes : List ℕ) → Stands self.old bytes → IsPastReading bytes →
+            IsOk result }
     {
         if let Stage::Content(left, place) = self.stage
             && left > 0
@@ -202,13 +217,16 @@ impl TsReader {
     #[inline(never)]
     fn feed_on(&mut self, piece: &[u8]) -> Result<(), WireKind>
         // What `Ok` holds.
-        ensures ok { (bytes : List ℕ) → Stands self.old bytes → OnOk result (Stands self.new (bytes ++ piece.now)) }
+        ensures ok { (bytes : List ℕ) → Stands self.old bytes →
+            OnOk result (Stands self.new (bytes ++ piece.now)) }
         // What a refusal says, and what it leaves.
         ensures err { OnErr result (self.new ≡ self.old) }
         ensures kind { IfErr result (λ kind. kind ≡ WireKind.InsufficientMemory) }
         // Where no refusal comes.
-        ensures free { (bytes : List ℕ) → Stands self.old bytes → IsWithout 0x04 (bytes ++ piece.now) → IsOk result }
-        ensures past { (bytes : List ℕ) → Stands self.old bytes → IsPastReading bytes → IsOk result }
+        ensures free { (bytes : List ℕ) → Stands self.old bytes →
+            IsWithout 0x04 (bytes ++ piece.now) → IsOk result }
+        ensures past { (bytes : List ℕ) → Stands self.old bytes → IsPastReading bytes →
+            IsOk result }
     {
         let (stage, taken) = read_outer(self.stage, piece);
         match stage {
@@ -219,11 +237,13 @@ impl TsReader {
         }
     }
 
-    /// What `from_buffer` answers on all that was fed: the request that it begins with, or its first fault. A fault of the
-    /// content is told only where the content is whole, and else `UnexpectedEof`. Takes no memory.
+    /// What `from_buffer` answers on all that was fed: the request that it begins with, or its
+    /// first fault. A fault of the content is told only where the content is whole, and else
+    /// `UnexpectedEof`. Takes no memory.
     pub fn finish(self) -> Result<TsRequest, WireKind>
         ensures answer { (bytes : List ℕ) → Stands self bytes → IsAnswer bytes result }
-        ensures only { (bytes : List ℕ) → Stands self bytes → (r : TsRequest) (count : ℕ) → IsRequest bytes r count → result ≡ Ok r }
+        ensures only { (bytes : List ℕ) → Stands self bytes → (r : TsRequest) (count : ℕ) →
+            IsRequest bytes r count → result ≡ Ok r }
         ensures memory { NeedsNoMemory result }
     {
         if let Stage::Content(0, Place::Whole) = self.stage {
@@ -236,7 +256,8 @@ impl TsReader {
     #[inline(never)]
     fn conclude(self) -> Result<TsRequest, WireKind>
         ensures answer { (bytes : List ℕ) → Stands self bytes → IsAnswer bytes result }
-        ensures only { (bytes : List ℕ) → Stands self bytes → (r : TsRequest) (count : ℕ) → IsRequest bytes r count → result ≡ Ok r }
+        ensures only { (bytes : List ℕ) → Stands self bytes → (r : TsRequest) (count : ℕ) →
+            IsRequest bytes r count → result ≡ Ok r }
         ensures memory { NeedsNoMemory result }
     {
         match self.stage {
@@ -264,7 +285,8 @@ impl TsReader {
     /// As many bytes of the content as are still to come.
     fn feed_content(&mut self, left: u32, place: Place, behind: &[u8]) -> Result<(), WireKind>
         // What `Ok` holds.
-        ensures ok { (bytes : List ℕ) → StandsInside self.old.nonce left place self.old.request bytes →
+        ensures ok { (bytes : List ℕ) → StandsInside self.old.nonce left place self.old.request
+            bytes →
             OnOk result (Stands self.new (bytes ++ behind.now)) }
         // What a refusal says, and what it leaves.
         ensures err { OnErr result (self.new ≡ self.old) }
@@ -289,7 +311,8 @@ impl TsReader {
         place: Place,
         body: &[u8],
     ) -> Result<(), AllocError>
-        ensures ok { OnOk result (WentOn self.old.nonce place self.old.request body.now left self.new) }
+        ensures ok { OnOk result (WentOn self.old.nonce place self.old.request body.now left
+            self.new) }
         ensures err { OnErr result (self.new ≡ self.old) }
         ensures free { (Opened place → ⊥) → IsWithout 0x04 body.now → IsOk result }
     {
@@ -305,7 +328,8 @@ impl TsReader {
 
     /// The same where more than octets of one field may come.
     fn read_fields(&mut self, left: u32, place: Place, body: &[u8]) -> Result<(), AllocError>
-        ensures ok { OnOk result (WentOn self.old.nonce place self.old.request body.now left self.new) }
+        ensures ok { OnOk result (WentOn self.old.nonce place self.old.request body.now left
+            self.new) }
         ensures err { OnErr result (self.new ≡ self.old) }
         ensures free { (Opened place → ⊥) → IsWithout 0x04 body.now → IsOk result }
     {
@@ -347,7 +371,10 @@ impl TsReader {
     }
 
     fn lengthen_field(&mut self, place: Place, octets: &[u8]) -> Result<(), AllocError>
-        ensures ok { OnOk result (self.new ≡ record self.old { request = lengthened place self.old.request octets.now }) }
+        ensures ok { OnOk result
+            (self.new ≡ record self.old {
+              request = lengthened place self.old.request octets.now;
+            }) }
         ensures err { OnErr result (self.new ≡ self.old) }
         ensures memory { IfErr result (λ _. Opened place) }
     {

@@ -1,4 +1,5 @@
-//! A request read where it stands, without memory. So every refusal is reached before memory is taken.
+//! A request read where it stands, without memory. So every refusal is reached before memory is
+//! taken.
 
 ghost use Rattle.std.specs.Prelude.{◌≡◌};
 ghost use Rattle.std.specs.Option.{option_copied};
@@ -6,8 +7,10 @@ ghost use Rattle.sspi_ber.specs.Pieces.{as_ended, field_at, header_at, tagged_at
 ghost use Rattle.sspi_ber.specs.Outside.{Gives, NeedsNoMemory};
 ghost use Rattle.sspi_tsreq.specs.Parts.{seen};
 ghost use Rattle.sspi_tsreq.specs.Grammar.{bare};
-ghost use Rattle.sspi_tsreq.specs.Reading.{low_at, version_at, octets_at, token_at, code_at, nonce_at, after_code, after_key};
-ghost use Rattle.sspi_tsreq.specs.Reading.{after_auth, after_nego, after_version, body_at, request_at};
+ghost use Rattle.sspi_tsreq.specs.Reading.{low_at, version_at, octets_at, token_at, code_at};
+ghost use Rattle.sspi_tsreq.specs.Reading.{nonce_at, after_code, after_key};
+ghost use Rattle.sspi_tsreq.specs.Reading.{after_auth, after_nego, after_version, body_at};
+ghost use Rattle.sspi_tsreq.specs.Reading.{request_at};
 
 use crate::parts::Parts;
 use sspi_ber::{
@@ -48,7 +51,8 @@ fn read_octets_field<'a>(
     source: &mut SliceSource<'a>,
     tag: u8,
 ) -> Result<Option<&'a [u8]>, WireKind>
-    ensures read { Gives (λ field. option_copied field) source.new result (field_at tag octets_at source.old) }
+    ensures read { Gives (λ field. option_copied field) source.new result
+        (field_at tag octets_at source.old) }
     ensures memory { NeedsNoMemory result }
 {
     match read_tag_or_absent(source, tag)? {
@@ -74,7 +78,8 @@ fn read_token<'a>(source: &mut SliceSource<'a>) -> Result<&'a [u8], WireKind>
 
 #[tactic(auto, unfolding(sspi_ber::specs::Pieces::field_at))]
 fn read_nego_field<'a>(source: &mut SliceSource<'a>) -> Result<Option<&'a [u8]>, WireKind>
-    ensures read { Gives (λ field. option_copied field) source.new result (field_at 0xA1 token_at source.old) }
+    ensures read { Gives (λ field. option_copied field) source.new result
+        (field_at 0xA1 token_at source.old) }
     ensures memory { NeedsNoMemory result }
 {
     match read_tag_or_absent(source, 0xA1)? {
@@ -118,7 +123,8 @@ fn read_nonce<'a>(source: &mut SliceSource<'a>) -> Result<&'a [u8; 32], WireKind
 
 #[tactic(auto, unfolding(sspi_ber::specs::Pieces::field_at))]
 fn read_nonce_field<'a>(source: &mut SliceSource<'a>) -> Result<Option<&'a [u8; 32]>, WireKind>
-    ensures read { Gives (λ field. option_copied field) source.new result (field_at 0xA5 nonce_at source.old) }
+    ensures read { Gives (λ field. option_copied field) source.new result
+        (field_at 0xA5 nonce_at source.old) }
     ensures memory { NeedsNoMemory result }
 {
     match read_tag_or_absent(source, 0xA5)? {
@@ -132,7 +138,8 @@ fn read_nonce_field<'a>(source: &mut SliceSource<'a>) -> Result<Option<&'a [u8; 
 
 #[tactic(auto, unfolding(crate::specs::Reading::after_code))]
 fn read_after_code<'a>(parts: &mut Parts<'a>, source: &mut SliceSource<'a>) -> Result<(), WireKind>
-    ensures read { Gives (λ _. seen parts.new) source.new result (after_code (seen parts.old) source.old) }
+    ensures read { Gives (λ _. seen parts.new) source.new result
+        (after_code (seen parts.old) source.old) }
     ensures memory { NeedsNoMemory result }
 {
     parts.client_nonce = if parts.version >= 5 {
@@ -145,7 +152,8 @@ fn read_after_code<'a>(parts: &mut Parts<'a>, source: &mut SliceSource<'a>) -> R
 
 #[tactic(auto, unfolding(crate::specs::Reading::after_key))]
 fn read_after_key<'a>(parts: &mut Parts<'a>, source: &mut SliceSource<'a>) -> Result<(), WireKind>
-    ensures read { Gives (λ _. seen parts.new) source.new result (after_key (seen parts.old) source.old) }
+    ensures read { Gives (λ _. seen parts.new) source.new result
+        (after_key (seen parts.old) source.old) }
     ensures memory { NeedsNoMemory result }
 {
     parts.error_code = if parts.version >= 3 {
@@ -158,7 +166,8 @@ fn read_after_key<'a>(parts: &mut Parts<'a>, source: &mut SliceSource<'a>) -> Re
 
 #[tactic(auto, unfolding(crate::specs::Reading::after_auth))]
 fn read_after_auth<'a>(parts: &mut Parts<'a>, source: &mut SliceSource<'a>) -> Result<(), WireKind>
-    ensures read { Gives (λ _. seen parts.new) source.new result (after_auth (seen parts.old) source.old) }
+    ensures read { Gives (λ _. seen parts.new) source.new result
+        (after_auth (seen parts.old) source.old) }
     ensures memory { NeedsNoMemory result }
 {
     parts.pub_key_auth = read_octets_field(source, 0xA3)?;
@@ -167,7 +176,8 @@ fn read_after_auth<'a>(parts: &mut Parts<'a>, source: &mut SliceSource<'a>) -> R
 
 #[tactic(auto, unfolding(crate::specs::Reading::after_nego))]
 fn read_after_nego<'a>(parts: &mut Parts<'a>, source: &mut SliceSource<'a>) -> Result<(), WireKind>
-    ensures read { Gives (λ _. seen parts.new) source.new result (after_nego (seen parts.old) source.old) }
+    ensures read { Gives (λ _. seen parts.new) source.new result
+        (after_nego (seen parts.old) source.old) }
     ensures memory { NeedsNoMemory result }
 {
     parts.auth_info = read_octets_field(source, 0xA2)?;
@@ -179,7 +189,8 @@ fn read_after_version<'a>(
     parts: &mut Parts<'a>,
     source: &mut SliceSource<'a>,
 ) -> Result<(), WireKind>
-    ensures read { Gives (λ _. seen parts.new) source.new result (after_version (seen parts.old) source.old) }
+    ensures read { Gives (λ _. seen parts.new) source.new result
+        (after_version (seen parts.old) source.old) }
     ensures memory { NeedsNoMemory result }
 {
     parts.nego_tokens = read_nego_field(source)?;

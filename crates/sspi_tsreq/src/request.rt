@@ -31,7 +31,8 @@ pub struct TsRequest {
     pub auth_info: Option<Bytes>,
     /// The sealed proof of the server's public key (`pubKeyAuth`), as the octets that are sent.
     pub pub_key_auth: Option<Bytes>,
-    /// The status of a failure (`errorCode`). It is read from version 3 on, and written from version 3 on except at 5.
+    /// The status of a failure (`errorCode`). It is read from version 3 on, and written from
+    /// version 3 on except at 5.
     pub error_code: Option<NStatusCode>,
     /// The 32 bytes of `clientNonce`, which are read and written from version 5 on.
     pub client_nonce: Option<[u8; 32]>,
@@ -92,25 +93,30 @@ impl TsRequest {
         }
     }
 
-    /// The request that `buffer` begins with; bytes after it are ignored, and so are bytes after its last field.
+    /// The request that `buffer` begins with; bytes after it are ignored, and so are bytes after
+    /// its last field.
     ///
-    /// `UnexpectedEof` where the outer header is bad, the buffer is shorter than header and content, or the content ends
-    /// inside an element; `InvalidData` where the first element that is malformed is refused for another
-    /// reason. Lengths of tags are judged by their form alone. Out of memory is told only for the OCTET STRINGs of a request
-    /// that was found whole, so it never comes in place of a fault, nor for a request that has none.
+    /// `UnexpectedEof` where the outer header is bad, the buffer is shorter than header and
+    /// content, or the content ends inside an element; `InvalidData` where the first element that
+    /// is malformed is refused for another reason. Lengths of tags are judged by their form alone.
+    /// Out of memory is told only for the OCTET STRINGs of a request that was found whole, so it
+    /// never comes in place of a fault, nor for a request that has none.
     pub fn from_buffer(alloc: Global, buffer: &[u8]) -> Result<TsRequest, WireKind>
         ensures answer { IsAnswer buffer.now result }
-        ensures only { (r : TsRequest) (count : ℕ) → IsRequest buffer.now r count → IsUnlessMemory result r }
+        ensures only { (r : TsRequest) (count : ℕ) → IsRequest buffer.now r count →
+            IsUnlessMemory result r }
     {
         let parts = read_request(&mut SliceSource::new(buffer))?;
         copy_request(alloc, &parts)
     }
 
-    /// How many bytes the request takes that the source begins with: those of its header, which are read, and those of the
-    /// content. Each fault of the header is `UnexpectedEof`. Takes no memory.
+    /// How many bytes the request takes that the source begins with: those of its header, which are
+    /// read, and those of the content. Each fault of the header is `UnexpectedEof`. Takes no
+    /// memory.
     #[tactic(auto, unfolding(crate::specs::Header::request_size_at))]
     pub fn read_length<S: Source>(source: &mut S) -> Result<usize, WireKind>
-        ensures read { Reads (λ size. size) (S.left source.old) (S.left source.new) result request_size_at }
+        ensures read { Reads (λ size. size) (S.left source.old) (S.left source.new) result
+            request_size_at }
         ensures cause { ReadCause (S.faults source.old) (S.faults source.new) result }
         ensures rest { LeavesRest (S.left source.old) (S.left source.new) }
     {
@@ -122,12 +128,14 @@ impl TsRequest {
         }
     }
 
-    /// Writes the request. The code is left out below version 3 and at version 5, the nonce below version 5. `InvalidData`
-    /// exactly where the content passes the limit, and then nothing is written; after a `WriteFault` or out of memory a
-    /// proper prefix of the encoding was written, never all of it.
+    /// Writes the request. The code is left out below version 3 and at version 5, the nonce below
+    /// version 5. `InvalidData` exactly where the content passes the limit, and then nothing is
+    /// written; after a `WriteFault` or out of memory a proper prefix of the encoding was written,
+    /// never all of it.
     #[tactic(auto, using(crate::proofs::Capped::capped_fits, crate::proofs::Capped::capped_past))]
     pub fn encode_ts_request<W: Sink>(&self, sink: &mut W) -> Result<(), WireKind>
-        ensures wrote { WritesIf (fits self.now) W.written sink.old sink.new result (spelled self.now) }
+        ensures wrote { WritesIf (fits self.now) W.written sink.old sink.new result
+            (spelled self.now) }
         ensures cause { WriteCause (W.faults sink.old) (W.faults sink.new) result }
     {
         let size = fields_size(self);
@@ -137,8 +145,9 @@ impl TsRequest {
         write_request(sink, self, size)
     }
 
-    /// The bytes that `encode_ts_request` writes, in memory that is taken once. `InvalidData` exactly where the content passes the
-    /// limit, and then no memory is taken; else the only refusal is `InsufficientMemory`.
+    /// The bytes that `encode_ts_request` writes, in memory that is taken once. `InvalidData`
+    /// exactly where the content passes the limit, and then no memory is taken; else the only
+    /// refusal is `InsufficientMemory`.
     #[tactic(auto, using(crate::proofs::Capped::capped_fits, crate::proofs::Capped::capped_past))]
     pub fn encode(&self, alloc: Global) -> Result<Vec<u8>, WireKind>
         ensures { Encodes self.now result }
@@ -152,7 +161,8 @@ impl TsRequest {
         Ok(sink.into_inner())
     }
 
-    /// How many bytes encoding writes. `InvalidData` exactly where the content passes the limit. Takes no memory.
+    /// How many bytes encoding writes. `InvalidData` exactly where the content passes the limit.
+    /// Takes no memory.
     #[tactic(auto, using(crate::proofs::Capped::capped_fits, crate::proofs::Capped::capped_past, crate::proofs::Capped::spelled_size))]
     pub fn buffer_len(&self) -> Result<u32, WireKind>
         ensures { IsSizeIf (fits self.now) result (length (spelled self.now)) }
@@ -164,7 +174,8 @@ impl TsRequest {
         Ok(size_of_element(size) as u32)
     }
 
-    /// `InvalidToken`, with the code as its status, exactly where the request has a code other than `SUCCESS`. Takes no memory.
+    /// `InvalidToken`, with the code as its status, exactly where the request has a code other than
+    /// `SUCCESS`. Takes no memory.
     pub fn check_error(&self) -> Result<(), Error>
         ensures { ChecksCode self.now.error_code result }
     {

@@ -1,12 +1,16 @@
 //! A reader on its way through a piece of a request's content, byte by byte.
 
-ghost use Rattle.std.specs.Prelude.{◌≡◌, ℕ, ◌+◌, ◌*◌, ◌%◌, ◌^◌, ◌<◌, ◌≤◌, nat_le, ◌&&◌, ◌==◌, List, [], ◌∷◌, ◌++◌, length, slice_set};
+ghost use Rattle.std.specs.Prelude.{◌≡◌, ℕ, ◌+◌, ◌*◌, ◌%◌, ◌^◌, ◌<◌, ◌≤◌, nat_le, ◌&&◌, ◌==◌, List};
+ghost use Rattle.std.specs.Prelude.{[], ◌∷◌, ◌++◌, length, slice_set};
 ghost use Rattle.std.specs.Prelude.{MatchOption};
 ghost use Rattle.sspi_tsreq.specs.declared.request.TsRequest.{TsRequest};
 ghost use Rattle.sspi_tsreq.specs.Grammar.{bare};
-ghost use Rattle.sspi_tsreq.specs.Places.{answered, behind, code_from, length_from, nonce_from, rest_at, text_then, version_from};
-ghost use Rattle.sspi_tsreq.specs.Walks.{inner_tag, with_text, filled, goes_on, from_field, from_inner, IsInText, IsQuiet};
-ghost use Rattle.sspi_tsreq.specs.Reading.{after_code, after_key, after_auth, after_nego, after_version};
+ghost use Rattle.sspi_tsreq.specs.Places.{answered, behind, code_from, length_from, nonce_from};
+ghost use Rattle.sspi_tsreq.specs.Places.{rest_at, text_then, version_from};
+ghost use Rattle.sspi_tsreq.specs.Walks.{inner_tag, with_text, filled, goes_on, from_field};
+ghost use Rattle.sspi_tsreq.specs.Walks.{from_inner, IsInText, IsQuiet};
+ghost use Rattle.sspi_tsreq.specs.Reading.{after_code, after_key, after_auth, after_nego};
+ghost use Rattle.sspi_tsreq.specs.Reading.{after_version};
 ghost use Rattle.sspi_tsreq.specs.Quiet.{IsOctetsElement, IsOctetsHeader, IsWithout, Opened};
 
 use crate::length::{is_integer_size, next_length};
@@ -187,7 +191,8 @@ impl<'a> Walk<'a> {
 
     /// The version is known, and no field yet.
     fn begin(&mut self, version: u32)
-        ensures goes { (base : TsRequest) (more : List ℕ) → answered (after_version (bare version) more) ≡ goes_on self.new base more }
+        ensures goes { (base : TsRequest) (more : List ℕ) →
+            answered (after_version (bare version) more) ≡ goes_on self.new base more }
         ensures text { IsInText self.new.place → ⊥ }
         ensures quiet { IsQuiet self.new }
     {
@@ -201,7 +206,8 @@ impl<'a> Walk<'a> {
     }
 
     fn version_byte(&mut self, more: u32, value: u32, byte: u8)
-        ensures goes { (base : TsRequest) (text : List ℕ) → answered (version_from more value (byte ∷ text)) ≡ goes_on self.new base text }
+        ensures goes { (base : TsRequest) (text : List ℕ) →
+            answered (version_from more value (byte ∷ text)) ≡ goes_on self.new base text }
         ensures text { IsInText self.new.place → ⊥ }
         ensures quiet { IsQuiet self.old → IsQuiet self.new }
     {
@@ -215,7 +221,8 @@ impl<'a> Walk<'a> {
 
     fn code_byte(&mut self, more: u32, value: u32, byte: u8)
         ensures goes { (base : TsRequest) (text : List ℕ) → answered
-            (code_from more value (filled base self.old) (byte ∷ text)) ≡ goes_on self.new base text }
+            (code_from more value (filled base self.old) (byte ∷ text)) ≡ goes_on self.new base
+            text }
         ensures text { IsInText self.new.place → ⊥ }
         ensures quiet { IsQuiet self.old → IsQuiet self.new }
     {
@@ -230,7 +237,8 @@ impl<'a> Walk<'a> {
 
     fn nonce_byte(&mut self, have: u32, byte: u8)
         ensures goes { (base : TsRequest) (more : List ℕ) → answered
-            (nonce_from self.old.nonce have (filled base self.old) (byte ∷ more)) ≡ goes_on self.new base more }
+            (nonce_from self.old.nonce have (filled base self.old) (byte ∷ more)) ≡ goes_on self.new
+            base more }
         ensures text { IsInText self.new.place → ⊥ }
         ensures quiet { IsQuiet self.old → IsQuiet self.new }
     {
@@ -249,7 +257,8 @@ impl<'a> Walk<'a> {
 
     /// The bytes of this field so far.
     fn put(&mut self, text: Text, octets: &'a [u8])
-        ensures fields { (base : TsRequest) → filled base self.new ≡ with_text text (filled base self.old) octets.now }
+        ensures fields { (base : TsRequest) →
+            filled base self.new ≡ with_text text (filled base self.old) octets.now }
         ensures nonce { self.new.nonce ≡ self.old.nonce }
     {
         match text {
@@ -263,7 +272,8 @@ impl<'a> Walk<'a> {
     fn octets(&mut self, text: Text, len: usize, rest: &'a [u8]) -> &'a [u8]
         requires { len < 2 ^ 32 }
         ensures goes { (base : TsRequest) (more : List ℕ) → answered
-            (behind (Element.Required (Inner.Octets text)) (filled base self.old) len (rest.now ++ more)) ≡ goes_on self.new base
+            (behind (Element.Required (Inner.Octets text)) (filled base self.old) len
+            (rest.now ++ more)) ≡ goes_on self.new base
             (result.now ++ more) }
         ensures text { IsInText self.new.place → result.now ≡ [] }
         ensures shorter { length result.now ≤ length rest.now }
@@ -283,7 +293,8 @@ impl<'a> Walk<'a> {
     /// What stands behind the length of an element.
     fn behind(&mut self, element: Element, len: u32, rest: &'a [u8]) -> &'a [u8]
         ensures goes { (base : TsRequest) (more : List ℕ) → answered
-            (behind element (filled base self.old) len (rest.now ++ more)) ≡ goes_on self.new base (result.now ++ more) }
+            (behind element (filled base self.old) len (rest.now ++ more)) ≡ goes_on self.new base
+            (result.now ++ more) }
         ensures text { IsInText self.new.place → result.now ≡ [] }
         ensures shorter { length result.now ≤ length rest.now }
         ensures quiet { IsQuiet self.old → (IsOctetsElement element → ⊥) → IsQuiet self.new
@@ -300,7 +311,8 @@ impl<'a> Walk<'a> {
 
     fn inside(&mut self, inner: Inner, len: u32, rest: &'a [u8]) -> &'a [u8]
         ensures goes { (base : TsRequest) (more : List ℕ) → answered
-            (behind (Element.Required inner) (filled base self.old) len (rest.now ++ more)) ≡ goes_on self.new base (result.now ++ more) }
+            (behind (Element.Required inner) (filled base self.old) len (rest.now ++ more)) ≡
+            goes_on self.new base (result.now ++ more) }
         ensures text { IsInText self.new.place → result.now ≡ [] }
         ensures shorter { length result.now ≤ length rest.now }
         ensures quiet { IsQuiet self.old → (IsOctetsHeader inner → ⊥) → IsQuiet self.new
@@ -323,7 +335,8 @@ impl<'a> Walk<'a> {
     fn nonce_octets(&mut self, len: u32, rest: &'a [u8]) -> &'a [u8]
         // Where reading goes on.
         ensures goes { (base : TsRequest) (more : List ℕ) → answered
-            (behind (Element.Required Inner.NonceOctets) (filled base self.old) len (rest.now ++ more)) ≡ goes_on self.new base
+            (behind (Element.Required Inner.NonceOctets) (filled base self.old) len
+            (rest.now ++ more)) ≡ goes_on self.new base
             (result.now ++ more) }
         ensures text { IsInText self.new.place → ⊥ }
         ensures shorter { length result.now ≤ length rest.now }
@@ -350,7 +363,8 @@ impl<'a> Walk<'a> {
         rest: &'a [u8],
     ) -> &'a [u8]
         ensures goes { (base : TsRequest) (more : List ℕ) → answered
-            (length_from element part (filled base self.old) (byte ∷ (rest.now ++ more))) ≡ goes_on self.new base (result.now ++ more) }
+            (length_from element part (filled base self.old) (byte ∷ (rest.now ++ more))) ≡ goes_on
+            self.new base (result.now ++ more) }
         ensures text { IsInText self.new.place → result.now ≡ [] }
         ensures shorter { length result.now ≤ length rest.now }
         ensures quiet { IsQuiet self.old → (IsOctetsElement element → ⊥) → IsQuiet self.new
@@ -374,12 +388,14 @@ impl<'a> Walk<'a> {
         // What must hold before.
         requires { IsInText self.old.place → ⊥ }
         // Where reading goes on.
-        ensures goes { (base : TsRequest) (more : List ℕ) → goes_on self.old base (byte ∷ (rest.now ++ more)) ≡ goes_on self.new base
+        ensures goes { (base : TsRequest) (more : List ℕ) →
+            goes_on self.old base (byte ∷ (rest.now ++ more)) ≡ goes_on self.new base
             (result.now ++ more) }
         ensures text { IsInText self.new.place → result.now ≡ [] }
         ensures shorter { length result.now ≤ length rest.now }
         // Without an OCTET STRING.
-        ensures quiet { IsQuiet self.old → (byte ≡ 0x04 → ⊥) → IsWithout 0x04 rest.now → IsQuiet self.new × IsWithout 0x04 result.now }
+        ensures quiet { IsQuiet self.old → (byte ≡ 0x04 → ⊥) → IsWithout 0x04 rest.now →
+            IsQuiet self.new × IsWithout 0x04 result.now }
     {
         match self.place {
             Place::AtTag(Element::Optional(field)) => self.at_field(field, byte),
@@ -397,7 +413,8 @@ impl<'a> Walk<'a> {
     /// The whole piece. The walk stands in no OCTET STRING, unless the piece is empty.
     pub(crate) fn advance(&mut self, piece: &'a [u8])
         requires { IsInText self.old.place → piece.now ≡ [] }
-        ensures goes { (base : TsRequest) (more : List ℕ) → goes_on self.old base (piece.now ++ more) ≡ goes_on self.new base more }
+        ensures goes { (base : TsRequest) (more : List ℕ) →
+            goes_on self.old base (piece.now ++ more) ≡ goes_on self.new base more }
         ensures quiet { IsQuiet self.old → IsWithout 0x04 piece.now → IsQuiet self.new }
     {
         let mut rest = piece;
@@ -409,7 +426,8 @@ impl<'a> Walk<'a> {
 
 /// What stands inside a field.
 pub(crate) fn inside(field: Field) -> Inner
-    ensures { (r : TsRequest) (len : ℕ) (more : List ℕ) → behind (Element.Optional field) r len more ≡ from_inner result r more }
+    ensures { (r : TsRequest) (len : ℕ) (more : List ℕ) →
+        behind (Element.Optional field) r len more ≡ from_inner result r more }
 {
     match field {
         Field::Nego => Inner::TokenList,
@@ -422,7 +440,8 @@ pub(crate) fn inside(field: Field) -> Inner
 
 /// The field behind this one.
 pub(crate) fn after_text(text: Text) -> Field
-    ensures { (r : TsRequest) (octets more : List ℕ) → text_then text r (octets, more) ≡ from_field result (with_text text r octets) more }
+    ensures { (r : TsRequest) (octets more : List ℕ) →
+        text_then text r (octets, more) ≡ from_field result (with_text text r octets) more }
 {
     match text {
         Text::NegoTokens => Field::Auth,

@@ -6,7 +6,8 @@ ghost use Rattle.sspi_ber.specs.Forms.{max_content};
 ghost use Rattle.sspi_ber.specs.Short.{element, int_short};
 ghost use Rattle.sspi_tsreq.specs.Size.{IsTokenSize};
 ghost use Rattle.sspi_ber.specs.Outside.{Writes, WriteCause};
-ghost use Rattle.sspi_tsreq.specs.Spelling.{carried, version_field, token_item, token_list, nego_field, octets_field, code_field};
+ghost use Rattle.sspi_tsreq.specs.Spelling.{carried, version_field, token_item, token_list};
+ghost use Rattle.sspi_tsreq.specs.Spelling.{nego_field, octets_field, code_field};
 ghost use Rattle.sspi_tsreq.specs.Spelling.{last_fields, later_fields, fields, fits, spelled};
 
 use crate::request::TsRequest;
@@ -22,7 +23,8 @@ use sspi_types::{Bytes, NStatusCode};
 #[tactic(auto, using(sspi_ber::proofs::Written::writing), unfolding(sspi_ber::specs::Short::element))]
 #[inline(always)]
 fn write_wrapped_integer<W: Sink>(sink: &mut W, tag: u8, value: u32) -> Result<(), WireKind>
-    ensures wrote { Writes (W.written sink.old) (W.written sink.new) result (element tag (int_short value)) }
+    ensures wrote { Writes (W.written sink.old) (W.written sink.new) result
+        (element tag (int_short value)) }
     ensures cause { WriteCause (W.faults sink.old) (W.faults sink.new) result }
 {
     if value < 0x80 {
@@ -36,7 +38,8 @@ fn write_wrapped_integer<W: Sink>(sink: &mut W, tag: u8, value: u32) -> Result<(
 #[tactic(auto, using(sspi_ber::proofs::Written::writing), unfolding(crate::specs::Spelling::octets_field))]
 fn write_octets_field<W: Sink>(sink: &mut W, tag: u8, field: &Option<Bytes>) -> Result<(), WireKind>
     requires { length (octets_field tag field.now) ≤ max_content }
-    ensures wrote { Writes (W.written sink.old) (W.written sink.new) result (octets_field tag field.now) }
+    ensures wrote { Writes (W.written sink.old) (W.written sink.new) result
+        (octets_field tag field.now) }
     ensures cause { WriteCause (W.faults sink.old) (W.faults sink.new) result }
 {
     match field {
@@ -89,7 +92,8 @@ fn token_list_size(token: &[u8]) -> usize
 #[tactic(auto, using(sspi_ber::proofs::Written::writing), unfolding(sspi_ber::specs::Short::element))]
 fn write_token<W: Sink>(sink: &mut W, token: &[u8]) -> Result<(), WireKind>
     requires { IsTokenSize (length token.now) }
-    ensures wrote { Writes (W.written sink.old) (W.written sink.new) result (element 0xA1 (token_list token.now)) }
+    ensures wrote { Writes (W.written sink.old) (W.written sink.new) result
+        (element 0xA1 (token_list token.now)) }
     ensures cause { WriteCause (W.faults sink.old) (W.faults sink.new) result }
 {
     write_header(sink, 0xA1, token_list_size(token))?;
@@ -121,7 +125,8 @@ fn write_code_field<W: Sink>(sink: &mut W, field: Option<NStatusCode>) -> Result
 
 #[tactic(auto, using(sspi_ber::proofs::Written::writing), unfolding(crate::specs::Spelling::octets_field))]
 fn write_nonce_field<W: Sink>(sink: &mut W, field: Option<&[u8; 32]>) -> Result<(), WireKind>
-    ensures wrote { Writes (W.written sink.old) (W.written sink.new) result (octets_field 0xA5 (option_copied field.entry)) }
+    ensures wrote { Writes (W.written sink.old) (W.written sink.new) result
+        (octets_field 0xA5 (option_copied field.entry)) }
     ensures cause { WriteCause (W.faults sink.old) (W.faults sink.new) result }
 {
     match field {
@@ -132,7 +137,8 @@ fn write_nonce_field<W: Sink>(sink: &mut W, field: Option<&[u8; 32]>) -> Result<
 
 #[tactic(auto, using(sspi_ber::proofs::Written::writing), unfolding(crate::specs::Spelling::last_fields))]
 fn write_last_fields<W: Sink>(sink: &mut W, request: &TsRequest) -> Result<(), WireKind>
-    ensures wrote { Writes (W.written sink.old) (W.written sink.new) result (last_fields (carried request.now)) }
+    ensures wrote { Writes (W.written sink.old) (W.written sink.new) result
+        (last_fields (carried request.now)) }
     ensures cause { WriteCause (W.faults sink.old) (W.faults sink.new) result }
 {
     write_code_field(sink, carried_code(request))?;
@@ -142,7 +148,8 @@ fn write_last_fields<W: Sink>(sink: &mut W, request: &TsRequest) -> Result<(), W
 #[tactic(auto, using(sspi_ber::proofs::Written::writing), unfolding(crate::specs::Spelling::later_fields))]
 fn write_later_fields<W: Sink>(sink: &mut W, request: &TsRequest) -> Result<(), WireKind>
     requires { length (later_fields (carried request.now)) ≤ max_content }
-    ensures wrote { Writes (W.written sink.old) (W.written sink.new) result (later_fields (carried request.now)) }
+    ensures wrote { Writes (W.written sink.old) (W.written sink.new) result
+        (later_fields (carried request.now)) }
     ensures cause { WriteCause (W.faults sink.old) (W.faults sink.new) result }
 {
     write_octets_field(sink, 0xA2, &request.auth_info)?;
@@ -153,7 +160,8 @@ fn write_later_fields<W: Sink>(sink: &mut W, request: &TsRequest) -> Result<(), 
 #[tactic(auto, using(sspi_ber::proofs::Written::writing), unfolding(crate::specs::Spelling::fields, crate::specs::Spelling::version_field))]
 fn write_fields<W: Sink>(sink: &mut W, request: &TsRequest) -> Result<(), WireKind>
     requires { length (fields (carried request.now)) ≤ max_content }
-    ensures wrote { Writes (W.written sink.old) (W.written sink.new) result (fields (carried request.now)) }
+    ensures wrote { Writes (W.written sink.old) (W.written sink.new) result
+        (fields (carried request.now)) }
     ensures cause { WriteCause (W.faults sink.old) (W.faults sink.new) result }
 {
     write_wrapped_integer(sink, 0xA0, request.version)?;

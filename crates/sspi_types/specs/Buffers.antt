@@ -29,16 +29,21 @@ has_type type buffer = buffer_type_number buffer.buffer_type.buffer_type == buff
 abbrev pub no_buffer : Error
 no_buffer = record { error_type = InvalidToken; description = NoBuffer; nstatus = None }
 
--- the buffers end with the first one of the type as it was left, or as they were where there is none
-abbrev pub LendsFirst : MutBor (List SecurityBuffer) → BufferType → Option (MutBor SecurityBuffer) → Fml
+-- the buffers end with the first one of the type as it was left, or as they were where there is
+-- none
+abbrev pub LendsFirst : MutBor (List SecurityBuffer) → BufferType → Option (MutBor SecurityBuffer) →
+    Fml
 LendsFirst buffers type lent =
-    LendsIf (Array the_row 0) the_row buffers lent (slice_set buffers.now (position_or_len (has_type type) buffers.now)) buffers.now
+    LendsIf (Array the_row 0) the_row buffers lent
+    (slice_set buffers.now (position_or_len (has_type type) buffers.now)) buffers.now
 
 -- a list of buffers on the heap
 abbrev pub list_row : RattleType
 list_row = vec.the_row the_row global.the_row ghosts
 
 -- the same of a list on the heap, by a call that refuses where there is none
-abbrev pub LendsFound : MutBor list_row.Denot → BufferType → Result (MutBor SecurityBuffer) Error → Fml
+abbrev pub LendsFound : MutBor list_row.Denot → BufferType → Result (MutBor SecurityBuffer) Error →
+    Fml
 LendsFound buffers type lent =
-    LendsIfOk list_row the_row buffers lent (with_item buffers.now (position_or_len (has_type type) buffers.now.items)) buffers.now
+    LendsIfOk list_row the_row buffers lent
+    (with_item buffers.now (position_or_len (has_type type) buffers.now.items)) buffers.now

@@ -1,7 +1,8 @@
 -- The number of each encoding of a certificate.
 use Rattle.std.specs.Prelude.{ℕ}
 use Rattle.sspi_types.specs.declared.certificate.CertEncodingType.{CertEncodingType}
-use Rattle.sspi_types.specs.declared.certificate.CertEncodingType.TheVariants.{Pkcs7AsnEncoding, X509AsnEncoding}
+use Rattle.sspi_types.specs.declared.certificate.CertEncodingType.TheVariants.{Pkcs7AsnEncoding}
+use Rattle.sspi_types.specs.declared.certificate.CertEncodingType.TheVariants.{X509AsnEncoding}
 
 -- the number of each encoding (wincrypt.h, *_ASN_ENCODING)
 abbrev pub cert_encoding_type_number : CertEncodingType → ℕ

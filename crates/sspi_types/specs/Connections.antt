@@ -18,12 +18,15 @@ use Rattle.sspi_types.specs.declared.connection.ConnectionProtocol.TheVariants.{
   SpProtSsl2Server,
 }
 use Rattle.sspi_types.specs.declared.connection.ConnectionCipher.{ConnectionCipher}
-use Rattle.sspi_types.specs.declared.connection.ConnectionCipher.TheVariants.{Calg3des, CalgAes128, CalgAes256, CalgDes}
-use Rattle.sspi_types.specs.declared.connection.ConnectionCipher.TheVariants.{CalgRc2, CalgRc4, NoEncryption}
+use Rattle.sspi_types.specs.declared.connection.ConnectionCipher.TheVariants.{Calg3des, CalgAes128}
+use Rattle.sspi_types.specs.declared.connection.ConnectionCipher.TheVariants.{CalgAes256, CalgDes}
+use Rattle.sspi_types.specs.declared.connection.ConnectionCipher.TheVariants.{CalgRc2, CalgRc4}
+use Rattle.sspi_types.specs.declared.connection.ConnectionCipher.TheVariants.{NoEncryption}
 use Rattle.sspi_types.specs.declared.connection.ConnectionHash.{ConnectionHash}
 use Rattle.sspi_types.specs.declared.connection.ConnectionHash.TheVariants.{CalgMd5, CalgSha}
 use Rattle.sspi_types.specs.declared.connection.ConnectionKeyExchange.{ConnectionKeyExchange}
-use Rattle.sspi_types.specs.declared.connection.ConnectionKeyExchange.TheVariants.{CalgRsaKeyx, CalgDhEphem}
+use Rattle.sspi_types.specs.declared.connection.ConnectionKeyExchange.TheVariants.{CalgRsaKeyx}
+use Rattle.sspi_types.specs.declared.connection.ConnectionKeyExchange.TheVariants.{CalgDhEphem}
 
 -- the number of each protocol (schannel.h, SP_PROT_*)
 abbrev pub connection_protocol_number : ConnectionProtocol → ℕ

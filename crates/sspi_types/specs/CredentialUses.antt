@@ -1,7 +1,8 @@
 -- The number of each use of credentials.
 use Rattle.std.specs.Prelude.{ℕ}
 use Rattle.sspi_types.specs.declared.credential_use.CredentialUse.{CredentialUse}
-use Rattle.sspi_types.specs.declared.credential_use.CredentialUse.TheVariants.{Inbound, Outbound, Both, Default}
+use Rattle.sspi_types.specs.declared.credential_use.CredentialUse.TheVariants.{Inbound, Outbound}
+use Rattle.sspi_types.specs.declared.credential_use.CredentialUse.TheVariants.{Both, Default}
 
 -- the number of each use (sspi.h, SECPKG_CRED_*)
 abbrev pub credential_use_number : CredentialUse → ℕ

@@ -2,28 +2,71 @@
 use Rattle.std.specs.Prelude.{ℕ, List, codes, [], ◌++◌, Option, Some, None}
 use Rattle.sspi_types.specs.declared.error.Error.{Error}
 use Rattle.sspi_types.specs.declared.error_kind.ErrorKind.{ErrorKind}
-use Rattle.sspi_types.specs.declared.error_kind.ErrorKind.TheVariants.{Unknown, InsufficientMemory, InvalidHandle, UnsupportedFunction}
-use Rattle.sspi_types.specs.declared.error_kind.ErrorKind.TheVariants.{TargetUnknown, InternalError, SecurityPackageNotFound, NotOwned}
-use Rattle.sspi_types.specs.declared.error_kind.ErrorKind.TheVariants.{CannotInstall, InvalidToken, CannotPack, OperationNotSupported}
-use Rattle.sspi_types.specs.declared.error_kind.ErrorKind.TheVariants.{NoImpersonation, LogonDenied, UnknownCredentials, NoCredentials}
-use Rattle.sspi_types.specs.declared.error_kind.ErrorKind.TheVariants.{MessageAltered, OutOfSequence, NoAuthenticatingAuthority}
-use Rattle.sspi_types.specs.declared.error_kind.ErrorKind.TheVariants.{BadPackageId, ContextExpired, IncompleteMessage}
-use Rattle.sspi_types.specs.declared.error_kind.ErrorKind.TheVariants.{IncompleteCredentials, BufferTooSmall, WrongPrincipalName, TimeSkew}
-use Rattle.sspi_types.specs.declared.error_kind.ErrorKind.TheVariants.{UntrustedRoot, IllegalMessage, CertificateUnknown}
-use Rattle.sspi_types.specs.declared.error_kind.ErrorKind.TheVariants.{CertificateExpired, EncryptFailure, DecryptFailure}
-use Rattle.sspi_types.specs.declared.error_kind.ErrorKind.TheVariants.{AlgorithmMismatch, SecurityQosFailed, UnfinishedContextDeleted}
-use Rattle.sspi_types.specs.declared.error_kind.ErrorKind.TheVariants.{NoTgtReply, NoIpAddress, WrongCredentialHandle, CryptoSystemInvalid}
-use Rattle.sspi_types.specs.declared.error_kind.ErrorKind.TheVariants.{MaxReferralsExceeded, MustBeKdc, StrongCryptoNotSupported}
-use Rattle.sspi_types.specs.declared.error_kind.ErrorKind.TheVariants.{TooManyPrincipals, NoPaData, PkInitNameMismatch}
-use Rattle.sspi_types.specs.declared.error_kind.ErrorKind.TheVariants.{SmartCardLogonRequired, ShutdownInProgress, KdcInvalidRequest}
-use Rattle.sspi_types.specs.declared.error_kind.ErrorKind.TheVariants.{KdcUnknownEType, KdcUnknownEType2, UnsupportedPreAuth}
-use Rattle.sspi_types.specs.declared.error_kind.ErrorKind.TheVariants.{DelegationRequired, BadBindings, MultipleAccounts, NoKerbKey}
-use Rattle.sspi_types.specs.declared.error_kind.ErrorKind.TheVariants.{CertWrongUsage, DowngradeDetected, SmartCardCertificateRevoked}
-use Rattle.sspi_types.specs.declared.error_kind.ErrorKind.TheVariants.{IssuingCAUntrusted, RevocationOffline, PkInitClientFailure}
-use Rattle.sspi_types.specs.declared.error_kind.ErrorKind.TheVariants.{SmartCardCertExpired, NoS4uProtSupport, CrossRealmDelegationFailure}
-use Rattle.sspi_types.specs.declared.error_kind.ErrorKind.TheVariants.{RevocationOfflineKdc, IssuingCaUntrustedKdc, KdcCertExpired}
-use Rattle.sspi_types.specs.declared.error_kind.ErrorKind.TheVariants.{KdcCertRevoked, InvalidParameter, DelegationPolicy, PolicyNtlmOnly}
-use Rattle.sspi_types.specs.declared.error_kind.ErrorKind.TheVariants.{NoContext, Pku2uCertFailure, MutualAuthFailed, OnlyHttpsAllowed}
+use Rattle.sspi_types.specs.declared.error_kind.ErrorKind.TheVariants.{Unknown, InsufficientMemory}
+use Rattle.sspi_types.specs.declared.error_kind.ErrorKind.TheVariants.{InvalidHandle}
+use Rattle.sspi_types.specs.declared.error_kind.ErrorKind.TheVariants.{UnsupportedFunction}
+use Rattle.sspi_types.specs.declared.error_kind.ErrorKind.TheVariants.{TargetUnknown, InternalError}
+use Rattle.sspi_types.specs.declared.error_kind.ErrorKind.TheVariants.{SecurityPackageNotFound}
+use Rattle.sspi_types.specs.declared.error_kind.ErrorKind.TheVariants.{NotOwned}
+use Rattle.sspi_types.specs.declared.error_kind.ErrorKind.TheVariants.{CannotInstall, InvalidToken}
+use Rattle.sspi_types.specs.declared.error_kind.ErrorKind.TheVariants.{CannotPack}
+use Rattle.sspi_types.specs.declared.error_kind.ErrorKind.TheVariants.{OperationNotSupported}
+use Rattle.sspi_types.specs.declared.error_kind.ErrorKind.TheVariants.{NoImpersonation, LogonDenied}
+use Rattle.sspi_types.specs.declared.error_kind.ErrorKind.TheVariants.{UnknownCredentials}
+use Rattle.sspi_types.specs.declared.error_kind.ErrorKind.TheVariants.{NoCredentials}
+use Rattle.sspi_types.specs.declared.error_kind.ErrorKind.TheVariants.{MessageAltered}
+use Rattle.sspi_types.specs.declared.error_kind.ErrorKind.TheVariants.{OutOfSequence}
+use Rattle.sspi_types.specs.declared.error_kind.ErrorKind.TheVariants.{NoAuthenticatingAuthority}
+use Rattle.sspi_types.specs.declared.error_kind.ErrorKind.TheVariants.{BadPackageId, ContextExpired}
+use Rattle.sspi_types.specs.declared.error_kind.ErrorKind.TheVariants.{IncompleteMessage}
+use Rattle.sspi_types.specs.declared.error_kind.ErrorKind.TheVariants.{IncompleteCredentials}
+use Rattle.sspi_types.specs.declared.error_kind.ErrorKind.TheVariants.{BufferTooSmall}
+use Rattle.sspi_types.specs.declared.error_kind.ErrorKind.TheVariants.{WrongPrincipalName, TimeSkew}
+use Rattle.sspi_types.specs.declared.error_kind.ErrorKind.TheVariants.{UntrustedRoot}
+use Rattle.sspi_types.specs.declared.error_kind.ErrorKind.TheVariants.{IllegalMessage}
+use Rattle.sspi_types.specs.declared.error_kind.ErrorKind.TheVariants.{CertificateUnknown}
+use Rattle.sspi_types.specs.declared.error_kind.ErrorKind.TheVariants.{CertificateExpired}
+use Rattle.sspi_types.specs.declared.error_kind.ErrorKind.TheVariants.{EncryptFailure}
+use Rattle.sspi_types.specs.declared.error_kind.ErrorKind.TheVariants.{DecryptFailure}
+use Rattle.sspi_types.specs.declared.error_kind.ErrorKind.TheVariants.{AlgorithmMismatch}
+use Rattle.sspi_types.specs.declared.error_kind.ErrorKind.TheVariants.{SecurityQosFailed}
+use Rattle.sspi_types.specs.declared.error_kind.ErrorKind.TheVariants.{UnfinishedContextDeleted}
+use Rattle.sspi_types.specs.declared.error_kind.ErrorKind.TheVariants.{NoTgtReply, NoIpAddress}
+use Rattle.sspi_types.specs.declared.error_kind.ErrorKind.TheVariants.{WrongCredentialHandle}
+use Rattle.sspi_types.specs.declared.error_kind.ErrorKind.TheVariants.{CryptoSystemInvalid}
+use Rattle.sspi_types.specs.declared.error_kind.ErrorKind.TheVariants.{MaxReferralsExceeded}
+use Rattle.sspi_types.specs.declared.error_kind.ErrorKind.TheVariants.{MustBeKdc}
+use Rattle.sspi_types.specs.declared.error_kind.ErrorKind.TheVariants.{StrongCryptoNotSupported}
+use Rattle.sspi_types.specs.declared.error_kind.ErrorKind.TheVariants.{TooManyPrincipals, NoPaData}
+use Rattle.sspi_types.specs.declared.error_kind.ErrorKind.TheVariants.{PkInitNameMismatch}
+use Rattle.sspi_types.specs.declared.error_kind.ErrorKind.TheVariants.{SmartCardLogonRequired}
+use Rattle.sspi_types.specs.declared.error_kind.ErrorKind.TheVariants.{ShutdownInProgress}
+use Rattle.sspi_types.specs.declared.error_kind.ErrorKind.TheVariants.{KdcInvalidRequest}
+use Rattle.sspi_types.specs.declared.error_kind.ErrorKind.TheVariants.{KdcUnknownEType}
+use Rattle.sspi_types.specs.declared.error_kind.ErrorKind.TheVariants.{KdcUnknownEType2}
+use Rattle.sspi_types.specs.declared.error_kind.ErrorKind.TheVariants.{UnsupportedPreAuth}
+use Rattle.sspi_types.specs.declared.error_kind.ErrorKind.TheVariants.{DelegationRequired}
+use Rattle.sspi_types.specs.declared.error_kind.ErrorKind.TheVariants.{BadBindings}
+use Rattle.sspi_types.specs.declared.error_kind.ErrorKind.TheVariants.{MultipleAccounts, NoKerbKey}
+use Rattle.sspi_types.specs.declared.error_kind.ErrorKind.TheVariants.{CertWrongUsage}
+use Rattle.sspi_types.specs.declared.error_kind.ErrorKind.TheVariants.{DowngradeDetected}
+use Rattle.sspi_types.specs.declared.error_kind.ErrorKind.TheVariants.{SmartCardCertificateRevoked}
+use Rattle.sspi_types.specs.declared.error_kind.ErrorKind.TheVariants.{IssuingCAUntrusted}
+use Rattle.sspi_types.specs.declared.error_kind.ErrorKind.TheVariants.{RevocationOffline}
+use Rattle.sspi_types.specs.declared.error_kind.ErrorKind.TheVariants.{PkInitClientFailure}
+use Rattle.sspi_types.specs.declared.error_kind.ErrorKind.TheVariants.{SmartCardCertExpired}
+use Rattle.sspi_types.specs.declared.error_kind.ErrorKind.TheVariants.{NoS4uProtSupport}
+use Rattle.sspi_types.specs.declared.error_kind.ErrorKind.TheVariants.{CrossRealmDelegationFailure}
+use Rattle.sspi_types.specs.declared.error_kind.ErrorKind.TheVariants.{RevocationOfflineKdc}
+use Rattle.sspi_types.specs.declared.error_kind.ErrorKind.TheVariants.{IssuingCaUntrustedKdc}
+use Rattle.sspi_types.specs.declared.error_kind.ErrorKind.TheVariants.{KdcCertExpired}
+use Rattle.sspi_types.specs.declared.error_kind.ErrorKind.TheVariants.{KdcCertRevoked}
+use Rattle.sspi_types.specs.declared.error_kind.ErrorKind.TheVariants.{InvalidParameter}
+use Rattle.sspi_types.specs.declared.error_kind.ErrorKind.TheVariants.{DelegationPolicy}
+use Rattle.sspi_types.specs.declared.error_kind.ErrorKind.TheVariants.{PolicyNtlmOnly}
+use Rattle.sspi_types.specs.declared.error_kind.ErrorKind.TheVariants.{NoContext, Pku2uCertFailure}
+use Rattle.sspi_types.specs.declared.error_kind.ErrorKind.TheVariants.{MutualAuthFailed}
+use Rattle.sspi_types.specs.declared.error_kind.ErrorKind.TheVariants.{OnlyHttpsAllowed}
 use Rattle.sspi_types.specs.declared.error_kind.ErrorKind.TheVariants.{ApplicationProtocolMismatch}
 use Rattle.sspi_types.specs.declared.nstatus.NStatusCode.{NStatusCode}
 use Rattle.sspi_types.specs.declared.reason.Reason.{Reason}
@@ -127,7 +170,8 @@ after_reason (Some status) = codes "; status is " ++ status_text status.0
 
 -- how a refusal is displayed
 abbrev pub error_text : Error → List ℕ
-error_text error = error_kind_name error.error_type ++ codes ": " ++ reason_text error.description ++ after_reason error.nstatus
+error_text error = error_kind_name error.error_type ++ codes ": " ++
+    reason_text error.description ++ after_reason error.nstatus
 
 -- a fault that is nobody's input
 abbrev pub internal_error : Reason → Error

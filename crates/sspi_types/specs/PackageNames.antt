@@ -1,7 +1,8 @@
 -- The name of each package.
 use Rattle.std.specs.Prelude.{◌≡◌, ◌⊎◌, ℕ, List, codes}
 use Rattle.sspi_types.specs.declared.package.SecurityPackageType.{SecurityPackageType}
-use Rattle.sspi_types.specs.declared.package.SecurityPackageType.TheVariants.{Ntlm, Kerberos, Negotiate, Other}
+use Rattle.sspi_types.specs.declared.package.SecurityPackageType.TheVariants.{Ntlm, Kerberos}
+use Rattle.sspi_types.specs.declared.package.SecurityPackageType.TheVariants.{Negotiate, Other}
 
 -- the name of each package
 abbrev pub package_text : SecurityPackageType → List ℕ
@@ -12,7 +13,8 @@ package_text (Other name) = name
 
 -- the name is that of a package of this library
 abbrev pub IsOwnName : List ℕ → Type 0
-IsOwnName name = (name ≡ package_text Ntlm) ⊎ (name ≡ package_text Kerberos) ⊎ (name ≡ package_text Negotiate)
+IsOwnName name = (name ≡ package_text Ntlm) ⊎ (name ≡ package_text Kerberos) ⊎
+    (name ≡ package_text Negotiate)
 
 -- the package has this name, and is no `Other` by a name of this library
 abbrev pub ReadsName : List ℕ → SecurityPackageType → Type 0

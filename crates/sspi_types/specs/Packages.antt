@@ -4,10 +4,12 @@ use Rattle.sspi_types.specs.declared.error.Error.{Error}
 use Rattle.sspi_types.specs.declared.error_kind.ErrorKind.TheVariants.{Unknown}
 use Rattle.sspi_types.specs.declared.package.PackageInfo.{PackageInfo}
 use Rattle.sspi_types.specs.declared.package.SecurityPackageType.{SecurityPackageType}
-use Rattle.sspi_types.specs.declared.package.SecurityPackageType.TheVariants.{Ntlm, Kerberos, Negotiate, Other}
+use Rattle.sspi_types.specs.declared.package.SecurityPackageType.TheVariants.{Ntlm, Kerberos}
+use Rattle.sspi_types.specs.declared.package.SecurityPackageType.TheVariants.{Negotiate, Other}
 use Rattle.sspi_types.specs.declared.reason.Reason.TheVariants.{Package}
 
--- what is known of each package: no capabilities, no identifier for RPC, the longest token, a comment
+-- what is known of each package: no capabilities, no identifier for RPC, the longest token, a
+-- comment
 abbrev pub negotiate_entry : PackageInfo
 negotiate_entry = record {
   capabilities = record { 0 = 0 };

@@ -1,9 +1,14 @@
 -- The number of each status.
 use Rattle.std.specs.Prelude.{ℕ}
 use Rattle.sspi_types.specs.declared.security_status.SecurityStatus.{SecurityStatus}
-use Rattle.sspi_types.specs.declared.security_status.SecurityStatus.TheVariants.{Ok, ContinueNeeded, CompleteNeeded}
-use Rattle.sspi_types.specs.declared.security_status.SecurityStatus.TheVariants.{CompleteAndContinue, LocalLogon, ContextExpired}
-use Rattle.sspi_types.specs.declared.security_status.SecurityStatus.TheVariants.{IncompleteCredentials, Renegotiate, NoLsaContext}
+use Rattle.sspi_types.specs.declared.security_status.SecurityStatus.TheVariants.{Ok, ContinueNeeded}
+use Rattle.sspi_types.specs.declared.security_status.SecurityStatus.TheVariants.{CompleteNeeded}
+use Rattle.sspi_types.specs.declared.security_status.SecurityStatus.TheVariants.{CompleteAndContinue}
+use Rattle.sspi_types.specs.declared.security_status.SecurityStatus.TheVariants.{LocalLogon}
+use Rattle.sspi_types.specs.declared.security_status.SecurityStatus.TheVariants.{ContextExpired}
+use Rattle.sspi_types.specs.declared.security_status.SecurityStatus.TheVariants.{IncompleteCredentials}
+use Rattle.sspi_types.specs.declared.security_status.SecurityStatus.TheVariants.{Renegotiate}
+use Rattle.sspi_types.specs.declared.security_status.SecurityStatus.TheVariants.{NoLsaContext}
 
 -- the number of each status (winerror.h, SECURITY_STATUS codes that are no errors)
 abbrev pub security_status_number : SecurityStatus → ℕ

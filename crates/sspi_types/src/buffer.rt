@@ -2,7 +2,8 @@
 
 ghost use Rattle.std.specs.Prelude.{◌≡◌, Some, None, find, option_map, position, IfOk, IfErr};
 ghost use Rattle.std.specs.Borrow.{sem};
-ghost use Rattle.sspi_types.specs.Buffers.{has_type, no_buffer, unflagged_buffer, LendsFirst, LendsFound};
+ghost use Rattle.sspi_types.specs.Buffers.{has_type, no_buffer, unflagged_buffer, LendsFirst};
+ghost use Rattle.sspi_types.specs.Buffers.{LendsFound};
 
 use crate::buffer_flags::SecurityBufferFlags;
 use crate::buffer_type::BufferType;
@@ -54,8 +55,9 @@ impl SecurityBuffer {
         Ok(&buffers[place])
     }
 
-    /// The same as `find_buffer`, to change the buffer in its place. Afterwards the list is as before, but for
-    /// what is left there; at a refusal all of it is as before. `first_mut` does the same at a slice.
+    /// The same as `find_buffer`, to change the buffer in its place. Afterwards the list is as
+    /// before, but for what is left there; at a refusal all of it is as before. `first_mut` does
+    /// the same at a slice.
     #[tactic(auto, using(crate::proofs::Places::not_found))]
     pub fn find_buffer_mut(
         buffers: &mut Vec<SecurityBuffer>,
@@ -65,7 +67,8 @@ impl SecurityBuffer {
         ensures found { IfOk result
             (λ buffer. find (has_type buffer_type) buffers.old.items ≡ Some buffer.now) }
         ensures missing { IfErr result
-            (λ error. (error ≡ no_buffer) × (find (has_type buffer_type) buffers.old.items ≡ None)) }
+            (λ error. (error ≡ no_buffer) ×
+            (find (has_type buffer_type) buffers.old.items ≡ None)) }
     {
         match SecurityBuffer::place(buffers, buffer_type) {
             Some(place) => Ok(&mut buffers[place]),
@@ -73,8 +76,8 @@ impl SecurityBuffer {
         }
     }
 
-    /// The first buffer of this type at a slice, to change it in its place; `None` exactly where there is none.
-    /// Afterwards the buffers are as before, but for what is left there.
+    /// The first buffer of this type at a slice, to change it in its place; `None` exactly where
+    /// there is none. Afterwards the buffers are as before, but for what is left there.
     #[tactic(auto, using(crate::proofs::Places::found_at, crate::proofs::Places::not_found))]
     pub fn first_mut(
         buffers: &mut [SecurityBuffer],

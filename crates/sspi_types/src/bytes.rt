@@ -1,6 +1,7 @@
 //! Lists of bytes.
 
-ghost use Rattle.std.specs.Prelude.{◌≡◌, ◌+◌, ◌≤◌, ◌↔◌, [], ◌∷◌, ◌++◌, length, take, drop, IsTrue, IfOk, OnOk, OnErr};
+ghost use Rattle.std.specs.Prelude.{◌≡◌, ◌+◌, ◌≤◌, ◌↔◌, [], ◌∷◌, ◌++◌, length, take, drop, IsTrue};
+ghost use Rattle.std.specs.Prelude.{IfOk, OnOk, OnErr};
 
 use std::alloc::{AllocError, Global};
 use std::marker::Model;
@@ -101,7 +102,8 @@ impl Bytes {
         self.content.extend_from_slice(piece)
     }
 
-    /// Appends one byte, or leaves the list as it was where there is no memory. Room grows by doubling, from 8 bytes on.
+    /// Appends one byte, or leaves the list as it was where there is no memory. Room grows by
+    /// doubling, from 8 bytes on.
     pub fn push(&mut self, byte: u8) -> Result<(), AllocError>
         ensures ok { OnOk result (self.new ≡ self.old ++ byte ∷ []) }
         ensures err { OnErr result (self.new ≡ self.old) }
@@ -122,7 +124,8 @@ impl Bytes {
     /// Writes `piece` over the bytes from place `at` on. Takes no memory.
     pub fn overwrite(&mut self, at: usize, piece: &[u8])
         requires { at + length piece.now ≤ length self.old }
-        ensures { self.new ≡ take at self.old ++ piece.now ++ drop (at + length piece.now) self.old }
+        ensures { self.new ≡ take at self.old ++ piece.now ++
+            drop (at + length piece.now) self.old }
     {
         self.content[at..at + piece.len()].copy_from_slice(piece);
     }

@@ -1,8 +1,10 @@
 //! The protocol and ciphers of a connection.
 
 ghost use Rattle.std.specs.Prelude.{◌≡◌};
-ghost use Rattle.sspi_types.specs.Connections.{connection_protocol_number, connection_cipher_number};
-ghost use Rattle.sspi_types.specs.Connections.{connection_hash_number, connection_key_exchange_number};
+ghost use Rattle.sspi_types.specs.Connections.{connection_protocol_number};
+ghost use Rattle.sspi_types.specs.Connections.{connection_cipher_number};
+ghost use Rattle.sspi_types.specs.Connections.{connection_hash_number};
+ghost use Rattle.sspi_types.specs.Connections.{connection_key_exchange_number};
 ghost use Rattle.sspi_types.specs.Numbers.{ReadsNumber};
 
 /// The protocol of a connection (`dwProtocol` of SecPkgContext_ConnectionInfo).

@@ -13,8 +13,10 @@ ghost use Rattle.sspi_types.specs.SecurityStatuses.{security_status_number};
 ghost use Rattle.sspi_types.specs.BufferTypes.{buffer_type_number};
 ghost use Rattle.sspi_types.specs.DataRepresentations.{data_representation_number};
 ghost use Rattle.sspi_types.specs.CredentialUses.{credential_use_number};
-ghost use Rattle.sspi_types.specs.Connections.{connection_protocol_number, connection_cipher_number};
-ghost use Rattle.sspi_types.specs.Connections.{connection_hash_number, connection_key_exchange_number};
+ghost use Rattle.sspi_types.specs.Connections.{connection_protocol_number};
+ghost use Rattle.sspi_types.specs.Connections.{connection_cipher_number};
+ghost use Rattle.sspi_types.specs.Connections.{connection_hash_number};
+ghost use Rattle.sspi_types.specs.Connections.{connection_key_exchange_number};
 ghost use Rattle.sspi_types.specs.Certificates.{cert_encoding_type_number};
 ghost use Rattle.sspi_types.specs.RequestFlags.{client_request_flags, server_request_flags};
 ghost use Rattle.sspi_types.specs.ResponseFlags.{client_response_flags, server_response_flags};
@@ -23,10 +25,14 @@ ghost use Rattle.sspi_types.specs.CertTrustFlags.{cert_trust_error_flags, cert_t
 ghost use Rattle.sspi_types.specs.BufferFlags.{security_buffer_flags};
 ghost use Rattle.sspi_types.specs.ProtectionFlags.{encryption_flags, decryption_flags};
 ghost use Rattle.sspi_types.specs.StatusCodes.{status_codes};
-ghost use Rattle.sspi_types.specs.NamedConstants.{client_request_constants, server_request_constants};
-ghost use Rattle.sspi_types.specs.NamedConstants.{client_response_constants, server_response_constants};
-ghost use Rattle.sspi_types.specs.NamedConstants.{capability_constants, cert_trust_error_constants, cert_trust_info_constants};
-ghost use Rattle.sspi_types.specs.NamedConstants.{security_buffer_constants, encryption_constants, decryption_constants, status_constants};
+ghost use Rattle.sspi_types.specs.NamedConstants.{client_request_constants};
+ghost use Rattle.sspi_types.specs.NamedConstants.{server_request_constants};
+ghost use Rattle.sspi_types.specs.NamedConstants.{client_response_constants};
+ghost use Rattle.sspi_types.specs.NamedConstants.{server_response_constants};
+ghost use Rattle.sspi_types.specs.NamedConstants.{capability_constants, cert_trust_error_constants};
+ghost use Rattle.sspi_types.specs.NamedConstants.{cert_trust_info_constants};
+ghost use Rattle.sspi_types.specs.NamedConstants.{security_buffer_constants, encryption_constants};
+ghost use Rattle.sspi_types.specs.NamedConstants.{decryption_constants, status_constants};
 
 use crate::buffer_flags::SecurityBufferFlags;
 use crate::buffer_type::BufferType;
@@ -64,7 +70,8 @@ pub fn connection_numbers_are_distinct()
     ensures cert_encoding_type { AreDistinct cert_encoding_type_number }
 {}
 
-/// What `from_u32` gives at the number of a value is that value, at an enum of errors, statuses, buffers or credentials.
+/// What `from_u32` gives at the number of a value is that value, at an enum of errors, statuses,
+/// buffers or credentials.
 pub fn values_are_read_back()
     // Of statuses.
     ensures error_kind { AreReadBack error_kind_number }
@@ -86,7 +93,8 @@ pub fn connection_values_are_read_back()
     ensures cert_encoding_type { AreReadBack cert_encoding_type_number }
 {}
 
-/// `==` at an enum of errors, statuses, buffers or credentials, and at `NStatusCode`, compares the numbers.
+/// `==` at an enum of errors, statuses, buffers or credentials, and at `NStatusCode`, compares the
+/// numbers.
 pub fn equality_is_of_numbers()
     // Of statuses.
     ensures error_kind { ComparesNumbers ⟦<ErrorKind as PartialEq>⟧.eq error_kind_number }
@@ -168,14 +176,15 @@ pub fn buffer_types_are_compared_by_both_fields()
 
 /// The defaults: no flag, and an empty buffer without flags.
 pub fn defaults_have_no_flags()
-    ensures flags { (flags : SecurityBufferFlags) → ⟦<SecurityBufferFlags as Default>⟧.is_default flags
+    ensures flags { (flags : SecurityBufferFlags) →
+        ⟦<SecurityBufferFlags as Default>⟧.is_default flags
         → flags.0 ≡ 0 }
     ensures buffer_type { (t : SecurityBufferType) → ⟦<SecurityBufferType as Default>⟧.is_default t
         → (t.buffer_type ≡ Empty) × (t.buffer_flags.0 ≡ 0) }
 {}
 
-/// A `SecurityBufferType` as a number is read back, if its type is at most 18 and its flags are some of
-/// the two that have names; and a number that is read is what its parts are as a number.
+/// A `SecurityBufferType` as a number is read back, if its type is at most 18 and its flags are
+/// some of the two that have names; and a number that is read is what its parts are as a number.
 pub fn buffer_types_are_read_back()
     ensures there_and_back { (t : SecurityBufferType) → buffer_type_number t.buffer_type ≤ 18
         → bit_and t.buffer_flags.0 0x90000000 ≡ t.buffer_flags.0

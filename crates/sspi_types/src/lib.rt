@@ -1,14 +1,16 @@
 //! The vocabulary of SSPI: what the calls of a security package speak of.
 //!
-//! Refusals are an `Error` of an `ErrorKind` and a fixed `Reason` (`error`, `error_kind`, `reason`), with
-//! the peer's `NStatusCode` where it gave one (`nstatus`). Buffers that callers and packages hand to each
-//! other stand in `buffer`, the packages themselves in `package`, what is asked of a context and what it
-//! has in the modules `*_flags`, what is known of it in `context`, `connection` and `certificate`.
+//! Refusals are an `Error` of an `ErrorKind` and a fixed `Reason` (`error`, `error_kind`,
+//! `reason`), with the peer's `NStatusCode` where it gave one (`nstatus`). Buffers that callers and
+//! packages hand to each other stand in `buffer`, the packages themselves in `package`, what is
+//! asked of a context and what it has in the modules `*_flags`, what is known of it in `context`,
+//! `connection` and `certificate`.
 //!
-//! Promised of every table: the number, name and text of each value are those of its table in `specs/`,
-//! where each table stands once; a number outside it is `None`. What follows from the tables is in `laws`.
-//! `Bytes`, `Text` and `Rows` are a `Vec<u8>`, a `String` and a vector that contracts see as lists; copies are
-//! `clone(alloc)` calls that give an equal value or answer out of memory, which is `InsufficientMemory` everywhere.
+//! Promised of every table: the number, name and text of each value are those of its table in
+//! `specs/`, where each table stands once; a number outside it is `None`. What follows from the
+//! tables is in `laws`. `Bytes`, `Text` and `Rows` are a `Vec<u8>`, a `String` and a vector that
+//! contracts see as lists; copies are `clone(alloc)` calls that give an equal value or answer out
+//! of memory, which is `InsufficientMemory` everywhere.
 
 #![tactic(auto)]
 

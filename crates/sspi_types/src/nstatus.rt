@@ -5,8 +5,8 @@ ghost use Rattle.sspi_types.specs.StatusCodes.{status_name, status_text, status_
 
 use std::fmt;
 
-/// An NTSTATUS code, of ntstatus.h. Every number is one; 43 have a name here. The highest two bits are its severity, of
-/// which 0b11 is an error.
+/// An NTSTATUS code, of ntstatus.h. Every number is one; 43 have a name here. The highest two bits
+/// are its severity, of which 0b11 is an error.
 #[derive(Clone, Copy, PartialEq, Eq)]
 pub struct NStatusCode(pub u32);
 

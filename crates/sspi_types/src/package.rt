@@ -2,7 +2,8 @@
 
 ghost use Rattle.std.specs.Prelude.{◌≡◌, [], ◌∷◌, Some, None, IsSome, IsOk, IfOk, IfErr};
 ghost use Rattle.sspi_types.specs.Errors.{memory_error};
-ghost use Rattle.sspi_types.specs.Packages.{kerberos_entry, negotiate_entry, ntlm_entry, package_entry, unknown_package};
+ghost use Rattle.sspi_types.specs.Packages.{kerberos_entry, negotiate_entry, ntlm_entry};
+ghost use Rattle.sspi_types.specs.Packages.{package_entry, unknown_package};
 ghost use Rattle.sspi_types.specs.PackageNames.{package_text, IsOwnName, ReadsName};
 
 use crate::as_str::AsStr;

@@ -58,7 +58,8 @@ pub enum Reason {
     NoMic,
     /// Neither the look-up of the peer nor the server's list has an identity of its name.
     NoIdentity,
-    /// The list of identities that was told is empty, or has none with a password where one is needed.
+    /// The list of identities that was told is empty, or has none with a password where one is
+    /// needed.
     NoCandidate,
     /// The credentials are not a name and a password.
     NotPassword,

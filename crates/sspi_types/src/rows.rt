@@ -59,7 +59,8 @@ impl<T> Rows<T> {
 }
 
 impl<T: Drop> Rows<T> {
-    /// Adds an element at the end. Where there is no memory the element is dropped and the list stays.
+    /// Adds an element at the end. Where there is no memory the element is dropped and the list
+    /// stays.
     pub fn push(&mut self, row: T) -> Result<(), AllocError>
         ensures ok { OnOk result (self.new ≡ self.old ++ row ∷ []) }
         ensures err { OnErr result (self.new ≡ self.old) }

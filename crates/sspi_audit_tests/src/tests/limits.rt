@@ -3,7 +3,8 @@
 use crate::tests::ntlm::EXCHANGE;
 use crate::tests::records::are_judged;
 
-/// A delivery is taken to its end or to 1048581 bytes and no further: at so many the rest may be anything, and below it is not taken.
+/// A delivery is taken to its end or to 1048581 bytes and no further: at so many the rest may be
+/// anything, and below it is not taken.
 const DELIVERIES: &str = "\
 yes4 012345 abcde a.delivered=A+00*1048562
 yes4 012345 abcde a.delivered=A+00*1048562 a.ended=no
@@ -14,8 +15,8 @@ no1 012345 abcde a.delivered=A~+00*1048562 a.ended=no
 no1 012345 abcde a.delivered=B+00*1048554 a.ended=no
 no1 012345 abcde a.delivered=00*1048581 a.ended=no";
 
-/// A message of 1048581 bytes is compared with what was sent, and with what the next turn was given, to its last byte. A longer one
-/// has no encoding.
+/// A message of 1048581 bytes is compared with what was sent, and with what the next turn was
+/// given, to its last byte. A longer one has no encoding.
 const MESSAGES: &str = "\
 yes4 012345 abcde 4.message=E;auth=00*1048525 5.given=E;auth=00*1048525 e.sent=h+00*1048525+n e.delivered=h+00*1048525+n
 yes4 012345 abcde 4.message=E;auth=00*1048525 5.given=E;auth=00*1048525 e.sent=h+00*1048525+n e.delivered=h+00*1048525+n e.ended=no

@@ -1,4 +1,5 @@
-//! Each field of each turn and entry of negotiated exchanges, changed by itself, as in `ntlm_changes`.
+//! Each field of each turn and entry of negotiated exchanges, changed by itself, as in
+//! `ntlm_changes`.
 
 use crate::tests::negotiated::{EXCHANGE, OLD};
 use crate::tests::tables::{Whole, entries_are_judged, orders_are_judged, turns_are_judged};

@@ -2,10 +2,12 @@
 
 use crate::tests::records::are_judged;
 
-/// DOM\ann with the password pw over the channel of the key 010203, both ends at version 6, nonce and challenge of zeros:
-/// the report of this exchange has its messages. `h` and `n` stand before and behind 1048525 octets of credentials in a message that is
-/// as long as one may be. `U` is `D` with the `errorCode` `[4]` behind `pubKeyAuth` (MS-CSSP 2.2.1), `V` is `D` of version 5, `W` is `C`
-/// without its nonce, `X` is `C` of version 5, and `Y` is the error request that answers `C` where it was altered.
+/// DOM\ann with the password pw over the channel of the key 010203, both ends at version 6, nonce
+/// and challenge of zeros: the report of this exchange has its messages. `h` and `n` stand before
+/// and behind 1048525 octets of credentials in a message that is as long as one may be. `U` is `D`
+/// with the `errorCode` `[4]` behind `pubKeyAuth` (MS-CSSP 2.2.1), `V` is `D` of version 5, `W` is
+/// `C` without its nonce, `X` is `C` of version 5, and `Y` is the error request that answers `C`
+/// where it was altered.
 pub const EXCHANGE: &str = "\
 0 end=client given=F acts=step,continue output=4e31 outcome=reply message=A
 1 end=server given=A acts=step,continue output=4e320000000000000000 outcome=reply message=B

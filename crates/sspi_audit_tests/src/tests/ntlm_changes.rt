@@ -1,13 +1,13 @@
 //! Each field of each turn and entry of exchanges by plain NTLM, changed by itself.
 //!
-//! The verdicts were found apart from this program, by the rules of the turns that docs/WIRE.md and the definitions of an auditor
-//! state.
+//! The verdicts were found apart from this program, by the rules of the turns that docs/WIRE.md and
+//! the definitions of an auditor state.
 
 use crate::tests::ntlm::EXCHANGE;
 use crate::tests::tables::{Whole, entries_are_judged, orders_are_judged, turns_are_judged};
 
-/// The exchange of `ntlm`, with the client at version 3 and the server at 4: the proofs are the key and the key plus one, and no
-/// message has a nonce.
+/// The exchange of `ntlm`, with the client at version 3 and the server at 4: the proofs are the key
+/// and the key plus one, and no message has a nonce.
 const BELOW: &str = "\
 0 end=client given=F acts=step,continue output=4e31 outcome=reply message=A
 1 end=server given=A acts=step,continue output=4e320000000000000000 outcome=reply message=B
@@ -32,7 +32,8 @@ D 301ca003020104a31504131807f95449f293cad6b71173246adcef020203
 E 3042a003020103a23b0439a5410dbaf6a0ebe3683e10cab62877af3027a003020101a120041e301ca008040644004f004d00a108040661006e006e00a20604\
 0470007700";
 
-/// The same with the client at version 4 and the server at 6: the server expects a hash, and refuses the key.
+/// The same with the client at version 4 and the server at 6: the server expects a hash, and
+/// refuses the key.
 const MIXED: &str = "\
 0 end=client given=F acts=step,continue output=4e31 outcome=reply message=A
 1 end=server given=A acts=step,continue output=4e320000000000000000 outcome=reply message=B

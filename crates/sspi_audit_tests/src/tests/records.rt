@@ -1,11 +1,13 @@
 //! Records told by lines of text, and what an auditor finds of them once they were changed.
 //!
-//! Each line of an exchange has a name: `A` to `H` are messages and `s` and `l` blobs, in hex; `0` to `9` are turns and `a` to `g` entries
-//! of the log. Octets are a name or hex, where `~` behind a name alters the last octet, `*` repeats so often and `+` adds what follows. A
-//! request is the name of a message, with changes of its fields behind `;`. An act behind `!` is taken away again.
+//! Each line of an exchange has a name: `A` to `H` are messages and `s` and `l` blobs, in hex; `0`
+//! to `9` are turns and `a` to `g` entries of the log. Octets are a name or hex, where `~` behind a
+//! name alters the last octet, `*` repeats so often and `+` adds what follows. A request is the
+//! name of a message, with changes of its fields behind `;`. An act behind `!` is taken away again.
 //!
-//! A case is the verdict, the turns and the entries by their names, and what is changed in these, as `4.acts=checked`. A case of both
-//! calls has the verdict of `audit` and then that of `audit_run`.
+//! A case is the verdict, the turns and the entries by their names, and what is changed in these,
+//! as `4.acts=checked`. A case of both calls has the verdict of `audit` and then that of
+//! `audit_run`.
 
 use sspi_audit::{Verdict, audit, audit_run};
 use sspi_credssp::{Acts, End, Outcome, Turn};

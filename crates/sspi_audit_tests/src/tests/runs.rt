@@ -1,4 +1,5 @@
-//! What `audit_run` asks beside what `audit` does, on the exchange of `ntlm` and on those of `negotiated`, changed by hand.
+//! What `audit_run` asks beside what `audit` does, on the exchange of `ntlm` and on those of
+//! `negotiated`, changed by hand.
 //!
 //! `U` to `Y` of that exchange are encoded by hand from its own messages.
 
@@ -6,9 +7,10 @@ use crate::tests::negotiated;
 use crate::tests::ntlm::EXCHANGE;
 use crate::tests::records::are_judged_by_both;
 
-/// Records that no exchange leaves, of which `audit` does not ask: a client that was told an error, or another version, and opened the
-/// proof and sealed its credentials all the same; one that sealed them, or its own proof, and was refused; a token without a step; and
-/// a last delivery of which 1048582 bytes were taken, ended or not.
+/// Records that no exchange leaves, of which `audit` does not ask: a client that was told an error,
+/// or another version, and opened the proof and sealed its credentials all the same; one that
+/// sealed them, or its own proof, and was refused; a token without a step; and a last delivery of
+/// which 1048582 bytes were taken, ended or not.
 const LEFT_BY_NONE: &str = "\
 yes4 no4 01234 abcd 4.given=U 4.outcome=InvalidToken 4.message=- d.delivered=U
 yes4 no4 01234 abcd 4.given=U 4.outcome=LogonDenied 4.message=- d.delivered=U
@@ -21,7 +23,8 @@ yes4 no4 012345 abcde 4.output=00
 yes4 no5 01234 abcde e.delivered=E+00*1048478
 yes4 no5 01234 abcde e.delivered=E+00*1048478 e.ended=no";
 
-/// The same where the client did nothing, or as much as it may; and deliveries of 1048581 bytes and fewer.
+/// The same where the client did nothing, or as much as it may; and deliveries of 1048581 bytes and
+/// fewer.
 const NEXT_TO_THEM: &str = "\
 yes- yes- 01234 abcd 4.given=U 4.acts=- 4.outcome=InvalidToken 4.message=- d.delivered=U
 yes- no4 01234 abcd 4.given=U 4.acts=- 4.outcome=LogonDenied 4.message=- d.delivered=U
@@ -53,7 +56,8 @@ no4 no4 012345 abcde 4.acts=checked
 no3 no3 012345 abcde c.delivered=C~
 no6 no6 012345 abc";
 
-/// Refusals of the first two turns: of a context that is not made, of a step, of a step that ends too early, and out of memory.
+/// Refusals of the first two turns: of a context that is not made, of a step, of a step that ends
+/// too early, and out of memory.
 const EARLY_REFUSALS: &str = "\
 yes- yes- 0 - 0.acts=- 0.output= 0.outcome=LogonDenied 0.message=-
 yes- yes- 0 - 0.acts=step 0.output= 0.outcome=LogonDenied 0.message=-
@@ -72,7 +76,8 @@ yes- yes- 012 ab 2.acts=step 2.output= 2.outcome=LogonDenied 2.message=-
 yes- yes- 012 ab 2.acts=step,ok 2.outcome=LogonDenied 2.message=-
 yes- yes- 012 ab 2.acts=step,ok 2.outcome=InsufficientMemory 2.message=-";
 
-/// A server's refusals: by its acts, its version in the error request, and what was taken of that, which no end reads.
+/// A server's refusals: by its acts, its version in the error request, and what was taken of that,
+/// which no end reads.
 const SERVER_REFUSALS: &str = "\
 yes- yes- 0123 abc 3.acts=step,complete,checked 3.outcome=MessageAltered 3.message=C;nego=-;code=c007030f
 yes- yes- 0123 abcd 3.acts=step,complete,checked 3.outcome=MessageAltered 3.message=C;nego=-;code=c007030f d.sent=Y d.delivered= d.ended=no

@@ -1,14 +1,15 @@
-//! Tables of changes: a row is one change, a column a turn or an entry of an exchange that was recorded whole, in which that
-//! change alone is made.
+//! Tables of changes: a row is one change, a column a turn or an entry of an exchange that was
+//! recorded whole, in which that change alone is made.
 //!
-//! A row is a field and what becomes of it: `;`, `,`, `+` or `~` behind the field is added to what it has, as in `records`, and `=`
-//! stands in its place. `both` changes what a turn was given and its message, and `bare` makes the turn a refusal without one. A cell
-//! is the number of the turn at fault, `y` with the number of the turn that sealed, if there is one, or a dot where the change
-//! changes nothing or cannot be made.
+//! A row is a field and what becomes of it: `;`, `,`, `+` or `~` behind the field is added to what
+//! it has, as in `records`, and `=` stands in its place. `both` changes what a turn was given and
+//! its message, and `bare` makes the turn a refusal without one. A cell is the number of the turn
+//! at fault, `y` with the number of the turn that sealed, if there is one, or a dot where the
+//! change changes nothing or cannot be made.
 //!
-//! Turns have two groups of cells. For the first all is recorded. For the second nothing later is, nor what the turn was given
-//! and sent, so that it is judged by its own fields: where these are right, the number is that of the next turn, since an entry is
-//! missing.
+//! Turns have two groups of cells. For the first all is recorded. For the second nothing later is,
+//! nor what the turn was given and sent, so that it is judged by its own fields: where these are
+//! right, the number is that of the next turn, since an entry is missing.
 
 use crate::tests::records::{Record, Test, found, given, halves, told, unchanged};
 use sspi_audit::Verdict;
@@ -88,7 +89,8 @@ fn is_judged(
     );
 }
 
-/// The cells of a row, of which those that are no dot are counted; each is judged with all that was recorded.
+/// The cells of a row, of which those that are no dot are counted; each is judged with all that was
+/// recorded.
 fn row_of_all(rt: &impl Test, whole: Whole<'_>, names: &str, row: &str, cells: &str) -> u32 {
     let mut seen = 0u32;
     for (name, cell) in names.chars().zip(cells.split_whitespace()) {
@@ -191,8 +193,8 @@ fn order_is_judged(rt: &impl Test, whole: Whole<'_>, row: &str, place: usize, ce
     assert!(rt; found == verdict(rt, cell), "{row} {place}");
 }
 
-/// Each row of a table whose columns are places: `turns` or `entries`, and `missing`, `doubled` or `swapped` for what is so at
-/// each of them.
+/// Each row of a table whose columns are places: `turns` or `entries`, and `missing`, `doubled` or
+/// `swapped` for what is so at each of them.
 pub fn orders_are_judged(rt: &impl Test, whole: Whole<'_>, rows: &str, count: u32) {
     let mut seen = 0u32;
     for line in rows.lines() {

@@ -1,5 +1,5 @@
-//! What every test is written with. Much is generic, since to drop a value of a type parameter is one step of a proof, and to drop a
-//! struct or an enum is many.
+//! What every test is written with. Much is generic, since to drop a value of a type parameter is
+//! one step of a proof, and to drop a struct or an enum is many.
 
 use std::fmt::Debug;
 use std::process::Abort;

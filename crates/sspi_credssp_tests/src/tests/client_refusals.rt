@@ -39,8 +39,9 @@ kdc fails -> OutOfSequence/Sequence
 client new proof=third-proof-by-server nonce=00 -> last auth-length=41 proof=none
 ";
 
-/// No proof, a short and an altered one, the client's own one sent back, the client's own one by the server, and the first half of the
-/// right one. No refusal brings the credentials; after all of them the right proof does.
+/// No proof, a short and an altered one, the client's own one sent back, the client's own one by
+/// the server, and the first half of the right one. No refusal brings the credentials; after all of
+/// them the right proof does.
 #[test]
 fn of_the_proof(rt: HostRuntime) {
     plays::<Ntlm>(&rt, OF_THE_PROOF);
@@ -102,8 +103,8 @@ client new -> reply
 client new proof=bare:server-proof nonce=00 -> last auth-length=1048581
 ";
 
-/// The text of the credentials has a content of 50 bytes and two for each letter: one of 1048578 bytes is too long, and one of
-/// 1048576 is not.
+/// The text of the credentials has a content of 50 bytes and two for each letter: one of 1048578
+/// bytes is too long, and one of 1048576 is not.
 #[test]
 fn of_credentials_past_the_limit(rt: HostRuntime) {
     plays::<Scripted<Asks, 0>>(&rt, OF_CREDENTIALS_PAST_THE_LIMIT);

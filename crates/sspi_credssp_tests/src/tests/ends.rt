@@ -1,14 +1,17 @@
-//! The two ends that a line `ends` of a script makes. The words of the line, each left out for what stands first:
+//! The two ends that a line `ends` of a script makes. The words of the line, each left out for what
+//! stands first:
 //!
 //! - `client-version=`, `server-version=`: 6.
 //! - `client-least=`, `server-least=`: what an end that is not told takes.
 //! - `key=`: `010203`, the public key of the channel.
 //! - `nonce=`: `00`, the byte that the client's nonce repeats.
-//! - `credentials=`: `own`, which is `DOM\ann` with the password `pw`; `keytab`; or a number of letters for a password of theirs.
+//! - `credentials=`: `own`, which is `DOM\ann` with the password `pw`; `keytab`; or a number of
+//!   letters for a password of theirs.
 //! - `delegation=`: `with` credentials, or `none`.
 //! - `account=NAME:PASSWORD`, several times: that of `own`; `none` for a server that knows nobody.
 //! - `fails=`: the number of the call at which the server's look-up fails.
-//! - `packages=`: the ends speak NTLM alone; with this word they negotiate, among all packages or those of the list.
+//! - `packages=`: the ends speak NTLM alone; with this word they negotiate, among all packages or
+//!   those of the list.
 
 use crate::tests::words::{Test, byte, given, number, octets, parted};
 use sspi_credssp::{ClientMode, CredSspClient, CredSspMode, CredSspServer, ServerMode, TableProxy};

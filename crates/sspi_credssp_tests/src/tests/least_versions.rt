@@ -14,8 +14,8 @@ client new version=4 token=challenge -> MessageAltered/PeerVersion did=nothing
 client new version=6 token=challenge -> MessageAltered/PeerVersion did=nothing
 ";
 
-/// A version that is too old is not pinned, however often it comes; the first that is not is. The client's first message goes by no
-/// version of the server.
+/// A version that is too old is not pinned, however often it comes; the first that is not is. The
+/// client's first message goes by no version of the server.
 #[test]
 fn of_a_client(rt: HostRuntime) {
     plays::<Ntlm>(&rt, OF_A_CLIENT);
@@ -57,7 +57,8 @@ server new version=4 token=text:N1 -> MessageAltered/PeerVersion did=nothing
 server new version=6 token=text:N1 -> MessageAltered/PeerVersion did=nothing
 ";
 
-/// The code of the refusal goes back in the version that was refused, and a message below version 3 carries none.
+/// The code of the refusal goes back in the version that was refused, and a message below version 3
+/// carries none.
 #[test]
 fn of_a_server(rt: HostRuntime) {
     plays::<Ntlm>(&rt, OF_A_SERVER);

@@ -1,5 +1,5 @@
-//! Messages, proofs and sealed texts for the key `010203`, the nonce of zeros and `DOM\ann` with the password `pw`, all computed
-//! apart, in hex by the names that the scripts give them.
+//! Messages, proofs and sealed texts for the key `010203`, the nonce of zeros and `DOM\ann` with
+//! the password `pw`, all computed apart, in hex by the names that the scripts give them.
 
 /// A name a line, and its bytes. A line that begins with `#` says what stands below it.
 pub const NAMED: &str = "

@@ -15,8 +15,8 @@ client relayed -> last
 server relayed -> identity:DOM\\ann:pw
 ";
 
-/// Four messages of the client: the offer, its proof with its MIC, its proof of the key, and the credentials. The server asks its
-/// proxy twice: for its list and for the peer.
+/// Four messages of the client: the offer, its proof with its MIC, its proof of the key, and the
+/// credentials. The server asks its proxy twice: for its list and for the peer.
 #[test]
 fn over_ntlm(rt: HostRuntime) {
     plays::<Ntlm>(&rt, OVER_NTLM);

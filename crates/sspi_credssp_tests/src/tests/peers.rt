@@ -51,8 +51,8 @@ server new token=text:first -> NoCredentials/NoIdentity did=step+Ok code=C007030
 server new token=text:first -> NoCredentials/NoIdentity did=step+Ok code=C007030E token=none
 ";
 
-/// A look-up that fails ends nothing: the next one finds the peer. The mechanism takes any identities, and none too; the server
-/// does not.
+/// A look-up that fails ends nothing: the next one finds the peer. The mechanism takes any
+/// identities, and none too; the server does not.
 #[test]
 fn that_are_looked_up_again(rt: HostRuntime) {
     plays::<Scripted<Asks, 0>>(&rt, THAT_ARE_LOOKED_UP_AGAIN);

@@ -1,15 +1,19 @@
-//! Scripts: texts whose lines make two ends, deliver messages to them and say what is to come of it.
+//! Scripts: texts whose lines make two ends, deliver messages to them and say what is to come of
+//! it.
 //!
 //! - `ends WORDS` makes both ends anew (`ends.rt` has the words).
-//! - `client MESSAGE -> CAME CHECKS` and `server MESSAGE -> CAME CHECKS` deliver a message: `new`, which is version 6 and nothing
-//!   else; `relayed`, the one that the last call gave; or one that `named.rt` has. Words `FIELD=VALUE` change its fields first:
-//!   `version`, `token`, `auth` (the sealed credentials), `proof` (that of the key), `code` and `nonce`.
-//! - `kdc answers -> ..` and `kdc fails -> ..` give a suspended client its KDC's reply, which is empty.
+//! - `client MESSAGE -> CAME CHECKS` and `server MESSAGE -> CAME CHECKS` deliver a message: `new`,
+//!   which is version 6 and nothing else; `relayed`, the one that the last call gave; or one that
+//!   `named.rt` has. Words `FIELD=VALUE` change its fields first: `version`, `token`, `auth` (the
+//!   sealed credentials), `proof` (that of the key), `code` and `nonce`.
+//! - `kdc answers -> ..` and `kdc fails -> ..` give a suspended client its KDC's reply, which is
+//!   empty.
 //! - `see -> CHECKS` calls nothing.
 //!
-//! What came is one word of `said.rt`. Each check is a word too: `did=ACTS`, the effects of the last call; `gave=TOKEN`,
-//! the token of its step, which is there once; `waits=yes` or `no` and `left=N`, the client's state; and else a field of the
-//! message that came, whose names `message.rt` has: `auth-text` and `proof-text` are what stands behind the tag of a sealed blob.
+//! What came is one word of `said.rt`. Each check is a word too: `did=ACTS`, the effects of the
+//! last call; `gave=TOKEN`, the token of its step, which is there once; `waits=yes` or `no` and
+//! `left=N`, the client's state; and else a field of the message that came, whose names
+//! `message.rt` has: `auth-text` and `proof-text` are what stands behind the tag of a sealed blob.
 
 use crate::tests::ends::{Client, Server, client, knows_words, server};
 use crate::tests::message::{compose, has};

@@ -45,7 +45,8 @@ client relayed -> last
 server relayed -> identity:DOM\\ann:pw
 ";
 
-/// Below version 5 the client proves the key by sending it, and the server by sending it with one added.
+/// Below version 5 the client proves the key by sending it, and the server by sending it with one
+/// added.
 #[test]
 fn below_5(rt: HostRuntime) {
     plays::<Ntlm>(&rt, BELOW_5);
@@ -121,7 +122,8 @@ server relayed -> MessageAltered/HashDiffers did=step+CompleteNeeded+checked
 see -> version=2 token=none proof-text=key code=C007030F
 ";
 
-/// Each end makes its proof as the version of the other has it, so the proofs differ where one is below 5 and the other not.
+/// Each end makes its proof as the version of the other has it, so the proofs differ where one is
+/// below 5 and the other not.
 #[test]
 fn on_both_sides_of_5(rt: HostRuntime) {
     plays::<Ntlm>(&rt, ON_BOTH_SIDES_OF_5);

@@ -19,8 +19,8 @@ pub fn given<T, E: Drop>(rt: &impl Abort, answer: Result<T, E>) -> T {
     }
 }
 
-/// Puts a value in the place of another. Generic, as `lend` is: to drop a value of a type parameter is one step of a proof, and to drop
-/// an end is many.
+/// Puts a value in the place of another. Generic, as `lend` is: to drop a value of a type parameter
+/// is one step of a proof, and to drop an end is many.
 pub fn put<A: Drop>(place: &mut A, value: A) {
     *place = value;
 }
@@ -64,8 +64,8 @@ fn bare(rt: &impl Test, word: &str) -> Vec<u8> {
     blob
 }
 
-/// The bytes that a word stands for: a name or hex digits, `text:` and a text, or `bare:` and what a mechanism that protects
-/// nothing has sealed.
+/// The bytes that a word stands for: a name or hex digits, `text:` and a text, or `bare:` and what
+/// a mechanism that protects nothing has sealed.
 pub fn octets(rt: &impl Test, word: &str) -> Vec<u8> {
     match word.split_once(':') {
         Some(("text", text)) => given(rt, Vec::from_slice(rt.alloc(), text.as_bytes())),
@@ -105,7 +105,8 @@ pub fn nonce(rt: &impl Abort, word: &str) -> Option<[u8; 32]> {
     }
 }
 
-/// What a call did: `nothing`, or these words with `+` between them. A status stands beside the `step` that answered it.
+/// What a call did: `nothing`, or these words with `+` between them. A status stands beside the
+/// `step` that answered it.
 pub fn acts(rt: &impl Abort, words: &str) -> Acts {
     let mut acts = Acts {
         status: None,

@@ -1,5 +1,6 @@
-//! What the client and the server of plain NTLM say to each other, for `DOM\ann` with the password `pw`, the key 010203 and a nonce of
-//! zeros. `A`, `C`, `E` are the client's messages and `B`, `D` the server's.
+//! What the client and the server of plain NTLM say to each other, for `DOM\ann` with the password
+//! `pw`, the key 010203 and a nonce of zeros. `A`, `C`, `E` are the client's messages and `B`, `D`
+//! the server's.
 
 use crate::tests::stage::{Test, given};
 
@@ -28,8 +29,8 @@ fn digits<'a>(name: &'a str) -> &'a str {
     name
 }
 
-/// The message of this name, or these hexadecimal digits. Behind `+` comes a length: a message of version 6 with these fields and an
-/// `authInfo` of so many zeros.
+/// The message of this name, or these hexadecimal digits. Behind `+` comes a length: a message of
+/// version 6 with these fields and an `authInfo` of so many zeros.
 pub(crate) fn octets(rt: &impl Test, words: &str) -> Vec<u8> {
     match words.split_once('+') {
         Some((fields, length)) => with_zeros(rt, fields, given(rt, length.parse())),

@@ -58,8 +58,9 @@ serve 2 E finished
 serve 1 3003a10100 data
 kept 2";
 
-/// A content of 1048576 bytes is the longest. The server's token has eight bytes more than the client's, and the code of a refusal has
-/// eight with its tag. A header with a longer content is at fault.
+/// A content of 1048576 bytes is the longest. The server's token has eight bytes more than the
+/// client's, and the code of a refusal has eight with its tag. A header with a longer content is at
+/// fault.
 const LONG: &str = "\
 admit 0
 admit 1

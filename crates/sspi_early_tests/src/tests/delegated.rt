@@ -17,8 +17,9 @@ use std::process::Abort;
 
 type Client = CredSspClient<Ntlm, Kerberos>;
 
-/// Whom the policy admits, how many messages the client may make, what the link does with the one behind them, the answer, how many
-/// messages the link carried, what the last one was if it told the result, and how many bytes were taken of it.
+/// Whom the policy admits, how many messages the client may make, what the link does with the one
+/// behind them, the answer, how many messages the link carried, what the last one was if it told
+/// the result, and how many bytes were taken of it.
 const LISTED: &str = "\
 DOM\\ann, / 3 / none / success success / 6 / 00000000 / 4
  / 3 / none / denied denied / 6 / 05000000 / 4

@@ -7,7 +7,8 @@ use sspi_names::AuthIdentity;
 use std::alloc::Global;
 use std::process::Abort;
 
-/// A carrier that gives one zero at a time, and fails from a call of `receive` on, which is counted from 0.
+/// A carrier that gives one zero at a time, and fails from a call of `receive` on, which is counted
+/// from 0.
 #[derive(Drop)]
 struct Failing {
     from: u64,

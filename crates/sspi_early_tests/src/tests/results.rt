@@ -1,4 +1,5 @@
-//! One line an early result over a link in memory: what its list of names decides, and what comes of what the link delivers.
+//! One line an early result over a link in memory: what its list of names decides, and what comes
+//! of what the link delivers.
 
 use crate::tests::words::{
     Answer, answered, edits, given, identity, names, number, parted, unmade,
@@ -9,7 +10,8 @@ use sspi_names::{AuthIdentity, Username};
 use std::alloc::Global;
 use std::process::Abort;
 
-/// Whom the policy admits, the user, what the link does, the answer, what the server sent, and how many bytes were taken of it.
+/// Whom the policy admits, the user, what the link does, the answer, what the server sent, and how
+/// many bytes were taken of it.
 const RESULTS: &str = "\
 DOM\\ann, / DOM\\ann / none / success success / 00000000 / 4
  / DOM\\ann / none / denied denied / 05000000 / 4

@@ -7,7 +7,8 @@ use sspi_gate::{Close, End, GateFault};
 use std::alloc::Global;
 use std::process::Abort;
 
-/// The requests of a delegation by NTLM, the client's and the server's in turn, from the report of `DOM\ann` with the password `pw`.
+/// The requests of a delegation by NTLM, the client's and the server's in turn, from the report of
+/// `DOM\ann` with the password `pw`.
 const EXCHANGE: &str = "\
 3011a003020106a10a30083006a00404024e31
 3019a003020106a1123010300ea00c040a4e320000000000000000
@@ -27,7 +28,8 @@ struct Damage<'a> {
     place: usize,
     octets: &'a [u8],
     fault: &'a str,
-    /// Its header announces just the content that follows, so this end's later requests may stand behind it.
+    /// Its header announces just the content that follows, so this end's later requests may stand
+    /// behind it.
     is_whole: bool,
 }
 
@@ -100,7 +102,8 @@ fn stream(rt: &impl Abort, alloc: Global, end: End, damage: Damage<'_>) -> Vec<u
     stream
 }
 
-/// All before the damage is handed on as it came, and nothing of it or of what follows; what follows is not taken either.
+/// All before the damage is handed on as it came, and nothing of it or of what follows; what
+/// follows is not taken either.
 fn stops(rt: &impl Abort, alloc: Global, damage: Damage<'_>) {
     let client = stream(rt, alloc, End::Client, damage);
     let server = stream(rt, alloc, End::Server, damage);

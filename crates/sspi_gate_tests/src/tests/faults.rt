@@ -18,7 +18,8 @@ fn front(len: usize) -> &'static [u8] {
     THREE.split_at(len.min(THREE.len())).0
 }
 
-/// The client's stream is cut: whole requests are handed on, and what is left of the next has ended.
+/// The client's stream is cut: whole requests are handed on, and what is left of the next has
+/// ended.
 fn client_cut(rt: &impl Abort, alloc: Global, len: usize)
     requires { len < 21 }
 {

@@ -1,4 +1,5 @@
-//! One line a relay: the client's stream, the server's, the turns, the answer, and how many bytes of each stream are written on.
+//! One line a relay: the client's stream, the server's, the turns, the answer, and how many bytes
+//! of each stream are written on.
 
 use crate::tests::words::{answer, relays, unmade};
 use std::alloc::Global;
@@ -113,7 +114,8 @@ const CLOSED: &str = "
 300da003020106a4060204c0070308 / 3005a003020106 / 1 / 2 spent / 15 7
 ";
 
-/// Requests in longer forms than they need, with a tail, and at the edge of their fields: each is written as it came.
+/// Requests in longer forms than they need, with a tail, and at the edge of their fields: each is
+/// written as it came.
 const SPELLED: &str = "
 308105a003020106 / 3005a003020106 / 1 / 2 spent / 8 7
 3005a003020106 / 30820005a003020106 / 1 / 2 spent / 7 9
@@ -133,7 +135,8 @@ const VERSIONS: &str = "
 3005a0030201063005a003020106 / 3005a003020106300da003020105a4060204c0070308 / 5 / 3 version server / 14 7
 ";
 
-/// Each damage of a header and of a content, at the client's first request, the server's, and the client's second.
+/// Each damage of a header and of a content, at the client's first request, the server's, and the
+/// client's second.
 const DAMAGED: &str = "
 31 /  / 1 / 0 bad client eof / 0 0
 30 /  / 1 / 0 bad client eof / 0 0

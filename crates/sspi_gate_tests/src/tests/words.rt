@@ -70,8 +70,8 @@ pub(crate) fn answer(words: &str) -> Option<Answer> {
     }
 }
 
-/// A relay of these two streams gives this answer, and so many bytes of each stream are written and taken at least. What is left of
-/// the streams has the lengths that this gives, the client's first.
+/// A relay of these two streams gives this answer, and so many bytes of each stream are written and
+/// taken at least. What is left of the streams has the lengths that this gives, the client's first.
 pub(crate) fn relays(
     rt: &impl Abort,
     alloc: Global,

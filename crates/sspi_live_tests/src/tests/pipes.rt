@@ -1,4 +1,5 @@
-//! Both ends over two pipes of memory, by turns: where the client reads and nothing is there, its server makes a turn.
+//! Both ends over two pipes of memory, by turns: where the client reads and nothing is there, its
+//! server makes a turn.
 
 use crate::tests::recorded::PLAIN;
 use crate::tests::stage::{

@@ -15,7 +15,8 @@ pub struct Recorded {
     pub server: &'static [&'static str],
 }
 
-/// `DOM\ann` with the password `pw`, the key 010203 and version 6: two tokens, two proofs and the credentials.
+/// `DOM\ann` with the password `pw`, the key 010203 and version 6: two tokens, two proofs and the
+/// credentials.
 pub const PLAIN: Recorded = Recorded {
     key: (1, 4),
     versions: (6, 6),

@@ -90,7 +90,8 @@ fn streams_that_end(rt: HostRuntime) {
     }
 }
 
-/// The call of this number fails. The requests take three, four and three calls, one for each byte of a header and one for the rest.
+/// The call of this number fails. The requests take three, four and three calls, one for each byte
+/// of a header and one for the rest.
 fn failing_source(rt: &impl Abort, alloc: Global, sent: &[u8], call: u64)
     requires { call < 10 }
 {

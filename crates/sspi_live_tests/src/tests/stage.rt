@@ -22,7 +22,8 @@ pub fn given<T, E: Drop>(rt: &impl Abort, made: Result<T, E>) -> T {
     }
 }
 
-/// Lends the value and drops it then. Generic, since to drop a value of a type parameter is one step.
+/// Lends the value and drops it then. Generic, since to drop a value of a type parameter is one
+/// step.
 pub fn lend<A: Drop, R, F: FnOnce(&mut A) -> R>(value: A, act: F) -> R
     requires { F.IsAlwaysCallable act }
 {

@@ -20,10 +20,12 @@ pub struct Arrival {
     pub key: [u8; 32],
 }
 
-/// What a client says in its last message but one. Memory is taken only for a name that a client may have.
+/// What a client says in its last message but one. Memory is taken only for a name that a client
+/// may have.
 pub fn arrival_of(alloc: Global, message: &[u8]) -> Result<Arrival, Refusal>
     ensures answer { Gives result (arrival_of message.now) }
-    ensures memory { IfErr result (λ error. error.error_type ≡ ErrorKind.InsufficientMemory → IsOk (arrival_of message.now)) }
+    ensures memory { IfErr result (λ error. error.error_type ≡ ErrorKind.InsufficientMemory →
+        IsOk (arrival_of message.now)) }
 {
     let Some((name, key)) = read_ap_request(message) else {
         return Err(Refusal::malformed());

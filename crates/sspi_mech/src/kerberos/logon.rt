@@ -2,7 +2,8 @@
 
 ghost use Rattle.std.specs.Prelude.{◌≡◌, ◌≤◌, length, option_copied, IfErr, IsOk};
 ghost use Rattle.sspi_names.specs.Name.{inner_of};
-ghost use Rattle.sspi_mech.specs.KerberosLogon.{acquired, name_in, short_name, logon_of, MayWantLogon, protocol_of, request_at};
+ghost use Rattle.sspi_mech.specs.KerberosLogon.{acquired, name_in, short_name, logon_of};
+ghost use Rattle.sspi_mech.specs.KerberosLogon.{MayWantLogon, protocol_of, request_at};
 ghost use Rattle.sspi_mech.specs.Answered.{Gives};
 
 use crate::kerberos::realms::Realms;

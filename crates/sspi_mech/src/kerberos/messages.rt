@@ -1,8 +1,10 @@
 //! The messages of plain Kerberos.
 
 ghost use Rattle.std.specs.Prelude.{◌≡◌, ◌<◌, ◌^◌, length, option_map, option_copied, IfOk};
-ghost use Rattle.sspi_mech.specs.KerberosMessages.{reply_proof, ticket_reply, ap_request, ap_reply, is_ticket_request, read_ticket};
-ghost use Rattle.sspi_mech.specs.KerberosMessages.{read_ap_request, read_ap_reply, as_request, tgs_request};
+ghost use Rattle.sspi_mech.specs.KerberosMessages.{reply_proof, ticket_reply, ap_request, ap_reply};
+ghost use Rattle.sspi_mech.specs.KerberosMessages.{is_ticket_request, read_ticket};
+ghost use Rattle.sspi_mech.specs.KerberosMessages.{read_ap_request, read_ap_reply, as_request};
+ghost use Rattle.sspi_mech.specs.KerberosMessages.{tgs_request};
 
 use crate::named::{lettered, named_message, read_block, read_named};
 use sha2::{Digest, Sha256};
@@ -101,7 +103,8 @@ pub fn read_ticket(message: &[u8]) -> Option<&[u8; 32]>
 
 /// The name and the session key of a client's message.
 pub fn read_ap_request(message: &[u8]) -> Option<(&[u8], &[u8; 32])>
-    ensures { option_map (λ read. record { name = read.0.now; body = read.1.now }) result ≡ read_ap_request message.now }
+    ensures { option_map (λ read. record { name = read.0.now; body = read.1.now })
+        result ≡ read_ap_request message.now }
 {
     read_named(AP_REQUEST_LETTERS, message)
 }

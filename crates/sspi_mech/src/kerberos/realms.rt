@@ -31,7 +31,8 @@ impl Realms {
     /// The URL of the KDC of this name; NoAuthenticatingAuthority where there is none.
     pub fn kdc_of(&self, alloc: Global, name: &Username) -> Result<Text, Refusal>
         ensures answer { Gives result (kdc_of self.now name.now) }
-        ensures memory { IfErr result (λ error. error.error_type ≡ ErrorKind.InsufficientMemory → IsOk (kdc_of self.now name.now)) }
+        ensures memory { IfErr result (λ error. error.error_type ≡ ErrorKind.InsufficientMemory →
+            IsOk (kdc_of self.now name.now)) }
     {
         match self.url(name) {
             Some(url) => Ok(Text::from_text(alloc, url)?),

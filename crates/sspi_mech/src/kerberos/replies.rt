@@ -1,7 +1,8 @@
 //! What a client reads of a KDC's reply.
 
 ghost use Rattle.std.specs.Prelude.{◌≡◌, codes};
-ghost use Rattle.sspi_mech.specs.KerberosReplies.{kind_of_code, kind_in, granted, first_key_in, session_key_in};
+ghost use Rattle.sspi_mech.specs.KerberosReplies.{kind_of_code, kind_in, granted, first_key_in};
+ghost use Rattle.sspi_mech.specs.KerberosReplies.{session_key_in};
 ghost use Rattle.sspi_mech.specs.Named.{after_letters};
 ghost use Rattle.sspi_mech.specs.Answered.{GivesExactly};
 

@@ -1,7 +1,8 @@
 //! How far a Kerberos context has come.
 
 ghost use Rattle.std.specs.Prelude.{◌≡◌, option_copied};
-ghost use Rattle.sspi_mech.specs.KerberosStage.{own_direction, peer_direction, name_at, waits_at, left_at, pairs_at};
+ghost use Rattle.sspi_mech.specs.KerberosStage.{own_direction, peer_direction, name_at, waits_at};
+ghost use Rattle.sspi_mech.specs.KerberosStage.{left_at, pairs_at};
 ghost use Rattle.sspi_mech.specs.Advanced.{advanced};
 
 use crate::kerberos::logon::ClientName;

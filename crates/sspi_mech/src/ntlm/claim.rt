@@ -14,10 +14,12 @@ use sspi_names::{Credentials, Username};
 use sspi_types::{Bytes, ErrorKind, Reason};
 use std::alloc::Global;
 
-/// Who a client says it is in its last message. Memory is taken only for a name that a client may have.
+/// Who a client says it is in its last message. Memory is taken only for a name that a client may
+/// have.
 pub fn claim_of(alloc: Global, message: &[u8]) -> Result<Claim, Refusal>
     ensures answer { Gives result (claim_of message.now) }
-    ensures memory { IfErr result (λ error. error.error_type ≡ ErrorKind.InsufficientMemory → IsOk (claim_of message.now)) }
+    ensures memory { IfErr result (λ error. error.error_type ≡ ErrorKind.InsufficientMemory →
+        IsOk (claim_of message.now)) }
 {
     let Some((name, proof)) = read_authenticate(message) else {
         return Err(Refusal::malformed());

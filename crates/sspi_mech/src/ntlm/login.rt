@@ -20,7 +20,8 @@ pub struct Login {
     pub password: Text,
 }
 
-/// The name and the password of a client's credentials. Memory is taken only for a name that does not mix the two forms.
+/// The name and the password of a client's credentials. Memory is taken only for a name that does
+/// not mix the two forms.
 pub fn login_of(alloc: Global, handle: Option<&CredentialsBuffers>) -> Result<Login, Refusal>
     ensures answer { Gives result (login_of (option_copied handle.entry)) }
     ensures memory { IfErr result (λ error. error.error_type ≡ ErrorKind.InsufficientMemory →

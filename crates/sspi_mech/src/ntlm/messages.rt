@@ -1,7 +1,8 @@
 //! The messages of plain NTLM.
 
 ghost use Rattle.std.specs.Prelude.{◌≡◌, ◌<◌, ◌^◌, ◌++◌, length, option_map, option_copied, IfOk};
-ghost use Rattle.sspi_mech.specs.NtlmMessages.{proof_of, key_of, challenge_message, authenticate_message, is_negotiate};
+ghost use Rattle.sspi_mech.specs.NtlmMessages.{proof_of, key_of, challenge_message};
+ghost use Rattle.sspi_mech.specs.NtlmMessages.{authenticate_message, is_negotiate};
 ghost use Rattle.sspi_mech.specs.NtlmMessages.{read_challenge, read_authenticate};
 ghost use Rattle.sha2.specs.Sha256.{sha256};
 
@@ -84,7 +85,8 @@ pub fn read_challenge(message: &[u8]) -> Option<&[u8; 8]>
 
 /// The name and the proof of a client's last message.
 pub fn read_authenticate(message: &[u8]) -> Option<(&[u8], &[u8; 32])>
-    ensures { option_map (λ read. record { name = read.0.now; body = read.1.now }) result ≡ read_authenticate message.now }
+    ensures { option_map (λ read. record { name = read.0.now; body = read.1.now })
+        result ≡ read_authenticate message.now }
 {
     read_named(AUTHENTICATE_LETTERS, message)
 }

@@ -1,5 +1,6 @@
-//! What came of a call, in words: `refuses`, the kind and the reason; `asks`, the transport and the URL in quotes of a KDC and the
-//! request in hex; a word and octets in hex otherwise, as the status of a step and its token.
+//! What came of a call, in words: `refuses`, the kind and the reason; `asks`, the transport and the
+//! URL in quotes of a KDC and the request in hex; a word and octets in hex otherwise, as the status
+//! of a step and its token.
 
 use crate::tests::checks::{Test, given, halves, holds};
 use crate::tests::octets::octets;

@@ -27,8 +27,8 @@ pub fn given<T, E: Drop>(rt: &impl Abort, answer: Result<T, E>) -> T {
     }
 }
 
-/// Puts a value in the place of another. Generic, as `lend` is: to drop a value of a type parameter is one step of a proof, and to drop
-/// an end or a configuration is many.
+/// Puts a value in the place of another. Generic, as `lend` is: to drop a value of a type parameter
+/// is one step of a proof, and to drop an end or a configuration is many.
 pub fn put<T: Drop>(place: &mut T, value: T) {
     *place = value;
 }

@@ -1,6 +1,7 @@
-//! Bytes in words. A word is digits of hex, one byte of them and how often it comes, as `61*300`, a text in quotes, as `'KA'`, or the
-//! name of a token, which begins with a capital letter. A text of tokens has a line `NAME = WORDS` for each, without names among
-//! the words, and lines after it that only go on with it.
+//! Bytes in words. A word is digits of hex, one byte of them and how often it comes, as `61*300`, a
+//! text in quotes, as `'KA'`, or the name of a token, which begins with a capital letter. A text of
+//! tokens has a line `NAME = WORDS` for each, without names among the words, and lines after it
+//! that only go on with it.
 
 use crate::tests::checks::{Test, given, holds};
 

@@ -1,4 +1,5 @@
-//! Values in words: names, identities, credentials and their buffers; and what the mechanisms are made of and handed.
+//! Values in words: names, identities, credentials and their buffers; and what the mechanisms are
+//! made of and handed.
 
 use crate::tests::checks::{Test, given, halves, text};
 use sspi_mech::{InitializeSecurityContext, KerberosConfig, NtlmConfig};
@@ -71,7 +72,8 @@ fn utf16(rt: &impl Test, word: &str) -> Utf16Text {
     given(rt, Utf16Text::from_str(rt.alloc(), &name(rt, word)))
 }
 
-/// The buffers in the words of a domain, a user and a password, whether or not they make a name; `-` is an empty domain.
+/// The buffers in the words of a domain, a user and a password, whether or not they make a name;
+/// `-` is an empty domain.
 pub fn password_buffers(rt: &impl Test, words: &str) -> CredentialsBuffers {
     let (domain, words) = halves(words);
     let (user, password) = halves(words);

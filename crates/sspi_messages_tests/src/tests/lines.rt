@@ -1,10 +1,11 @@
-//! Calls told by lines of text, as `client seal tokn:,data:41 -> tokn:00,data:41`, `server ask name -> DOM\ann` or
-//! `server do complete -> Ok`.
+//! Calls told by lines of text, as `client seal tokn:,data:41 -> tokn:00,data:41`, `server ask name
+//! -> DOM\ann` or `server do complete -> Ok`.
 //!
-//! A buffer is its type, `!` where it may only be read or `?` where a checksum covers it too, `:` and its bytes: hex, or `text`
-//! for those of `Devolutions/sspi-rs`, joined by `+`. Behind the arrow stands what the buffers are afterwards, `same`
-//! where that is what they were, or the text of a refusal, after which they are to be as before. The line `authenticate` has
-//! both ends authenticate, and `negotiation` tries the calls of the negotiations that they have selected.
+//! A buffer is its type, `!` where it may only be read or `?` where a checksum covers it too, `:`
+//! and its bytes: hex, or `text` for those of `Devolutions/sspi-rs`, joined by `+`. Behind the
+//! arrow stands what the buffers are afterwards, `same` where that is what they were, or the text
+//! of a refusal, after which they are to be as before. The line `authenticate` has both ends
+//! authenticate, and `negotiation` tries the calls of the negotiations that they have selected.
 
 use crate::tests::ends::{Context, Ends, Test, authenticate, given, holds};
 use crate::tests::negotiation::negotiated;
@@ -88,7 +89,8 @@ pub fn shows(error: &Error, text: &str) -> bool {
     }
 }
 
-/// A call, by its word, and whether its answer is the only one that there is. Flags and numbers are not read.
+/// A call, by its word, and whether its answer is the only one that there is. Flags and numbers are
+/// not read.
 fn calls(end: &mut Context, call: &str, message: &mut [SecurityBuffer]) -> Result<bool, Error> {
     match call {
         "seal" => {

@@ -1,4 +1,5 @@
-//! Queries told by a word, and what they answer by a text: a name, a key in hex, the package of an entry, or a refusal.
+//! Queries told by a word, and what they answer by a text: a name, a key in hex, the package of an
+//! entry, or a refusal.
 
 use crate::tests::ends::{Context, Test, given, holds, identity};
 use crate::tests::lines::shows;

@@ -3,10 +3,12 @@
 use crate::tests::ends::{Ends, Test, by_ntlm, negotiating};
 use crate::tests::lines::go;
 
-// The tags are the first 16 bytes of SHA-256 over the label, the key, who made the message, its number and its text; the key
-// is that over its label, eight zero bytes, the name and the password. The text is `Devolutions/sspi-rs`.
+// The tags are the first 16 bytes of SHA-256 over the label, the key, who made the message, its
+// number and its text; the key is that over its label, eight zero bytes, the name and the password.
+// The text is `Devolutions/sspi-rs`.
 
-/// A missing buffer, also one that there is with flags alone, is told before the mechanism is asked; so is a short blob.
+/// A missing buffer, also one that there is with flags alone, is told before the mechanism is
+/// asked; so is a short blob.
 const LACKING: &str = "
 client seal - -> InvalidToken: no buffer was provided with that type
 client seal data:41 -> InvalidToken: no buffer was provided with that type
@@ -45,7 +47,8 @@ server do password -> OutOfSequence: call out of sequence
 server do keytab -> IncompleteCredentials: provided credentials are not password-based
 ";
 
-/// A message each way, as two buffers and as a stream of 35 bytes; the same message is not opened twice.
+/// A message each way, as two buffers and as a stream of 35 bytes; the same message is not opened
+/// twice.
 const SEALED: &str = "
 client seal tokn:,data:text -> tokn:d1965807c84d82fb1c7eebee8dfd6c72,data:text
 server open tokn:d1965807c84d82fb1c7eebee8dfd6c72,data:text -> same
@@ -81,7 +84,8 @@ server sign data:,tokn:00 -> data:,tokn:a9a91ad5aac2490309f4ab9c921eef86
 client verify data:,tokn:a9a91ad5aac2490309f4ab9c921eef86 -> same
 ";
 
-/// The first buffer of a type is taken; one that may only be read, or that a checksum covers, is passed over.
+/// The first buffer of a type is taken; one that may only be read, or that a checksum covers, is
+/// passed over.
 const FIRST: &str = "
 client seal tokn!:01,data?:02,data:,tokn:,data:03,tokn:04 -> tokn!:01,data?:02,data:,tokn:16d54a854f24b6fcec6f8eb4c2d7b40d,data:03,tokn:04
 server open tokn!:01,data?:02,data:,tokn:16d54a854f24b6fcec6f8eb4c2d7b40d,data:03,tokn:04 -> same

@@ -23,8 +23,8 @@ pub fn given<T, E: Drop>(rt: &impl Abort, answer: Result<T, E>) -> T {
     }
 }
 
-/// Lends a value, and drops it then. Generic, since to drop a value of a type parameter is one step of a proof, and to drop an end is
-/// many.
+/// Lends a value, and drops it then. Generic, since to drop a value of a type parameter is one step
+/// of a proof, and to drop an end is many.
 pub fn lend<A: Drop, R, F: FnOnce(&mut A) -> R>(value: A, act: F) -> R
     requires { F.IsAlwaysCallable act }
 {
@@ -32,9 +32,10 @@ pub fn lend<A: Drop, R, F: FnOnce(&mut A) -> R>(value: A, act: F) -> R
     act(&mut value)
 }
 
-/// The messages of `DOM\ann` with the password `pw` and the key 010203 to a server of that key, by their numbers: two tokens,
-/// two proofs and the credentials. With an `n` the two proofs of a session with a nonce of octets 11, with a `k` those of one with
-/// the key 010204. Other words are octets themselves.
+/// The messages of `DOM\ann` with the password `pw` and the key 010203 to a server of that key, by
+/// their numbers: two tokens, two proofs and the credentials. With an `n` the two proofs of a
+/// session with a nonce of octets 11, with a `k` those of one with the key 010204. Other words are
+/// octets themselves.
 fn octets_of(word: &str) -> &str {
     match word {
         "1" => "3011a003020106a10a30083006a00404024e31",
@@ -169,7 +170,8 @@ pub fn turns_of(
 
 const ANN: Account = ("DOM\\ann", "pw");
 
-/// How the ends stand after a play, by the server's key, the words for the deliveries and the ends of the turns.
+/// How the ends stand after a play, by the server's key, the words for the deliveries and the ends
+/// of the turns.
 pub fn comes_to(
     rt: &impl Test,
     digits: &str,

@@ -1,5 +1,5 @@
-//! A play of two ends that negotiate NTLM, of `ann@example.com` over a key of 270 octets, as an instance of what agreement rests on. The
-//! messages, texts, MICs and hashes were computed apart.
+//! A play of two ends that negotiate NTLM, of `ann@example.com` over a key of 270 octets, as an
+//! instance of what agreement rests on. The messages, texts, MICs and hashes were computed apart.
 
 use crate::tests::ends::{Account, Test, client, config, given, lend, made_by, server, turns_of};
 use sha2::{Digest, Sha256};
@@ -28,7 +28,8 @@ s:308190a003020106a2650463867716124342cfd5d01da6fa98840c6f3051a003020101a14a0448
 0000000000000000000000000000000000000000000000000000000000000000
 ";
 
-/// The same until the client's MIC, where the server is offered one mechanism more than the client offered.
+/// The same until the client's MIC, where the server is offered one mechanism more than the client
+/// offered.
 const LONGER_OFFER: &str = "
 c:
 s:303fa003020106a13830363034a0320430602e06062b0601050502a0243022a01a3018060a2b06010401823702020a060a2b06010401823702021ea20404024e31
@@ -53,7 +54,8 @@ fn mode(rt: &impl Test) -> NegotiateConfig {
     NegotiateConfig::new(protocol, None, computer, KdcTable::new(rt.alloc()))
 }
 
-/// The turns of these words, after which the server stands so and has opened an identity of this name.
+/// The turns of these words, after which the server stands so and has opened an identity of this
+/// name.
 fn negotiates(
     rt: &impl Test,
     words: &str,
@@ -149,7 +151,8 @@ fn each_text_was_sealed_before(rt: HostRuntime) {
 
 // ---- the MICs
 
-/// The last octets of each token, a line a turn: the offer and its answer without a MIC, and the MIC of each end. Then come no tokens.
+/// The last octets of each token, a line a turn: the offer and its answer without a MIC, and the
+/// MIC of each end. Then come no tokens.
 const TOKENS: &str = r"
 a00e300c060a2b06010401823702020aa20404024e31
 a20c040a4e320000000000000000
@@ -205,7 +208,8 @@ fn another_list_is_refused(rt: HostRuntime) {
 
 // ---- the hashes
 
-/// An end's label, the nonce, and the hash of both and the key. The server's first two turns are handed no nonce.
+/// An end's label, the nonce, and the hash of both and the key. The server's first two turns are
+/// handed no nonce.
 const HASHES: &str = "
 CredSSP Client-To-Server Binding Hash|0000000000000000000000000000000000000000000000000000000000000000|57f88c6173ea7\
 461fac10d490730c714bdac8550b6679d73945e037ddf2e8518
@@ -256,7 +260,8 @@ fn proofs_are_hashes(rt: &impl Test, turns: &[Turn]) {
     }
 }
 
-/// No two of the texts that are hashed in the exchange have one hash, and both proofs are among these hashes.
+/// No two of the texts that are hashed in the exchange have one hash, and both proofs are among
+/// these hashes.
 #[test]
 fn no_two_texts_have_one_hash(rt: HostRuntime) {
     hashes(&rt);

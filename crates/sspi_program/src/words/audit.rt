@@ -13,7 +13,8 @@ use sspi_report::audit_line;
 use sspi_scenario::Scenario;
 use std::alloc::{AllocError, Global};
 
-/// The ends of a scenario carry their messages to each other over its link, and an auditor judges their turns and its log.
+/// The ends of a scenario carry their messages to each other over its link, and an auditor judges
+/// their turns and its log.
 pub fn audit(alloc: Global, scenario: Scenario) -> Said
     ensures { HoldsValues scenario → Conducts Task.Audit scenario result }
 {

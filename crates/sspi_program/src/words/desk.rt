@@ -44,7 +44,8 @@ fn seat_all(
     table: &mut PlainTable,
 ) -> Result<(), JoinError>
     ensures { table.old ≡ record { limit = count; places = [] } → MatchResult result
-        (λ _. table.new.places ≡ places_in count scenario.now) (λ error. error ≡ JoinError.InsufficientMemory) }
+        (λ _. table.new.places ≡ places_in count scenario.now)
+        (λ error. error ≡ JoinError.InsufficientMemory) }
 {
     for seat in 0..count {
         seat_one(alloc, scenario, table)?;
@@ -55,7 +56,8 @@ fn seat_all(
 /// Seats one client more.
 fn seat_one(alloc: Global, scenario: &Scenario, table: &mut PlainTable) -> Result<(), JoinError>
     ensures seated { OnOk result (table.new ≡ with_place table.old (place_in scenario.now)) }
-    ensures full { IfErr result (λ error. error ≡ JoinError.Full → length table.old.places ≡ table.old.limit) }
+    ensures full { IfErr result (λ error. error ≡ JoinError.Full →
+        length table.old.places ≡ table.old.limit) }
 {
     let ends = ends_of(alloc, scenario)?;
     table.join(
@@ -67,7 +69,8 @@ fn seat_one(alloc: Global, scenario: &Scenario, table: &mut PlainTable) -> Resul
 
 /// What is said of the clients at a table, once they were served.
 fn serve(alloc: Global, limit: u32, table: PlainTable) -> Said
-    ensures { (count : ℕ) (scenario : Scenario) → table.places ≡ places_in count scenario → limit ≡ scenario.turns →
+    ensures { (count : ℕ) (scenario : Scenario) → table.places ≡ places_in count scenario →
+        limit ≡ scenario.turns →
         Conducts (Task.Desk count) scenario result }
 {
     match table.finish(limit) {

@@ -18,7 +18,8 @@ use sspi_report::early_report;
 use sspi_scenario::Scenario;
 use std::alloc::{AllocError, Global};
 
-/// The ends of a scenario carry their messages to each other over its link, and its server tells whether the user may log on.
+/// The ends of a scenario carry their messages to each other over its link, and its server tells
+/// whether the user may log on.
 pub fn early(alloc: Global, scenario: Scenario) -> Said
     ensures { HoldsValues scenario → Conducts Task.Early scenario result }
 {
@@ -51,7 +52,8 @@ fn copy_names(alloc: Global, names: &[Username]) -> Result<Vec<Username>, AllocE
 
 /// What is said of an exchange, behind which its server tells what this policy decides.
 fn told(alloc: Global, made: Record, policy: ListPolicy) -> Said
-    ensures { HasExchange made → policy ≡ made.scenario.admit → Conducts Task.Early made.scenario result }
+    ensures { HasExchange made → policy ≡ made.scenario.admit →
+        Conducts Task.Early made.scenario result }
 {
     let report = report_of(alloc, &made);
     let entries = made.link.log().len();
@@ -95,8 +97,8 @@ fn tell(made: Record, policy: ListPolicy) -> Record
     }
 }
 
-/// The status and the text of an early result: the report of the delegation, and what stands behind it, of which so many entries of
-/// the log are no part.
+/// The status and the text of an early result: the report of the delegation, and what stands behind
+/// it, of which so many entries of the log are no part.
 fn told_text(
     alloc: Global,
     kept: &Record,
@@ -104,7 +106,8 @@ fn told_text(
     entries: usize,
 ) -> Result<(u8, Vec<u8>), AllocError>
     ensures { IfOk result (λ told. (status_of kept.now.outcome ≡ Some told.0)
-        × IsOkAnd report (λ text. told.1.items ≡ text.items ++ behind_text kept.now.outcome (drop entries (reverse kept.now.link.log)))) }
+        × IsOkAnd report (λ text. told.1.items ≡ text.items ++
+        behind_text kept.now.outcome (drop entries (reverse kept.now.link.log)))) }
 {
     let mut text = report?;
     let Some(status) = status_of(&kept.outcome) else {
@@ -116,7 +119,8 @@ fn told_text(
 }
 
 fn behind(alloc: Global, kept: &Record, entries: usize) -> Result<Vec<u8>, AllocError>
-    ensures { IfOk result (λ text. text.items ≡ behind_text kept.now.outcome (drop entries (reverse kept.now.link.log))) }
+    ensures { IfOk result (λ text. text.items ≡ behind_text kept.now.outcome
+        (drop entries (reverse kept.now.link.log))) }
 {
     let log = kept.link.log();
     let (_, behind) = log.split_at(entries.min(log.len()));

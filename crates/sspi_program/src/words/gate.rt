@@ -1,7 +1,8 @@
 //! The word `gate`: an exchange whose deliveries pass a relay.
 
 ghost use Rattle.std.specs.Prelude.{◌≡◌, IfOk};
-ghost use Rattle.sspi_program.specs.Gate.{IsGated, Relays, delivered_from, relayed_status, stream_of};
+ghost use Rattle.sspi_program.specs.Gate.{IsGated, Relays, delivered_from, relayed_status};
+ghost use Rattle.sspi_program.specs.Gate.{stream_of};
 ghost use Rattle.sspi_program.specs.Telling.{Conducts};
 ghost use Rattle.sspi_scenario.specs.Held.{HoldsValues};
 
@@ -17,7 +18,8 @@ use sspi_report::gate_line;
 use sspi_scenario::Scenario;
 use std::alloc::{AllocError, Global};
 
-/// The ends of a scenario carry their messages to each other over its link, and a relay passes what that delivered.
+/// The ends of a scenario carry their messages to each other over its link, and a relay passes what
+/// that delivered.
 pub fn gate(alloc: Global, scenario: Scenario) -> Said
     ensures { HoldsValues scenario → Conducts Task.Gate scenario result }
 {

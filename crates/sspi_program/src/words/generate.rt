@@ -15,8 +15,8 @@ use sspi_report::summary_text;
 use sspi_scenario::numbered::numbered;
 use std::alloc::{AllocError, Global};
 
-/// The ends of so many scenarios, which are made of the numbers from 0 on, carry their messages to each other, one pair of ends after
-/// the other; and a summary of what they came to.
+/// The ends of so many scenarios, which are made of the numbers from 0 on, carry their messages to
+/// each other, one pair of ends after the other; and a summary of what they came to.
 pub fn generate(alloc: Global, count: u32) -> Said
     ensures { Generates count result }
 {

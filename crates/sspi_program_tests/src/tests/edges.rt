@@ -4,7 +4,8 @@ use crate::tests::{ORDINARY, no_memory, reports, reports_long, run_on, shows_all
 use std::alloc::Global;
 use std::process::Abort;
 
-/// Of two edits of one message the later changes what the earlier made; and a message that is not an earlier one gives nothing.
+/// Of two edits of one message the later changes what the earlier made; and a message that is not
+/// an earlier one gives nothing.
 const SEVERAL_EDITS: &str =
     "1 4|edit 1 drop;edit 1 give 300da003020106a4060204c0070308;|;! 300da003020106a4060204c0070308;|;client InvalidToken 0x\
      c0070308;\n\
@@ -13,8 +14,9 @@ const SEVERAL_EDITS: &str =
     1 2|edit 0 again 0;||;read server UnexpectedEof;\n\
     1 3|edit 1 again 2;||;read client UnexpectedEof;";
 
-/// What a refusing server sends is its last word, whatever the link does with it. Of a code of eight bytes the low 32 bits
-/// count. A refusing server tells its code from version 3 on, and not at version 5.
+/// What a refusing server sends is its last word, whatever the link does with it. Of a code of
+/// eight bytes the low 32 bits count. A refusing server tells its code from version 3 on, and not
+/// at version 5.
 const REFUSALS: &str = "1 4|accounts none;edit 3 fail;||;server NoCredentials;\n\
     1 5|accounts none;edit 3 drop;|;< 3065a003020106|;server NoCredentials;\n\
     1 4|edit 1 give 3011a003020106a40a02080000000100000000;|;! 3011a003020106|;client InvalidToken;\n\
@@ -71,7 +73,8 @@ fn a_delivery_with_more_behind(rt: HostRuntime) {
     reads_more_behind(&rt, rt.alloc(), (front, "00", 65536, "\n"));
 }
 
-/// Of a delivery 1048581 bytes are read, which is the longest message: of three bytes behind one none is read.
+/// Of a delivery 1048581 bytes are read, which is the longest message: of three bytes behind one
+/// none is read.
 #[test]
 fn a_delivery_past_the_limit(rt: HostRuntime) {
     let front = "mode ntlm\nuser DOM\\ann\nkey 010203\nedit 4 add 070707\npassword ";

@@ -40,7 +40,8 @@ fn messages_are_told_in_the_place_of_their_lines(rt: HostRuntime) {
     reports_whole(&rt, rt.alloc(), "explain", "\n\nx", "\n\nx\n");
 }
 
-/// The status of `explain` on this text, and whether what it writes holds one text and ends with another.
+/// The status of `explain` on this text, and whether what it writes holds one text and ends with
+/// another.
 fn explains(rt: &impl Abort, alloc: Global, text: &[u8], status: u8, holds: &str, last: &str) {
     match run_on(alloc, "explain", text) {
         Ok((found, sink)) => {

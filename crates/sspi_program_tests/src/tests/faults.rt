@@ -37,7 +37,8 @@ fn other_words(rt: HostRuntime) {
     }
 }
 
-/// Texts that are no scenario: the words, the output and the text, a `|` behind each but the last, with `;` for an LF.
+/// Texts that are no scenario: the words, the output and the text, a `|` behind each but the last,
+/// with `;` for an LF.
 const NO_SCENARIOS: &str = "delegate|error: scenario line 1;|mode x;\n\
     delegate|error: scenario line 0;|\n\
     delegate|error: scenario line 4;|mode ntlm;# user;;keys 00;\n\

@@ -8,7 +8,8 @@ use sspi_program::run::{exit_status, run};
 use std::alloc::{AllocError, Global};
 use std::process::Abort;
 
-/// How many turns the client made, how many the server, and how many of them sealed the credentials.
+/// How many turns the client made, how many the server, and how many of them sealed the
+/// credentials.
 fn standing(alloc: Global, record: &Record) -> Result<String, AllocError> {
     let (mut client, mut server, mut sealed) = (0u64, 0u64, 0u64);
     for turn in record.transcript.turns() {
@@ -36,8 +37,8 @@ fn check_standing(rt: &impl Abort, alloc: Global, kept: &Option<Record>, stands:
 /// Generic, since to drop a value of a type parameter is one step.
 fn let_go<T: Drop>(_value: T) {}
 
-/// The exchange of this scenario has a name, the exit status with a space and the number of the report's lines, the text at the
-/// report's end, and how its ends then stand.
+/// The exchange of this scenario has a name, the exit status with a space and the number of the
+/// report's lines, the text at the report's end, and how its ends then stand.
 fn ends_so(
     rt: &impl Abort,
     alloc: Global,
@@ -70,8 +71,9 @@ fn delegate_ends_so(
     }
 }
 
-/// The same of a case of a table, a `|` behind each part but the last: its name, the counts, the text at the end, how many turns the
-/// client and the server make and how many of them seal credentials, and the lines that it adds to the scenario.
+/// The same of a case of a table, a `|` behind each part but the last: its name, the counts, the
+/// text at the end, how many turns the client and the server make and how many of them seal
+/// credentials, and the lines that it adds to the scenario.
 fn ends_with_lines(rt: &impl Abort, alloc: Global, scenario: &str, case: &str) {
     let (name, rest) = parted(case);
     let (counts, rest) = parted(rest);
@@ -91,8 +93,9 @@ fn ends_as(rt: &impl Abort, alloc: Global, scenario: &str, line: &str) {
     }
 }
 
-/// What somebody on the link, a server with another password, and a link that fails come to. Where the client seals nothing, nothing
-/// is there to be opened; where it seals and the server is then given another message, the server refuses it.
+/// What somebody on the link, a server with another password, and a link that fails come to. Where
+/// the client seals nothing, nothing is there to be opened; where it seals and the server is then
+/// given another message, the server refuses it.
 const ATTACKS: &str =
     "the first message has another version|1 6|;server MessageAltered;|2 2 0|edit 0 set 6 05;\n\
     the first answer has another version|1 6|;client MessageAltered;|3 2 0|edit 1 set 6 05;\n\
@@ -122,14 +125,16 @@ fn attacks_on_an_exchange(rt: HostRuntime) {
     }
 }
 
-/// The lengths of the five messages, and how the ends stand where one was cut: its reader has made no turn of it.
+/// The lengths of the five messages, and how the ends stand where one was cut: its reader has made
+/// no turn of it.
 const CUTS: &str = "19|;read server UnexpectedEof;|1 0 0\n\
     27|;read client UnexpectedEof;|1 1 0\n\
     149|;read server UnexpectedEof;|2 1 0\n\
     95|;read client UnexpectedEof;|2 2 0\n\
     104|;read server UnexpectedEof;|3 2 1";
 
-/// The report has the messages up to this one, what was read of it where that is not nothing, and the answer.
+/// The report has the messages up to this one, what was read of it where that is not nothing, and
+/// the answer.
 fn is_read_no_further(rt: &impl Abort, alloc: Global, entry: usize, length: usize, ends: &str) {
     let lines = entry.wrapping_add(if length > 0 { 3 } else { 2 });
     match format!(in alloc;
@@ -159,7 +164,8 @@ const KERBEROS: &str =
     server-protocol kerberos\nkdc EXAMPLE.COM tcp://kdc\nkdc-user ann@example.com\n\
     ticket 1111111111111111111111111111111111111111111111111111111111111111\n";
 
-/// A KDC that fails before the client has sent anything leads it to NTLM; later it is refused, and has sent the server one message.
+/// A KDC that fails before the client has sent anything leads it to NTLM; later it is refused, and
+/// has sent the server one message.
 const FAILING_KDCS: &str =
     "the KDC fails at once|0 8|;ok 4 user=ann@example.com password=pw;|4 4 1|kdc-answer fail;\n\
     the KDC fails at its second call|1 3|;client NoAuthenticatingAuthority;|2 1 0|kdc-answer usual;kdc-answer fail;";
@@ -202,7 +208,8 @@ fn writes_until(rt: &impl Abort, alloc: Global, call: u64, status: u8) {
     assert!(rt; sink.written().is_empty() == (status == 4));
 }
 
-/// The text is asked for twice, once behind its end, and one of more than 1024 bytes three times; the report is written in one call.
+/// The text is asked for twice, once behind its end, and one of more than 1024 bytes three times;
+/// the report is written in one call.
 #[test]
 fn calls_outside_that_fail(rt: HostRuntime) {
     let alloc = rt.alloc();

@@ -2,14 +2,15 @@
 
 use crate::tests::{reports_whole, shows_all};
 
-/// The exchange of ann@example.com with the password pw over the channel of the key 010203, by a Kerberos that authenticates user
-/// to user.
+/// The exchange of ann@example.com with the password pw over the channel of the key 010203, by a
+/// Kerberos that authenticates user to user.
 const KERBEROS: &str =
     "mode negotiate\nuser ann@example.com\npassword pw\nkey 010203\nclient-protocol kerberos\nserver-protocol kerberos\n\
     kdc EXAMPLE.COM tcp://kdc\nkdc-user ann@example.com\n\
     ticket 1111111111111111111111111111111111111111111111111111111111111111\n";
 
-/// Its report. The KDC is asked twice: for the name alone, and with the server's ticket, for the key of the session.
+/// Its report. The KDC is asked twice: for the name alone, and with the server's ticket, for the
+/// key of the session.
 const REPORT: &str =
     "> 3049a003020106a1423040303ea03c043a603806062b0601050502a02e302ca024302206092a864882f71201020206092a864886f71201\
     0202060a2b06010401823702020aa20404024b31\n\
@@ -34,8 +35,9 @@ fn both_ends_agree_on_kerberos(rt: HostRuntime) {
     reports_whole(&rt, rt.alloc(), "delegate", KERBEROS, REPORT);
 }
 
-/// Before its first message the client gives Kerberos up for NTLM where the KDC refuses with one of four kinds, cannot be asked, or
-/// is unknown; without NTLM that is its refusal. Later, and at another kind, it is its refusal too.
+/// Before its first message the client gives Kerberos up for NTLM where the KDC refuses with one of
+/// four kinds, cannot be asked, or is unknown; without NTLM that is its refusal. Later, and at
+/// another kind, it is its refusal too.
 const REPLIES: &str =
     "0 8|kdc-answer usual;|> 3049a003020106a1423040303ea03c043a603806062b0601050502a02e302ca024302206092a864882f71201020206\
      092a864886f712010202060a2b06010401823702020aa20404024b31;|;ok 4 user=ann@example.com password=pw;\n\
@@ -63,8 +65,9 @@ const REPLIES: &str =
     1 7|keytab 00ff;|> 3049a003020106a1423040303ea03c043a603806062b0601050502a02e302ca024302206092a864882f71201020206092a8\
      64886f712010202060a2b06010401823702020aa20404024b31;|;client UnsupportedPreAuth;";
 
-/// Packages that an end may not use, and targets: an IP address has no Kerberos. A server that has NTLM alone picks it, in the third
-/// place, and the message beside the offer is for another mechanism.
+/// Packages that an end may not use, and targets: an IP address has no Kerberos. A server that has
+/// NTLM alone picks it, in the third place, and the message beside the offer is for another
+/// mechanism.
 const PACKAGES_AND_TARGETS: &str =
     "0 10|server-packages ntlm;|;< 3026a003020106a11f301d301ba0190417a1153013a0030a0101a10c060a2b06010401823702020a;> |;ok \
      5 user=ann@example.com password=pw;\n\
@@ -94,8 +97,8 @@ fn ends_with_kerberos(rt: HostRuntime) {
 /// The exchange whose ends begin with NTLM, where no KDC is known.
 const ENDS: &str = "mode negotiate\nuser ann@example.com\npassword pw\nkey 010203\n";
 
-/// Which URL is asked and what the KDC knows; a client that begins with NTLM takes Kerberos where its realm has a KDC, and a server
-/// without a ticket does not authenticate user-to-user.
+/// Which URL is asked and what the KDC knows; a client that begins with NTLM takes Kerberos where
+/// its realm has a KDC, and a server without a ticket does not authenticate user-to-user.
 const REALMS_AND_TICKETS: &str =
     "0 8|kdc EXAMPLE.COM tcp://kdc;kdc-user ann@example.com;server-protocol kerberos;ticket 1111111111111111111111111111111\
      111111111111111111111111111111111;|> 3049a003020106a1423040303ea03c043a603806062b0601050502a02e302ca024302206092a86488\

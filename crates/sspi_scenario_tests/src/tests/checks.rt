@@ -17,8 +17,8 @@ pub fn given<T, E: Drop>(rt: &impl Abort, answer: Result<T, E>) -> T {
     }
 }
 
-/// Lends a value, and drops it then. Generic, since to drop a value of a type parameter is one step of a proof, and to drop a
-/// scenario is many.
+/// Lends a value, and drops it then. Generic, since to drop a value of a type parameter is one step
+/// of a proof, and to drop a scenario is many.
 pub fn lend<A: Drop, R, F: FnOnce(&A) -> R>(value: A, act: F) -> R
     requires { F.IsAlwaysCallable act }
 {

@@ -63,7 +63,8 @@ const FAULTS: [(&str, usize); 54] = [
     ("mode negotiate\nclient-protocol x\nmode x", 2),
 ];
 
-/// The same for a play, which has deliveries, and neither a limit of turns nor a link that changes messages.
+/// The same for a play, which has deliveries, and neither a limit of turns nor a link that changes
+/// messages.
 const FAULTS_OF_A_PLAY: [(&str, usize); 9] = [
     (
         "deliver client\ndeliver server\ndeliver client 00\ndeliver",
@@ -87,7 +88,8 @@ const FAULTS_OF_AN_EARLY: [(&str, usize); 4] = [
     ("admit ann", 0),
 ];
 
-/// The same for the sessions of a desk, which have a limit of turns, and no link that changes messages.
+/// The same for the sessions of a desk, which have a limit of turns, and no link that changes
+/// messages.
 const FAULTS_OF_SESSIONS: [(&str, usize); 4] = [
     ("turns 5\nproxy-fail 9\nedit 0 drop", 3),
     ("turns 5\ndeliver client", 2),
@@ -95,7 +97,8 @@ const FAULTS_OF_SESSIONS: [(&str, usize); 4] = [
     ("turns 5\nturns 5", 2),
 ];
 
-/// The same for a server over a channel, which has its challenge; the fewest lines that it needs are none at fault.
+/// The same for a server over a channel, which has its challenge; the fewest lines that it needs
+/// are none at fault.
 const FAULTS_OF_A_SERVER: [(&str, usize); 5] = [
     ("admit ann\nturns 5\nproxy-fail 9", 3),
     ("edit 0 drop", 1),

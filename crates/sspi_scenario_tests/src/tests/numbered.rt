@@ -9,8 +9,8 @@ use sspi_types::Text;
 use std::alloc::{AllocError, Global};
 use std::process::Abort;
 
-/// What the text of a number has: the number, the mode, its low byte in hex, the version of both ends, and further lines, with `;`
-/// for an LF and a `|` behind each but the last.
+/// What the text of a number has: the number, the mode, its low byte in hex, the version of both
+/// ends, and further lines, with `;` for an LF and a `|` behind each but the last.
 const TOLD: &str = "0|ntlm|00|6|\n\
     1|negotiate|01|6|\n\
     2|ntlm|02|4|client-least 4;server-least 4;\n\

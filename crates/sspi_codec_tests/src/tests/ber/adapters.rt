@@ -49,7 +49,8 @@ fn reads(rt: &impl Abort, read: Result<u64, WireKind>, expected: Result<u64, Wir
     is(rt, read, expected);
 }
 
-// A reader that fails before the first byte, inside an element, and where nothing is left: no failure is an end.
+// A reader that fails before the first byte, inside an element, and where nothing is left: no
+// failure is an end.
 #[test]
 fn a_reader_that_fails(rt: HostRuntime) {
     let text = [0x02, 0x01, 0x2a];

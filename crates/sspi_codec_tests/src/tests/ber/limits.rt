@@ -10,8 +10,9 @@ use std::process::Abort;
 
 const TOO_LONG: Result<usize, WireKind> = Err(WireKind::InvalidData);
 
-/// Where the shortest length takes another form, and at the limit of 1048576 bytes: the length of a content, the size of an
-/// element with it, and the size of an OCTET STRING of it in another element; a dash where one does not fit.
+/// Where the shortest length takes another form, and at the limit of 1048576 bytes: the length of a
+/// content, the size of an element with it, and the size of an OCTET STRING of it in another
+/// element; a dash where one does not fit.
 const SIZES: &str = "\
 0 2 4
 127 129 132

@@ -8,8 +8,9 @@ use sspi_ber::{
 use std::alloc::Global;
 use std::process::Abort;
 
-/// Lengths (X.690 8.1.3.4, 8.1.3.5), the header of a SEQUENCE and integers (X.690 8.3), at the ends of each form. `length`, `sequence` and
-/// `integer` are encoded so and read back; `long-` forms are read alone, and `bad-` ones refused. The bytes stand in hex, none as a dot.
+/// Lengths (X.690 8.1.3.4, 8.1.3.5), the header of a SEQUENCE and integers (X.690 8.3), at the ends
+/// of each form. `length`, `sequence` and `integer` are encoded so and read back; `long-` forms are
+/// read alone, and `bad-` ones refused. The bytes stand in hex, none as a dot.
 const SPELLINGS: &str = "\
 length 0 00
 length 127 7f

@@ -94,8 +94,8 @@ fn compares_buffers(rt: &impl Abort, alloc: Global, line: &str, same: bool) {
     compares(rt, one, other, same, line);
 }
 
-/// Buffers whose user and domain mix the forms of a name. That takes no memory, so that it is told also where the allocations
-/// behind those of the buffers fail.
+/// Buffers whose user and domain mix the forms of a name. That takes no memory, so that it is told
+/// also where the allocations behind those of the buffers fail.
 #[test]
 fn mixed_buffers_take_no_memory(rt: HostRuntime) {
     are_mixed(

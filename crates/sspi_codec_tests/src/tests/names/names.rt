@@ -5,8 +5,8 @@ use sspi_names::{UserNameFormat, Username, UsernameError};
 use std::alloc::Global;
 use std::process::Abort;
 
-/// `parsed` names with their form, account and domain; texts that mix the forms; `made` names of an account and a domain with
-/// how they are shown; and such parts that mix the forms.
+/// `parsed` names with their form, account and domain; texts that mix the forms; `made` names of an
+/// account and a domain with how they are shown; and such parts that mix the forms.
 const NAMES: &str = "\
 parsed|user@dept@tbt.com|principal|user@dept|tbt.com
 parsed|@|principal||
@@ -91,8 +91,9 @@ fn shows(rt: &impl Abort, alloc: Global, name: Username, shown: &str) {
     gives(rt, name.clone(alloc), &name, shown);
 }
 
-/// Two names, whether they are equal but for the case of ASCII letters, and whether they are equal. Only ASCII letters have a
-/// case here: the Kelvin sign is no `k`. Equality looks at the case, and at nothing but the form and the two parts.
+/// Two names, whether they are equal but for the case of ASCII letters, and whether they are equal.
+/// Only ASCII letters have a case here: the Kelvin sign is no `k`. Equality looks at the case, and
+/// at nothing but the form and the two parts.
 const PAIRS: &str = "\
 DOM\\ann|dom\\ANN|y|n
 ann@Example.com|ANN@example.COM|y|n

@@ -116,7 +116,8 @@ fn is_written_again(rt: &impl Abort, alloc: Global, bytes: &[u8]) {
     is_spelled(rt, token.encode(alloc), bytes);
 }
 
-// Accept-completed is 0; reject (2), request-mic (3), a content of two octets and one of none are any other.
+// Accept-completed is 0; reject (2), request-mic (3), a content of two octets and one of none are
+// any other.
 #[test]
 fn results(rt: HostRuntime) {
     let alloc = rt.alloc();

@@ -30,7 +30,8 @@ fn picks_ntlm(rt: &impl Abort, token: &NegTokenTarg) {
     }
 }
 
-// The shortest forms; forms of a length that are not the shortest, and a byte behind; leftovers at each level.
+// The shortest forms; forms of a length that are not the shortest, and a byte behind; leftovers at
+// each level.
 #[test]
 fn one_answer(rt: HostRuntime) {
     let alloc = rt.alloc();

@@ -18,7 +18,8 @@ const NO_INIT: &str = "
 : 60 0f 06 06 2b 06 01 05 05 02 a0 05 30 03 a3 02 30
 ";
 
-/// The other token, nothing, an empty one, bad lengths, other tags, and fields that are cut or hold something else.
+/// The other token, nothing, an empty one, bad lengths, other tags, and fields that are cut or hold
+/// something else.
 const NO_TARG: &str = "
 : 60 22 06 06 2b 06 01 05 05 02 a0 18 30 16 a0 0e 30 0c 06 0a 2b 06 01 04 01 82 37 02 02 0a a2 04 04 02 4e 31
 :

@@ -1,7 +1,8 @@
-//! Credentials, a line each: what is done, the domain, the user and the password, and the text in the words of `octets`.
+//! Credentials, a line each: what is done, the domain, the user and the password, and the text in
+//! the words of `octets`.
 //!
-//! Credentials are written as the text and read from it by both readers (`both`), or read alone (`read`); `kept` is what is written where
-//! they stay at the client.
+//! Credentials are written as the text and read from it by both readers (`both`), or read alone
+//! (`read`); `kept` is what is written where they stay at the client.
 
 use crate::tests::checks::{given, gives, holds, parted};
 use crate::tests::tsreq::octets::octets;
@@ -88,8 +89,9 @@ fn line(rt: &impl Abort, alloc: Global, line: &str) {
     goes(rt, alloc, line, verb, &buffers, &octets(rt, alloc, text));
 }
 
-/// Three texts, and empty ones, which are also what is written where credentials stay at the client. Then length forms that are
-/// not the shortest, an octet more of credType, and what is left inside and behind a structure.
+/// Three texts, and empty ones, which are also what is written where credentials stay at the
+/// client. Then length forms that are not the shortest, an octet more of credType, and what is left
+/// inside and behind a structure.
 const TEXTS: &str = "\
 both||a|1|301ba003020101a11404123010a0020400a10404026100a20404023100
 both|Domain|Username|Password|3043a003020101a13c043a3038a00e040c44006f006d00610069006e00a112041055007300650072006e0061006d006500a21204\
@@ -131,8 +133,9 @@ fn followed_by_more(rt: HostRuntime) {
     leaves_two(&rt, rt.alloc());
 }
 
-/// Both readers refuse the text as this word says: `form` for a structure that is malformed, `card` for the credentials of a smart card,
-/// `type` for another type or none, and `text` for bytes that are no UTF-16.
+/// Both readers refuse the text as this word says: `form` for a structure that is malformed, `card`
+/// for the credentials of a smart card, `type` for another type or none, and `text` for bytes that
+/// are no UTF-16.
 fn refuses(rt: &impl Abort, alloc: Global, text: &[u8], word: &str) {
     let refusal = refusal_named(rt, word);
     let read = read_ts_credentials(alloc, &mut SliceSource::new(text));
@@ -151,7 +154,8 @@ fn refusal_named(rt: &impl Abort, word: &str) -> Error {
     }
 }
 
-/// Texts that are refused, each with its word. A structure that is malformed is told before its type, and that before its texts.
+/// Texts that are refused, each with its word. A structure that is malformed is told before its
+/// type, and that before its texts.
 const REFUSED: &str = "\
 form
 form 3017a003020101a110040e300ca0020400a1020400a20204
@@ -182,9 +186,10 @@ fn refused_texts(rt: HostRuntime) {
     }
 }
 
-/// Places of the short credentials, and the bytes that each is refused with: another tag; a length that has no form, or that passes
-/// what the structure round it has; one byte too few for what stands inside, where the bytes behind are not taken; and the first byte
-/// of the number, which is then another type.
+/// Places of the short credentials, and the bytes that each is refused with: another tag; a length
+/// that has no form, or that passes what the structure round it has; one byte too few for what
+/// stands inside, where the bytes behind are not taken; and the first byte of the number, which is
+/// then another type.
 const DAMAGES: &str = "\
 0 31
 2 a1
@@ -294,7 +299,8 @@ fn has_length(rt: &impl Abort, alloc: Global, bytes: &str, length: Result<usize,
     holds(rt, length_of(text) == length, bytes);
 }
 
-// A password of 524269 code units has 1048538 bytes; with what stands around it the content has 38 more.
+// A password of 524269 code units has 1048538 bytes; with what stands around it the content has 38
+// more.
 #[test]
 fn the_limit(rt: HostRuntime) {
     has_length(&rt, rt.alloc(), "6161*524269", Ok(1048581));

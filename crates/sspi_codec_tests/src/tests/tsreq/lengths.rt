@@ -1,4 +1,5 @@
-//! The lengths in all messages and tokens: each of the four forms, at each place, and at the lengths where the shortest form changes.
+//! The lengths in all messages and tokens: each of the four forms, at each place, and at the
+//! lengths where the shortest form changes.
 
 use sspi_ber::VecSink;
 use sspi_tokens::{NegTokenInit, NegTokenTarg};

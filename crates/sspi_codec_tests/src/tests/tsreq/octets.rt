@@ -1,4 +1,5 @@
-//! Octets in words: hex digits, `first` and `second` for two messages, `*` behind digits for how often they come, and `+` between pieces.
+//! Octets in words: hex digits, `first` and `second` for two messages, `*` behind digits for how
+//! often they come, and `+` between pieces.
 
 use crate::tests::checks::given;
 use std::alloc::Global;

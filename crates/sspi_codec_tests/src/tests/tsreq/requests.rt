@@ -1,8 +1,9 @@
 //! Requests, a line each: what is done, the fields of the request, and its bytes.
 //!
-//! A request is written so and read so (`both`), or one of the two alone (`written`, `read`); `fits` and `passes` are about how many bytes
-//! it takes, and whether that is too many. It has version 6 and nothing else but for the words `version=`, `token=`, `auth=`,
-//! `proof=`, `code=` and `nonce=`. Each request has a copy, and its code, other than that of success, is its error.
+//! A request is written so and read so (`both`), or one of the two alone (`written`, `read`);
+//! `fits` and `passes` are about how many bytes it takes, and whether that is too many. It has
+//! version 6 and nothing else but for the words `version=`, `token=`, `auth=`, `proof=`, `code=`
+//! and `nonce=`. Each request has a copy, and its code, other than that of success, is its error.
 
 use crate::tests::checks::{given, gives, holds, parted};
 use crate::tests::tsreq::octets::octets;
@@ -143,7 +144,8 @@ both|version=8388607|3007a00502037fffff
 both|version=8388608|3008a006020400800000
 both|version=4294967295|3008a0060204ffffffff";
 
-/// Numbers that are not in their shortest encoding, without sign; of eight bytes the low 32 bits count.
+/// Numbers that are not in their shortest encoding, without sign; of eight bytes the low 32 bits
+/// count.
 const LONGER_NUMBERS: &str = "\
 read|version=200|3005a0030201c8
 read||3006a00402020006
@@ -170,7 +172,8 @@ both|version=7 nonce=07*32|3029a003020107a5220420+07*32
 written|version=4 nonce=07*32|3005a003020104
 read|version=4|3029a003020104a5220420+07*32";
 
-/// The lengths round a field are judged by their form alone; that of the content itself counts, in any form.
+/// The lengths round a field are judged by their form alone; that of the content itself counts, in
+/// any form.
 const NESTED_LENGTHS: &str = "\
 read|token=41 auth=42 proof=43 code=5|3023a07f020106a100307f3005a081ff040141a282fffb04810142a300040143a47f020105";
 
@@ -184,8 +187,9 @@ fn messages(rt: HostRuntime) {
     each_goes(&rt, rt.alloc(), NESTED_LENGTHS);
 }
 
-/// What is not read: a second token; a field out of its order, whole or damaged; what begins with no field's tag; and fields that
-/// the version does not look for, a code at version 2 and a nonce at version 4.
+/// What is not read: a second token; a field out of its order, whole or damaged; what begins with
+/// no field's tag; and fields that the version does not look for, a code at version 2 and a nonce
+/// at version 4.
 const TAILS: &str = "\
 read|token=41|308117a003020106a10930073005a0030401413005a003040142
 read|proof=41|30810ea003020106a303040141a2020400

@@ -1,5 +1,5 @@
-//! What the laws of mechanisms give a caller that knows no more of one: its questions end, no step changes a count, and
-//! what it seals has a tag.
+//! What the laws of mechanisms give a caller that knows no more of one: its questions end, no step
+//! changes a count, and what it seals has a tag.
 ghost use Rattle.std.specs.Prelude.{◌≡◌, ◌≤◌, false, length, IfOk, OnOk};
 ghost use Rattle.sspi_mech.specs.Calls.{no_counts, one_sealing};
 
@@ -15,7 +15,8 @@ use sspi_types::{Bytes, ClientRequestFlags, DataRepresentation, Error, ErrorKind
 use std::alloc::Global;
 use std::process::Abort;
 
-/// A client's step with no token, each of its questions answered by `reply`, and how many they were.
+/// A client's step with no token, each of its questions answered by `reply`, and how many they
+/// were.
 fn first_step<M: Mechanism>(client: &mut M, reply: &Reply) -> (Result<Step, Error>, u32)
     ensures waits { OnOk result.0 (M.meaning.waits client.new ≡ false) }
     ensures counts { M.meaning.counts client.new ≡ M.meaning.counts client.old }

@@ -1,9 +1,11 @@
-//! Plain Kerberos: `ann@example.com`, a KDC for the realm EXAMPLE.COM, and a server whose ticket is the bytes `40` to `5f`. What the KDC
-//! and the ends send was computed apart, with another SHA-256; docs/WIRE.md derives it.
+//! Plain Kerberos: `ann@example.com`, a KDC for the realm EXAMPLE.COM, and a server whose ticket is
+//! the bytes `40` to `5f`. What the KDC and the ends send was computed apart, with another SHA-256;
+//! docs/WIRE.md derives it.
 
 use crate::tests::mech::script::run_kerberos;
 
-/// The messages of an exchange by the server's ticket and of one without a ticket, by the letters that they begin with.
+/// The messages of an exchange by the server's ticket and of one without a ticket, by the letters
+/// that they begin with.
 pub const TOKENS: &str = r"
 KA = 'KAann@example.com'
 KB = 'KB' d4260e4d04178ee096ed5e5e0046a4dd7c4f3947f0ea99e78ebd779f56c51124
@@ -120,7 +122,8 @@ fn keyed(rt: HostRuntime) {
     run_kerberos(&rt, TOKENS, KEYED);
 }
 
-/// The transport is told by the URL, that of the configuration before that of the table, and is TCP where the URL begins with none.
+/// The transport is told by the URL, that of the configuration before that of the table, and is TCP
+/// where the URL begins with none.
 const URLS: &str = r"
 kdc EXAMPLE.COM udp://k
 handle - ann@example.com pw

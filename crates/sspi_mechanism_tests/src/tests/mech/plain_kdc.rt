@@ -1,4 +1,5 @@
-//! The plain KDC, and one that always fails. A line is a call, `REQUEST -> REPLY` in the words of `octets`, or `REQUEST -> fails`.
+//! The plain KDC, and one that always fails. A line is a call, `REQUEST -> REPLY` in the words of
+//! `octets`, or `REQUEST -> fails`.
 
 use crate::tests::checks::{Test, given, holds, text};
 use crate::tests::octets::octets;

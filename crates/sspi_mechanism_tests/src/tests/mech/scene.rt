@@ -1,4 +1,5 @@
-//! What the lines of a case say before its calls: what an object is made of, the object, and what its next step is handed.
+//! What the lines of a case say before its calls: what an object is made of, the object, and what
+//! its next step is handed.
 
 use crate::tests::checks::{Test, given, halves, put};
 use crate::tests::mech::object::Object;

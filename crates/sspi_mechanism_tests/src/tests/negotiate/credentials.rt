@@ -1,4 +1,5 @@
-//! Whose credentials a client over plain NTLM proves: those of a handle, or those that were acquired.
+//! Whose credentials a client over plain NTLM proves: those of a handle, or those that were
+//! acquired.
 
 use crate::tests::negotiate::script::run_plain;
 use crate::tests::negotiate::tokens::NTLM;

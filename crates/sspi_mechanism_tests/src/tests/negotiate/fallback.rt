@@ -1,5 +1,6 @@
-//! What comes of a Kerberos that is refused. `Told` stands in its place, beside plain NTLM, whose first step takes whatever comes; it
-//! refuses by `T`, `A`, `C` and `U` with the four kinds that stand for a Kerberos that cannot be had, and by `x` with another.
+//! What comes of a Kerberos that is refused. `Told` stands in its place, beside plain NTLM, whose
+//! first step takes whatever comes; it refuses by `T`, `A`, `C` and `U` with the four kinds that
+//! stand for a Kerberos that cannot be had, and by `x` with another.
 
 use crate::tests::negotiate::script::{run_beside_told, run_told};
 

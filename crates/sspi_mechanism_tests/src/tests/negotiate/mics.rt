@@ -1,4 +1,5 @@
-//! MICs by the selected mechanism: before it has a key, and over the list of NTLM alone once a client has sent its name.
+//! MICs by the selected mechanism: before it has a key, and over the list of NTLM alone once a
+//! client has sent its name.
 
 use crate::tests::came::{of_done, of_octets, wanted};
 use crate::tests::checks::{Test, given, holds};

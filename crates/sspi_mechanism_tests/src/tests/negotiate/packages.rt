@@ -98,8 +98,8 @@ fn begin<E: End>(
 
 const NO_PACKAGE: &str = "refuses NoCredentials NoPackage";
 
-/// An end that begins with NTLM has it selected where its list allows it; else a client takes Kerberos, where that is allowed, and a
-/// server is not made.
+/// An end that begins with NTLM has it selected where its list allows it; else a client takes
+/// Kerberos, where that is allowed, and a server is not made.
 fn beginning_with_ntlm(allowed: &str) -> (&'static str, &'static str) {
     match allowed {
         "both" => ("NTLM true", "NTLM true"),
@@ -109,7 +109,8 @@ fn beginning_with_ntlm(allowed: &str) -> (&'static str, &'static str) {
     }
 }
 
-/// One that begins with Kerberos has that selected where its list allows it, and else NTLM, where that is allowed.
+/// One that begins with Kerberos has that selected where its list allows it, and else NTLM, where
+/// that is allowed.
 fn beginning_with_kerberos(allowed: &str) -> (&'static str, &'static str) {
     match allowed {
         "both" => ("Kerberos true", "Kerberos true"),
@@ -140,7 +141,8 @@ fn is_code(rt: &impl Test, kind: ErrorKind, code: u32, what: &str) {
     holds(rt, kind as u32 == code, what);
 }
 
-/// SEC_E_TIME_SKEW, SEC_E_NO_AUTHENTICATING_AUTHORITY, SEC_E_CERT_UNKNOWN and SEC_E_UNKNOWN_CREDENTIALS.
+/// SEC_E_TIME_SKEW, SEC_E_NO_AUTHENTICATING_AUTHORITY, SEC_E_CERT_UNKNOWN and
+/// SEC_E_UNKNOWN_CREDENTIALS.
 #[test]
 fn fallback_kinds(rt: HostRuntime) {
     let [time, authority, certificate, credentials] = FALLBACK_ERROR_KINDS;

@@ -1,4 +1,5 @@
-//! What the lines of a case say before its calls: what an end is made of, the end, and what its next step is handed.
+//! What the lines of a case say before its calls: what an end is made of, the end, and what its
+//! next step is handed.
 
 use crate::tests::checks::{Test, given, halves, lend, put, text};
 use crate::tests::negotiate::end::End;

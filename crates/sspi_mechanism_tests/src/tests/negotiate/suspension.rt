@@ -1,4 +1,5 @@
-//! Steps that ask a KDC: `Told` asks where it is told to by `?`, and what the KDC replies tells how it goes on.
+//! Steps that ask a KDC: `Told` asks where it is told to by `?`, and what the KDC replies tells how
+//! it goes on.
 
 use crate::tests::negotiate::script::run_told;
 

@@ -3,8 +3,8 @@
 use sspi_testing::{Script, Told};
 use sspi_types::{ErrorKind, Reason, SecurityStatus};
 
-/// The first byte of a token is the status or a refusal, and what follows is its own token. Told to, a client asks a KDC; the reply
-/// then tells what follows.
+/// The first byte of a token is the status or a refusal, and what follows is its own token. Told
+/// to, a client asks a KDC; the reply then tells what follows.
 #[derive(Drop)]
 pub struct Tokens;
 

@@ -6,7 +6,8 @@ use sspi_types::{Bytes, ErrorKind};
 use std::alloc::Global;
 use std::process::Abort;
 
-/// The client's first message, the server's answer, and an error request that was delivered in its place.
+/// The client's first message, the server's answer, and an error request that was delivered in its
+/// place.
 const FIRST: &[u8] =
     b"\x30\x11\xa0\x03\x02\x01\x06\xa1\x0a\x30\x08\x30\x06\xa0\x04\x04\x02\x4e\x31";
 

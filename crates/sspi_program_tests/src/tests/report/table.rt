@@ -68,7 +68,8 @@ fn joins(
     assert_eq!(rt; found, wanted);
 }
 
-/// Lends a value, and drops it then. Generic, since to drop a value of a type parameter is one step.
+/// Lends a value, and drops it then. Generic, since to drop a value of a type parameter is one
+/// step.
 fn lend<T: Drop, R, F: FnOnce(&T) -> R>(value: T, act: F) -> R
     requires { F.IsAlwaysCallable act }
 {

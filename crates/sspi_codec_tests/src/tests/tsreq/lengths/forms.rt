@@ -4,8 +4,8 @@ use crate::tests::tsreq::lengths::{Kind, again, unmade};
 use std::alloc::Global;
 use std::process::Abort;
 
-/// A request of version 6 with a token, credentials, a proof, a code and a nonce: its lengths in the shortest form, and then all in
-/// each of the long forms.
+/// A request of version 6 with a token, credentials, a proof, a code and a nonce: its lengths in
+/// the shortest form, and then all in each of the long forms.
 const REQUEST: &str = "\
 3043a003020106a10930073005a003040141a203040142a303040143a403020105a52204204e4e4e4e4e4e4e4e4e4e4e4e4e4e4e4e4e4e\
 4e4e4e4e4e4e4e4e4e4e4e4e4e4e
