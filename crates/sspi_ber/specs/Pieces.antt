@@ -60,8 +60,9 @@ is_octet_count count = nat_le 1 count && nat_le count max_length_octets
 unfoldable pub length_at : List ℕ → Read ℕ
 length_at bytes = do
   first ← byte_at bytes
-  if nat_lt first.0 0x80 then Ok first else if is_octet_count (first.0 - 0x80)
-  then limited_at (first.0 - 0x80) first.1 else Err Invalid
+  if nat_lt first.0 0x80 then Ok first
+      else if is_octet_count (first.0 - 0x80) then limited_at (first.0 - 0x80) first.1
+      else Err Invalid
 
 unfoldable pub header_at : ℕ → List ℕ → Read ℕ
 header_at tag bytes = do

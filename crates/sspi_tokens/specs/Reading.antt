@@ -58,7 +58,7 @@ unfoldable pub init_content_at : List ℕ → Read NegTokenInit
 init_content_at bytes = do
   mech ← element_at 0x06 bytes
   if bytes_eq mech.0 spnego then around_at 0xA0 (around_at 0x30 init_fields_at) mech.1
-  else Err Invalid
+      else Err Invalid
 
 unfoldable pub init_at : List ℕ → Read NegTokenInit
 init_at bytes = around_at 0x60 init_content_at bytes
