@@ -11,9 +11,9 @@
 #include <string.h>
 
 #include "arguments.h"
+#include "below.h"
 #include "channel.h"
 #include "exchange.h"
-#include "gss.h"
 #include "newaksu.h"
 #include "secret.h"
 #include "x224.h"
@@ -25,7 +25,7 @@ struct settings {
     struct trust trust;
     uint32_t password_fd; /* NO_DESCRIPTOR: the password is asked for */
     uint32_t version, least_version, seconds;
-    bool early, credential_less, trace;
+    bool negotiate, early, credential_less, trace;
 };
 
 #define PLACE(name, kind, member) \
@@ -39,6 +39,7 @@ static const struct argument arguments[] = {
     PLACE("fingerprint", ARGUMENT_TEXT, trust.fingerprint),
     PLACE("password-fd", ARGUMENT_NUMBER, password_fd),
     PLACE("mechanism", ARGUMENT_TEXT, mechanism),
+    PLACE("negotiate", ARGUMENT_FLAG, negotiate),
     PLACE("version", ARGUMENT_NUMBER, version),
     PLACE("least-version", ARGUMENT_NUMBER, least_version),
     PLACE("seconds", ARGUMENT_NUMBER, seconds),
@@ -51,9 +52,11 @@ static const struct argument arguments[] = {
 static int usage(void) {
     fputs("usage: credssp-client --host HOST --user USER (--certificate FILE | --fingerprint "
           "SHA256)\n"
-          "    [--port PORT] [--password-fd N] [--mechanism ntlm|kerberos|spnego]\n"
-          "    [--version N] [--least-version N] [--seconds N] [--early] [--credential-less]\n"
-          "    [--trace]\n"
+          "    [--port PORT] [--password-fd N] [--mechanism ntlm|kerberos|spnego|both]\n"
+          "    [--negotiate] [--version N] [--least-version N] [--seconds N] [--early]\n"
+          "    [--credential-less] [--trace]\n"
+          "--negotiate has this library's SPNEGO offer the mechanism, or both. spnego is that of\n"
+          "GSSAPI.\n"
           "USER is DOMAIN\\user, user@domain or user. The password is the next line of the file\n"
           "descriptor, or is asked for. --seconds is how long the exchange may take in all, 60 if "
           "left\n"
@@ -66,13 +69,13 @@ static int usage(void) {
 static bool read_arguments(char **words, struct settings *settings) {
     return arguments_read(words, arguments, settings) && settings->host && settings->user &&
            !settings->trust.file != !settings->trust.fingerprint &&
-           gss_knows(settings->mechanism) && settings->password_fd <= NO_DESCRIPTOR;
+           below_knows(settings->mechanism, settings->negotiate) && settings->password_fd <= NO_DESCRIPTOR;
 }
 
 /* A host over GSSAPI, bound to the key of the channel. It and GSSAPI keep copies of the
  * password. */
 static enum fault make_host(const struct settings *settings, const struct channel *channel,
-                            struct gss **gss, newaksu_host **host) {
+                            struct below *below, newaksu_host **host) {
     int descriptor = settings->password_fd == NO_DESCRIPTOR ? -1 : (int)settings->password_fd;
     char password[PASSWORD_BYTES + 1] = "";
     newaksu_client_settings options;
@@ -87,14 +90,11 @@ static enum fault make_host(const struct settings *settings, const struct channe
     if (fault == FAULT_NONE)
         fault = read_password(descriptor, "Password: ", password);
     if (fault == FAULT_NONE)
-        fault = gss_client(gss, settings->mechanism, settings->host, settings->user, password);
+        fault = below_client(below, settings->mechanism, settings->host, settings->user, password);
     options.password = password;
     options.password_length = strlen(password);
-    uint32_t status = NEWAKSU_OK;
     if (fault == FAULT_NONE)
-        status = newaksu_host_client(&options, &gss_mechanism, *gss, host);
-    if (status != NEWAKSU_OK)
-        fault = status == NEWAKSU_E_INSUFFICIENT_MEMORY ? FAULT_MEMORY : FAULT_SETTINGS;
+        fault = below_make_client(below, &options, host);
     explicit_bzero(password, sizeof password);
     return fault;
 }
@@ -114,9 +114,9 @@ static int hear(struct channel *channel) {
 
 static int delegate(const struct settings *settings, struct channel *channel, uint32_t protocol) {
     struct exchange exchange = {.trace = settings->trace};
-    struct gss *gss = NULL;
+    struct below below = {.negotiates = settings->negotiate};
     newaksu_host *host = NULL;
-    enum fault fault = make_host(settings, channel, &gss, &host);
+    enum fault fault = make_host(settings, channel, &below, &host);
     int status = 1;
     if (fault == FAULT_NONE) {
         /* whoever types a password takes their time */
@@ -133,12 +133,11 @@ static int delegate(const struct settings *settings, struct channel *channel, ui
         puts("delegated");
         status = protocol == X224_HYBRID_EX ? hear(channel) : 0;
     }
-    if (gss)
-        gss_print_failure(gss);
+    below_print_failures(&below);
     if (host)
         newaksu_host_release(host);
-    else if (gss)
-        gss_mechanism.release(gss);
+    else
+        below_release(&below);
     return status;
 }
 

@@ -14,9 +14,9 @@
 #include <unistd.h>
 
 #include "arguments.h"
+#include "below.h"
 #include "channel.h"
 #include "exchange.h"
-#include "gss.h"
 #include "newaksu.h"
 #include "x224.h"
 
@@ -25,7 +25,7 @@ struct settings {
     const char *certificate, *key, *users, *mechanism;
     const char *admit; /* the one user who may log on; NULL for everyone who was authenticated */
     uint32_t version, least_version, seconds;
-    bool early, show_password, trace;
+    bool negotiate, early, show_password, trace;
 };
 
 #define PLACE(name, kind, member) \
@@ -38,6 +38,7 @@ static const struct argument arguments[] = {
     PLACE("address", ARGUMENT_TEXT, address),
     PLACE("port", ARGUMENT_TEXT, port),
     PLACE("mechanism", ARGUMENT_TEXT, mechanism),
+    PLACE("negotiate", ARGUMENT_FLAG, negotiate),
     PLACE("version", ARGUMENT_NUMBER, version),
     PLACE("least-version", ARGUMENT_NUMBER, least_version),
     PLACE("seconds", ARGUMENT_NUMBER, seconds),
@@ -50,40 +51,40 @@ static const struct argument arguments[] = {
 
 static int usage(void) {
     fputs("usage: credssp-server --certificate FILE --key FILE [--users FILE] [--address HOST]\n"
-          "    [--port PORT] [--mechanism ntlm|kerberos|spnego] [--version N] [--least-version N]\n"
-          "    [--seconds N] [--early] [--admit USER] [--show-password] [--trace]\n"
-          "FILE of --users has lines DOMAIN:user:password. --seconds is how long the exchange may "
-          "take\n"
-          "in all, from the connection on, 60 if left out. --early offers HYBRID_EX too. --trace "
-          "shows\n"
-          "each message.\n",
+          "    [--port PORT] [--mechanism ntlm|kerberos|spnego|both] [--negotiate] [--version N]\n"
+          "    [--least-version N] [--seconds N] [--early] [--admit USER] [--show-password]\n"
+          "    [--trace]\n"
+          "FILE of --users has lines DOMAIN:user:password, and user@REALM for Kerberos. --negotiate\n"
+          "has this library's SPNEGO take the mechanism, or both, from users of that file alone;\n"
+          "spnego is that of GSSAPI. --seconds is how long the exchange may take in all, from the\n"
+          "connection on, 60 if left out. --early offers HYBRID_EX too. --trace shows each message.\n",
           stderr);
     return 2;
 }
 
 static bool read_arguments(char **words, struct settings *settings) {
     return arguments_read(words, arguments, settings) && settings->certificate && settings->key &&
-           gss_knows(settings->mechanism);
+           below_knows(settings->mechanism, settings->negotiate) &&
+           (settings->users || !settings->negotiate);
 }
 
 /* A host over GSSAPI, bound to the key of the channel. */
 static enum fault make_host(const struct settings *settings, const struct channel *channel,
-                            struct gss **gss, newaksu_host **host) {
+                            struct below *below, newaksu_host **host) {
     newaksu_server_settings options;
+    struct users users = {0};
     newaksu_server_settings_init(&options);
     options.version = settings->version;
     options.least_version = settings->least_version;
-    /* the mechanism knows the users */
-    options.peers = NEWAKSU_PEERS_ANYONE;
     enum fault fault = tls_server_key(channel, &options.public_key, &options.public_key_length);
     if (fault == FAULT_NONE)
-        fault = gss_server(gss, settings->mechanism, settings->users);
-    if (fault != FAULT_NONE)
-        return fault;
-    uint32_t status = newaksu_host_server(&options, &gss_mechanism, *gss, host);
-    return status == NEWAKSU_OK                      ? FAULT_NONE
-           : status == NEWAKSU_E_INSUFFICIENT_MEMORY ? FAULT_MEMORY
-                                                     : FAULT_SETTINGS;
+        fault = below_server(below, settings->mechanism, settings->users);
+    if (fault == FAULT_NONE && settings->negotiate)
+        fault = users_read(&users, settings->users);
+    if (fault == FAULT_NONE)
+        fault = below_make_server(below, &options, &users, host);
+    users_release(&users);
+    return fault;
 }
 
 static bool is_admitted(const struct settings *settings, const char *user) {
@@ -132,14 +133,12 @@ static int let_in(const struct settings *settings, struct channel *channel, uint
 
 static int delegate(const struct settings *settings, struct channel *channel, uint32_t protocol) {
     struct exchange exchange = {.trace = settings->trace};
-    struct gss *gss = NULL;
+    struct below below = {.negotiates = settings->negotiate};
     newaksu_host *host = NULL;
-    enum fault fault = make_host(settings, channel, &gss, &host);
+    enum fault fault = make_host(settings, channel, &below, &host);
     if (fault != FAULT_NONE) {
-        if (gss) {
-            gss_print_failure(gss);
-            gss_mechanism.release(gss);
-        }
+        below_print_failures(&below);
+        below_release(&below);
         return fault_report(fault, settings->mechanism);
     }
     fault = exchange_run(&exchange, channel, host, false);
@@ -149,10 +148,10 @@ static int delegate(const struct settings *settings, struct channel *channel, ui
     if (fault != FAULT_NONE)
         status = fault_report(fault, "CredSSP");
     else if (exchange.status == NEWAKSU_OK)
-        status = let_in(settings, channel, protocol, host, gss_authenticated(gss));
+        status = let_in(settings, channel, protocol, host, below_authenticated(&below));
     else
         exchange_print_refusal(host);
-    gss_print_failure(gss);
+    below_print_failures(&below);
     newaksu_host_release(host);
     return status;
 }

@@ -176,6 +176,40 @@ static uint32_t unseal(void *context, const uint8_t *blob, size_t length, newaks
     return confidential && !GSS_SUPPLEMENTARY_INFO(major) ? status : NEWAKSU_E_MESSAGE_ALTERED;
 }
 
+/* NTLM seals and counts anew behind each exchange of MICs (MS-SPNG 3.3.5.1), in both directions. */
+static uint32_t begin_anew(struct gss *gss) {
+    static gss_OID_desc reset_crypto = {11, "\x2b\x06\x01\x04\x01\xb7\x7d\x85\x0f\x01\x03"};
+    for (uint32_t receives = 0; receives < 2 && gss->mechanism == &ntlm; receives++) {
+        gss_buffer_desc direction = buffer_of(&receives, sizeof receives);
+        OM_uint32 minor, major =
+            gss_set_sec_context_option(&minor, &gss->context, &reset_crypto, &direction);
+        if (GSS_ERROR(major))
+            return refuse(gss, major, minor);
+    }
+    return NEWAKSU_OK;
+}
+
+static uint32_t sign(void *context, const uint8_t *list, size_t length, newaksu_bytes *mic) {
+    struct gss *gss = context;
+    gss_buffer_desc message = buffer_of(list, length), given = GSS_C_EMPTY_BUFFER;
+    OM_uint32 minor, major =
+        gss_get_mic(&minor, gss->context, GSS_C_QOP_DEFAULT, &message, &given);
+    if (GSS_ERROR(major))
+        return refuse(gss, major, minor);
+    uint32_t status = hand_over(&given, mic);
+    return status == NEWAKSU_OK ? begin_anew(gss) : status;
+}
+
+static uint32_t verify(void *context, const uint8_t *list, size_t length, const uint8_t *mic,
+                       size_t mic_length) {
+    struct gss *gss = context;
+    gss_buffer_desc message = buffer_of(list, length), given = buffer_of(mic, mic_length);
+    OM_uint32 minor, major = gss_verify_mic(&minor, gss->context, &message, &given, NULL);
+    if (GSS_ERROR(major))
+        return refuse(gss, major, minor);
+    return GSS_SUPPLEMENTARY_INFO(major) ? NEWAKSU_E_MESSAGE_ALTERED : begin_anew(gss);
+}
+
 static void release(void *context) {
     struct gss *gss = context;
     OM_uint32 ignored;
@@ -187,7 +221,7 @@ static void release(void *context) {
     free(gss);
 }
 
-const newaksu_mechanism gss_mechanism = {step, peer, seal, unseal, release};
+const newaksu_mechanism gss_mechanism = {step, peer, seal, unseal, release, sign, verify};
 
 static struct gss *make(const char *mechanism) {
     struct gss *gss = calloc(1, sizeof *gss);

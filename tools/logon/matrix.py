@@ -1,9 +1,9 @@
 """The logons of a run, and what each side must say of each."""
 import re
 
-from meeting import (DOMAIN, NAME, OTHER_PASSWORD, OTHER_USER, PASSWORD, USER, Table, cutting, garbling, rewriting, says,
-                     spoiling)
-from tsrequest import AUTH_INFO, NEGO_TOKENS, PUB_KEY_AUTH
+from meeting import (DOMAIN, NAME, OTHER_PASSWORD, OTHER_USER, PASSWORD, USER, Table, both_of, cutting, editing, garbling, rewriting,
+                     says, spoiling)
+from tsrequest import ANSWERED, AUTH_INFO, KERBEROS, MIC, NEGO_TOKENS, OFFERED, PUB_KEY_AUTH, without
 
 # what our ends say
 IDENTITY = r"identity DOM\\ann"
@@ -81,6 +81,44 @@ def by_kerberos(table):
         table.ours_at_freerdp("Kerberos, by the SPNEGO of GSSAPI", says(0, version(6), DELEGATED),
                               says(None, r"Accepted mechanism: Kerberos", table.freerdp.server_went_on), ["--mechanism", "spnego"],
                               ["/sec:nla", f"/keytab:{table.realm.keytab}"], **more)
+
+
+def negotiated(table):
+    """By our SPNEGO over NTLM and Kerberos of the system."""
+    add, users = table.ours_at_ours, ["--users", table.work / "users"]
+    realm = {"user": table.realm.user, "environment": table.realm.environment()}
+    in_realm = rf"identity {re.escape(table.realm.user)}"
+
+    def ours(mechanism):
+        return ["--negotiate", "--mechanism", mechanism]
+    add("our SPNEGO: NTLM alone", says(0, version(6), DELEGATED), says(0, version(6), r"authenticated DOM\\ann", IDENTITY), ours("ntlm"),
+        [*ours("ntlm"), *users])
+    for number in (5, 2):
+        words = ["--version", str(number), *BELOW_5]
+        add(f"our SPNEGO: both have version {number}", says(0, version(number), DELEGATED), says(0, version(number), IDENTITY),
+            [*ours("ntlm"), *words], [*ours("ntlm"), *users, *words])
+    add("our SPNEGO: a wrong password", says(1, TOLD), says(1, refused("LogonDenied")), ours("ntlm"), [*ours("ntlm"), *users],
+        password="wrong")
+    add("our SPNEGO: Kerberos alone", says(0, DELEGATED), says(0, in_realm), ours("kerberos"), [*ours("kerberos"), *users], **realm)
+    add("our SPNEGO: both have both, and take Kerberos", says(0, DELEGATED), says(0, in_realm), ours("both"), [*ours("both"), *users],
+        **realm)
+    add("NTLM without SPNEGO at our SPNEGO", says(0, DELEGATED), says(0, IDENTITY), ["--mechanism", "ntlm"], [*ours("ntlm"), *users])
+    for mechanism in ("kerberos", "both"):
+        add(f"our SPNEGO at that of GSSAPI: {mechanism}", says(0, DELEGATED), says(0, in_realm), ours(mechanism),
+            ["--mechanism", "spnego"], **realm)
+        add(f"the SPNEGO of GSSAPI at ours: {mechanism}", says(0, DELEGATED), says(0, in_realm), ["--mechanism", "spnego"],
+            [*ours(mechanism), *users], **realm)
+
+
+def negotiated_relayed(table):
+    """The same with somebody in between, who changes the list of mechanisms, or takes out a MIC."""
+    add, users = table.ours_at_ours, ["--users", table.work / "users"]
+    words = ["--negotiate", "--mechanism", "ntlm"]
+    add("our SPNEGO: Kerberos is put in front of the client's list", says(3, CLOSED), says(1, refused("MessageAltered")), words,
+        [*words, *users], between=table.passing(editing("client", 1, OFFERED, lambda oids: KERBEROS + oids)), credentials_left=False)
+    add("our SPNEGO: and the client's MIC is taken out", says(3, CLOSED), says(1, refused("InvalidToken")), words, [*words, *users],
+        between=table.passing(both_of(editing("client", 1, OFFERED, lambda oids: KERBEROS + oids),
+                                      editing("client", 2, ANSWERED, without(MIC)))), credentials_left=False)
 
 
 def freerdp_clients(table):
@@ -177,9 +215,9 @@ def freerdp_servers_relayed(table):
 
 
 def logons(ours, freerdp, realm, work):
-    (work / "users").write_text(f"{DOMAIN}:{USER}:{PASSWORD}\n{DOMAIN}:{OTHER_USER}:{OTHER_PASSWORD}\n", encoding="utf8")
+    (work / "users").write_text(f"{DOMAIN}:{USER}:{PASSWORD}\n{DOMAIN}:{OTHER_USER}:{OTHER_PASSWORD}\n{realm.user}\n", encoding="utf8")
     table = Table(ours, freerdp, realm, work)
-    for some in (both_ours, both_ours_relayed, by_kerberos, freerdp_clients, freerdp_clients_relayed, freerdp_servers,
+    for some in (both_ours, both_ours_relayed, by_kerberos, negotiated, negotiated_relayed, freerdp_clients, freerdp_clients_relayed, freerdp_servers,
                  freerdp_servers_relayed):
         some(table)
     return table.logons

@@ -163,3 +163,12 @@ def spoiling(whose, which):
 def garbling(whose, which, number):
     """One bit is changed in a field of one message."""
     return lambda sender, count, request: tsrequest.garbled(request, number) if (sender, count) == (whose, which) else request
+
+
+def editing(whose, which, path, edit):
+    """What is at a path of one message is changed, with all lengths around it."""
+    return lambda sender, count, request: tsrequest.within(request, path, edit) if (sender, count) == (whose, which) else request
+
+
+def both_of(first, second):
+    return lambda sender, count, request: second(sender, count, first(sender, count, request))

@@ -59,3 +59,40 @@ def garbled(request, field):
         return None
     _, end = found[field]
     return request[:end - 1] + bytes([request[end - 1] ^ 1]) + request[end:]
+
+
+# ---- fields rebuilt, whose lengths may change
+
+# where the token of SPNEGO is, by the tags around it, and where in it are an offer's list and an answer's fields
+TOKEN = (0x30, 0xA1, 0x30, 0x30, 0xA0, 0x04)
+OFFERED = (*TOKEN, 0x60, 0xA0, 0x30, 0xA0, 0x30)
+ANSWERED = (*TOKEN, 0xA1, 0x30)
+KERBEROS = bytes.fromhex("06092a864886f712010202")
+MIC = 0xA3
+
+
+def element(tag, content):
+    length = len(content)
+    count = (length.bit_length() + 7) // 8
+    short = bytes([length]) if length < 0x80 else bytes([0x80 | count]) + length.to_bytes(count, "big")
+    return bytes([tag]) + short + content
+
+
+def parts(data):
+    """Each element with its tag and content."""
+    at = 0
+    while at < len(data):
+        tag, begin, at = header(data, at)
+        yield tag, data[begin:at]
+
+
+def within(data, path, edit):
+    """The elements, with the content at this path of tags edited, where there is such a path."""
+    if not path:
+        return edit(data)
+    return b"".join(element(tag, within(content, path[1:], edit) if tag == path[0] else content) for tag, content in parts(data))
+
+
+def without(tag):
+    """An edit that leaves out the elements of this tag."""
+    return lambda data: b"".join(element(found, content) for found, content in parts(data) if found != tag)

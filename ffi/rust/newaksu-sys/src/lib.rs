@@ -543,11 +543,8 @@ extern "C" {
         key_length: usize,
     ) -> u32;
     /// What the caller knows of the negotiation of an end that has made no step.
-    pub fn newaksu_course_new(
-        course: *mut newaksu_handle,
-        mechanisms: u32,
-        by_address: u32,
-    ) -> u32;
+    pub fn newaksu_course_new(course: *mut newaksu_handle, mechanisms: u32, by_address: u32)
+        -> u32;
     /// Which mechanism makes a client's first step.
     pub fn newaksu_course_first(course: *mut newaksu_handle, mechanism: *mut u32) -> u32;
     /// Which mechanism steps with the token of an offer.
@@ -580,11 +577,8 @@ extern "C" {
         written: *mut usize,
     ) -> u32;
     /// The offer as a server is handed it.
-    pub fn newaksu_init_hand(
-        init: *mut newaksu_handle,
-        step: *const u8,
-        step_length: usize,
-    ) -> u32;
+    pub fn newaksu_init_hand(init: *mut newaksu_handle, step: *const u8, step_length: usize)
+        -> u32;
     /// A later token as an end is handed it.
     pub fn newaksu_targ_hand(
         targ: *mut newaksu_handle,

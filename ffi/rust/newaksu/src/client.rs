@@ -1,5 +1,6 @@
 //! The client (MS-CSSP 3.1.5.1).
 
+use crate::below::One;
 use crate::end::{Acts, End, Made, State};
 use crate::error::{Error, ProcessError};
 use crate::handle::Handle;
@@ -82,6 +83,16 @@ pub enum ClientTurn {
     Final(Vec<u8>),
 }
 
+impl From<Made> for ClientTurn {
+    fn from(made: Made) -> ClientTurn {
+        match made {
+            Made::Final(message) => ClientTurn::Final(message),
+            Made::Reply(message) => ClientTurn::Reply(message),
+            Made::Finished => ClientTurn::Final(Vec::new()),
+        }
+    }
+}
+
 /// A client over a mechanism. It delegates its credentials once at most, and only to a server that
 /// proved over that mechanism that it speaks over the channel of the same public key.
 pub struct Client<M> {
@@ -94,39 +105,8 @@ impl<M: Mechanism> Client<M> {
     /// of those of the settings; with `UNKNOWN_CREDENTIALS` where the user's name mixes the forms;
     /// with `INTERNAL_ERROR` where there was no randomness.
     pub fn new(settings: &ClientSettings<'_>, mechanism: M) -> Result<Client<M>, Error> {
-        let options = sys::newaksu_client_options {
-            mechanism: sys::NEWAKSU_HOST,
-            version: settings.version,
-            least_version: settings.least_version,
-            delegation: match settings.delegation {
-                Delegation::WithCredentials => sys::NEWAKSU_WITH_CREDENTIALS,
-                Delegation::CredentialLess => sys::NEWAKSU_CREDENTIAL_LESS,
-            },
-        };
-        let nonce = match settings.nonce {
-            Some(nonce) => nonce,
-            None => drawn()?,
-        };
-        // SAFETY: the handle, the options and the slices are valid; a slice's pointer is never
-        // null.
-        let handle = Handle::made(|at| unsafe {
-            sys::newaksu_client_new(
-                at,
-                &options,
-                settings.public_key.as_ptr(),
-                settings.public_key.len(),
-                [].as_ptr(),
-                0,
-                nonce.as_ptr(),
-                nonce.len(),
-                settings.user.as_ptr(),
-                settings.user.len(),
-                settings.password.as_ptr(),
-                settings.password.len(),
-            )
-        })?;
         Ok(Client {
-            end: End::new(handle, settings.version),
+            end: end_of(settings, sys::NEWAKSU_HOST)?,
             mechanism,
         })
     }
@@ -140,11 +120,11 @@ impl<M: Mechanism> Client<M> {
     /// [`ProcessError::Refused`] the exchange is over, and each further call is refused with
     /// `OUT_OF_SEQUENCE`.
     pub fn process(&mut self, message: &[u8]) -> Result<ClientTurn, ProcessError> {
-        match self.end.turn(&mut self.mechanism, None, message)? {
-            Made::Final(message) => Ok(ClientTurn::Final(message)),
-            Made::Reply(message) => Ok(ClientTurn::Reply(message)),
-            Made::Finished => Ok(ClientTurn::Final(Vec::new())),
-        }
+        let mut below = One {
+            mechanism: &mut self.mechanism,
+            naming: None,
+        };
+        Ok(self.end.turn(&mut below, message)?.into())
     }
 }
 
@@ -176,6 +156,45 @@ impl<M> Client<M> {
     pub fn into_mechanism(self) -> M {
         self.mechanism
     }
+}
+
+/// A client's end over the host's mechanism, or over those of a number, which it negotiates.
+pub(crate) fn end_of(settings: &ClientSettings<'_>, mechanisms: u32) -> Result<End, Error> {
+    let options = sys::newaksu_client_options {
+        mechanism: mechanisms,
+        version: settings.version,
+        least_version: settings.least_version,
+        delegation: match settings.delegation {
+            Delegation::WithCredentials => sys::NEWAKSU_WITH_CREDENTIALS,
+            Delegation::CredentialLess => sys::NEWAKSU_CREDENTIAL_LESS,
+        },
+    };
+    let nonce = match settings.nonce {
+        Some(nonce) => nonce,
+        None => drawn()?,
+    };
+    let make = match mechanisms {
+        sys::NEWAKSU_HOST => sys::newaksu_client_new,
+        _ => sys::newaksu_client_negotiating,
+    };
+    // SAFETY: the handle, the options and the slices are valid; a slice's pointer is never null.
+    let handle = Handle::made(|at| unsafe {
+        make(
+            at,
+            &options,
+            settings.public_key.as_ptr(),
+            settings.public_key.len(),
+            [].as_ptr(),
+            0,
+            nonce.as_ptr(),
+            nonce.len(),
+            settings.user.as_ptr(),
+            settings.user.len(),
+            settings.password.as_ptr(),
+            settings.password.len(),
+        )
+    })?;
+    Ok(End::new(handle, settings.version))
 }
 
 fn drawn() -> Result<[u8; 32], Error> {

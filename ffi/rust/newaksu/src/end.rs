@@ -1,8 +1,8 @@
-//! What both ends do with a message: the mechanism's part of a turn, and the end's.
+//! What both ends do with a message: the part of what is below them, and the end's.
 
+use crate::below::Below;
 use crate::error::{Error, ProcessError, Refusal};
 use crate::handle::{written, Handle};
-use crate::mechanism::{Mechanism, Step};
 use crate::request::TsRequest;
 use crate::secret::Secret;
 use crate::status::{NtStatus, SecurityStatus};
@@ -10,9 +10,6 @@ use newaksu_sys as sys;
 
 /// A sealed blob has at least its signature.
 const SIGNATURE: usize = 16;
-
-/// How a server names the peer whom its mechanism authenticated; a client does not.
-pub(crate) type Naming<M> = Option<fn(&mut M) -> Result<String, SecurityStatus>>;
 
 /// What an end waits for.
 #[derive(Clone, Copy, Debug, PartialEq, Eq)]
@@ -74,6 +71,10 @@ impl End {
         }
     }
 
+    pub(crate) fn is_started(&self) -> bool {
+        self.is_started
+    }
+
     pub(crate) fn handle(&self) -> &Handle {
         &self.handle
     }
@@ -91,10 +92,16 @@ impl End {
         }
     }
 
-    pub(crate) fn acts(&self) -> Acts {
+    /// What the archive says of the last turn.
+    fn told_acts(&self) -> sys::newaksu_acts {
         let mut acts = sys::newaksu_acts::default();
         // SAFETY: as above.
         let _ = unsafe { sys::newaksu_end_acts(self.handle.at(), &mut acts) };
+        acts
+    }
+
+    pub(crate) fn acts(&self) -> Acts {
+        let acts = self.told_acts();
         Acts {
             negotiated: acts.negotiated != 0,
             proved: acts.proved != 0,
@@ -105,58 +112,54 @@ impl End {
     }
 
     /// One message of the peer; none in a client's first turn.
-    pub(crate) fn turn<M: Mechanism>(
+    pub(crate) fn turn<B: Below>(
         &mut self,
-        mechanism: &mut M,
-        naming: Naming<M>,
+        below: &mut B,
         message: &[u8],
     ) -> Result<Made, ProcessError> {
         if self.is_refused {
             return Err(self.refusal(SecurityStatus::OUT_OF_SEQUENCE).into());
         }
-        let is_first = naming.is_none() && !self.is_started && message.is_empty();
+        let is_first = !below.is_server() && !self.is_started && message.is_empty();
         let request = match is_first {
             true => None,
             false => Some(TsRequest::decode(message).map_err(ProcessError::Unread)?),
         };
         self.is_started = true;
         let made = self
-            .findings(mechanism, naming, request.as_ref())
-            .and_then(|findings| self.process(naming.is_some(), message, &findings))
-            .and_then(|()| self.conclude(mechanism));
-        Ok(made.map_err(|status| self.refuse(naming.is_some(), status))?)
+            .findings(below, request.as_ref())
+            .and_then(|findings| self.process(below.is_server(), message, &findings))
+            .and_then(|()| self.conclude(below));
+        Ok(made.map_err(|status| self.refuse(below.is_server(), status))?)
     }
 
     /// Steps and opens what is due in the end's state. What stands in other fields is left sealed.
-    fn findings<M: Mechanism>(
+    fn findings<B: Below>(
         &self,
-        mechanism: &mut M,
-        naming: Naming<M>,
+        below: &mut B,
         request: Option<&TsRequest>,
     ) -> Result<Findings, SecurityStatus> {
         let mut findings = Findings::default();
         // a client that is told an error refuses before anything else, so its mechanism is left
         // alone
-        if naming.is_none() && tells_error(request) {
+        if !below.is_server() && tells_error(request) {
             return Ok(findings);
         }
         let state = self.state();
         let mut has_ended = false;
         if state == State::NegoToken {
-            (findings.envelope, has_ended) = step(mechanism, naming, request);
+            (findings.envelope, has_ended) = below.step(request)?;
         }
         let (proof, credentials) = match request {
             Some(request) => (&request.pub_key_auth, &request.auth_info),
             None => return Ok(findings),
         };
-        findings.opened = match (state, naming.is_some()) {
-            (State::NegoToken, true) if has_ended => {
-                open(mechanism, sys::NEWAKSU_PUB_KEY_AUTH, proof)?
-            }
+        findings.opened = match (state, below.is_server()) {
+            (State::NegoToken, true) if has_ended => open(below, sys::NEWAKSU_PUB_KEY_AUTH, proof)?,
             (State::PubKeyInfo, _) | (State::AuthInfo, false) => {
-                open(mechanism, sys::NEWAKSU_PUB_KEY_AUTH, proof)?
+                open(below, sys::NEWAKSU_PUB_KEY_AUTH, proof)?
             }
-            (State::AuthInfo, true) => open(mechanism, sys::NEWAKSU_AUTH_INFO, credentials)?,
+            (State::AuthInfo, true) => open(below, sys::NEWAKSU_AUTH_INFO, credentials)?,
             (State::NegoToken, _) | (State::Final, _) => None,
         };
         Ok(findings)
@@ -201,21 +204,25 @@ impl End {
     }
 
     /// What the end came to: its message, with the text in it sealed.
-    fn conclude<M: Mechanism>(&self, mechanism: &mut M) -> Result<Made, SecurityStatus> {
+    fn conclude<B: Below>(&self, below: &mut B) -> Result<Made, SecurityStatus> {
+        let acts = self.told_acts();
+        if acts.stepped != 0 {
+            below.go_on(acts.status)?;
+        }
         match self.outcome() {
             sys::NEWAKSU_OUTCOME_FINISHED => Ok(Made::Finished),
-            sys::NEWAKSU_OUTCOME_FINAL => Ok(Made::Final(self.sealed_message(mechanism)?)),
-            _ => Ok(Made::Reply(self.sealed_message(mechanism)?)),
+            sys::NEWAKSU_OUTCOME_FINAL => Ok(Made::Final(self.sealed_message(below)?)),
+            _ => Ok(Made::Reply(self.sealed_message(below)?)),
         }
     }
 
-    fn sealed_message<M: Mechanism>(&self, mechanism: &mut M) -> Result<Vec<u8>, SecurityStatus> {
+    fn sealed_message<B: Below>(&self, below: &mut B) -> Result<Vec<u8>, SecurityStatus> {
         let blob = match self.text_to_seal()? {
             None => Vec::new(),
-            Some(text) => sealed(mechanism, text.as_bytes())?,
+            Some(text) => sealed(below, text.as_bytes())?,
         };
         let message = self.message(&blob).map_err(Error::status)?;
-        message.ok_or(SecurityStatus::INTERNAL_ERROR)
+        below.signed(message.ok_or(SecurityStatus::INTERNAL_ERROR)?)
     }
 
     fn text_to_seal(&self) -> Result<Option<Secret>, SecurityStatus> {
@@ -306,53 +313,15 @@ fn tells_error(request: Option<&TsRequest>) -> bool {
         .is_some_and(|code| code.0 != 0)
 }
 
-/// The envelope of a step, and whether the context has ended.
-fn step<M: Mechanism>(
-    mechanism: &mut M,
-    naming: Naming<M>,
-    request: Option<&TsRequest>,
-) -> (Vec<u8>, bool) {
-    let token = request.and_then(|request| request.nego_tokens.as_deref());
-    let step = mechanism.step(token.unwrap_or_default());
-    let named = match (&step, naming) {
-        (Ok(Step::Done(_)), Some(peer)) => peer(mechanism).and_then(|name| counted(&name)),
-        (_, Some(_)) => Ok(vec![0, 0]),
-        (_, None) => Ok(Vec::new()),
-    };
-    let (mut envelope, step) = match named {
-        Ok(name) => (name, step),
-        Err(status) => (vec![0, 0], Err(status)),
-    };
-    let has_ended = matches!(step, Ok(Step::Done(_)));
-    match step {
-        Ok(Step::Done(token)) => append(&mut envelope, 0, &token),
-        Ok(Step::Continue(token)) => append(&mut envelope, 1, &token),
-        Err(status) => append(&mut envelope, 2, &status.0.to_le_bytes()),
-    }
-    (envelope, has_ended)
-}
-
-fn append(envelope: &mut Vec<u8>, status: u8, rest: &[u8]) {
-    envelope.push(status);
-    envelope.extend_from_slice(rest);
-}
-
-/// A name in UTF-16, behind the count of its bytes.
-fn counted(name: &str) -> Result<Vec<u8>, SecurityStatus> {
-    let bytes: Vec<u8> = name.encode_utf16().flat_map(u16::to_le_bytes).collect();
-    let count = u16::try_from(bytes.len()).map_err(|_| SecurityStatus::INVALID_PARAMETER)?;
-    Ok([&count.to_le_bytes()[..], &bytes].concat())
-}
-
 /// Opens a field. One that is absent, or too short, or does not open, is left to the end, which
 /// says so.
-fn open<M: Mechanism>(
-    mechanism: &mut M,
+fn open<B: Below>(
+    below: &mut B,
     field: u32,
     blob: &Option<Vec<u8>>,
 ) -> Result<Option<(u32, Secret)>, SecurityStatus> {
     match blob {
-        Some(blob) if blob.len() >= SIGNATURE => match mechanism.unseal(blob) {
+        Some(blob) if blob.len() >= SIGNATURE => match below.unseal(blob) {
             Ok(text) => Ok(Some((field, Secret::new(text)))),
             Err(SecurityStatus::INSUFFICIENT_MEMORY) => Err(SecurityStatus::INSUFFICIENT_MEMORY),
             Err(_) => Ok(None),
@@ -361,8 +330,8 @@ fn open<M: Mechanism>(
     }
 }
 
-fn sealed<M: Mechanism>(mechanism: &mut M, text: &[u8]) -> Result<Vec<u8>, SecurityStatus> {
-    let blob = mechanism.seal(text)?;
+fn sealed<B: Below>(below: &mut B, text: &[u8]) -> Result<Vec<u8>, SecurityStatus> {
+    let blob = below.seal(text)?;
     match blob.len() >= SIGNATURE {
         true => Ok(blob),
         false => Err(SecurityStatus::INTERNAL_ERROR),

@@ -3,6 +3,8 @@
 //!
 //! - [`Client`] and [`Server`]: the ends of the exchange. Each takes one message of its peer a
 //!   call, over a [`Mechanism`], as an NTLM or a Kerberos that the program has.
+//! - [`NegotiatingClient`] and [`NegotiatingServer`]: the same over two mechanisms, by the SPNEGO of
+//!   this library (RFC 4178).
 //! - [`TsRequest`], [`TsReader`] and [`requests`]: the messages, whole, in pieces, and one behind
 //!   the other.
 //! - [`TsCredentials`], [`EarlyResult`], [`NegTokenInit`] and [`NegTokenResp`]: what else is read
@@ -36,6 +38,7 @@
 
 #![warn(missing_docs, missing_debug_implementations)]
 
+mod below;
 mod client;
 mod credentials;
 mod early;
@@ -43,6 +46,8 @@ mod end;
 mod error;
 mod handle;
 mod mechanism;
+mod negotiating;
+mod negotiation;
 mod reader;
 mod request;
 mod secret;
@@ -55,7 +60,9 @@ pub use credentials::TsCredentials;
 pub use early::EarlyResult;
 pub use end::{Acts, State};
 pub use error::{Error, ProcessError, Refusal};
-pub use mechanism::{Acceptor, Mechanism, Step};
+pub use mechanism::{Acceptor, Mechanism, Signer, Step};
+pub use negotiating::{NegotiatingClient, NegotiatingServer};
+pub use negotiation::Mechanisms;
 pub use reader::TsReader;
 pub use request::{requests, Requests, TsRequest};
 pub use secret::Secret;

@@ -39,6 +39,17 @@ pub trait Acceptor: Mechanism {
     fn peer(&mut self) -> Result<String, SecurityStatus>;
 }
 
+/// A mechanism that is negotiated (RFC 4178), and so protects the list of mechanisms by MICs.
+pub trait Signer: Mechanism {
+    /// The MIC of a list of mechanisms as this end's next (GSS_GetMIC). Called once the
+    /// authentication has ended on this end.
+    fn sign(&mut self, list: &[u8]) -> Result<Vec<u8>, SecurityStatus>;
+
+    /// Whether this is the peer's next MIC of this list, or `MESSAGE_ALTERED`. What was agreed on
+    /// rests on this answer.
+    fn verify(&mut self, list: &[u8], mic: &[u8]) -> Result<(), SecurityStatus>;
+}
+
 macro_rules! forwarded {
     ($pointer:ty) => {
         impl<M: Mechanism + ?Sized> Mechanism for $pointer {
@@ -52,6 +63,16 @@ macro_rules! forwarded {
 
             fn unseal(&mut self, blob: &[u8]) -> Result<Vec<u8>, SecurityStatus> {
                 (**self).unseal(blob)
+            }
+        }
+
+        impl<M: Signer + ?Sized> Signer for $pointer {
+            fn sign(&mut self, list: &[u8]) -> Result<Vec<u8>, SecurityStatus> {
+                (**self).sign(list)
+            }
+
+            fn verify(&mut self, list: &[u8], mic: &[u8]) -> Result<(), SecurityStatus> {
+                (**self).verify(list, mic)
             }
         }
 

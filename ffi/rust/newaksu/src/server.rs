@@ -1,5 +1,6 @@
 //! The server (MS-CSSP 3.1.5.2).
 
+use crate::below::One;
 use crate::end::{Acts, End, Made, State};
 use crate::error::{Error, ProcessError, Refusal};
 use crate::handle::{written, Handle};
@@ -70,31 +71,8 @@ impl<M: Acceptor> Server<M> {
     /// A server that was told nothing yet. Refused with `INVALID_PARAMETER` where a version is none
     /// of those of the settings; with `UNKNOWN_CREDENTIALS` where a user's name mixes the forms.
     pub fn new(settings: &ServerSettings<'_>, mechanism: M) -> Result<Server<M>, Error> {
-        let options = sys::newaksu_server_options {
-            mechanism: sys::NEWAKSU_HOST,
-            version: settings.version,
-            least_version: settings.least_version,
-            peers: match settings.users {
-                Some(_) => sys::NEWAKSU_PEERS_LISTED,
-                None => sys::NEWAKSU_PEERS_ANYONE,
-            },
-        };
-        let known = identities(settings.users)?;
-        // SAFETY: the handles, the options and the slices are valid; a slice's pointer is never
-        // null.
-        let handle = Handle::made(|at| unsafe {
-            sys::newaksu_server_new(
-                at,
-                known.at(),
-                &options,
-                settings.public_key.as_ptr(),
-                settings.public_key.len(),
-                [].as_ptr(),
-                0,
-            )
-        })?;
         Ok(Server {
-            end: End::new(handle, settings.version),
+            end: end_of(settings, sys::NEWAKSU_HOST)?,
             mechanism,
         })
     }
@@ -103,33 +81,12 @@ impl<M: Acceptor> Server<M> {
     /// send the refusal's message and close the channel. Each further call is refused with
     /// `OUT_OF_SEQUENCE`.
     pub fn process(&mut self, message: &[u8]) -> Result<ServerTurn, ProcessError> {
-        match self.end.turn(&mut self.mechanism, Some(M::peer), message)? {
-            Made::Reply(message) | Made::Final(message) => Ok(ServerTurn::Reply(message)),
-            Made::Finished => match self.identity() {
-                Ok(identity) => Ok(ServerTurn::Finished(identity)),
-                Err(error) => Err(unkept(error).into()),
-            },
-        }
-    }
-
-    fn identity(&self) -> Result<Identity, Error> {
-        let text = |which| self.text(which)?.map(string).transpose();
-        Ok(Identity {
-            name: text(sys::NEWAKSU_IDENTITY_NAME)?.unwrap_or_default(),
-            domain: text(sys::NEWAKSU_IDENTITY_DOMAIN)?,
-            account: text(sys::NEWAKSU_IDENTITY_ACCOUNT)?.unwrap_or_default(),
-            password: Secret::new(
-                self.text(sys::NEWAKSU_IDENTITY_PASSWORD)?
-                    .unwrap_or_default(),
-            ),
-        })
-    }
-
-    fn text(&self, which: u32) -> Result<Option<Vec<u8>>, Error> {
-        // SAFETY: the handle is valid, and the room is for `capacity` bytes.
-        written(|out, capacity, size| unsafe {
-            sys::newaksu_server_identity(self.end.handle().at(), which, out, capacity, size)
-        })
+        let mut below = One {
+            mechanism: &mut self.mechanism,
+            naming: Some(M::peer),
+        };
+        let made = self.end.turn(&mut below, message)?;
+        concluded(&self.end, made)
     }
 }
 
@@ -161,6 +118,59 @@ impl<M> Server<M> {
     pub fn into_mechanism(self) -> M {
         self.mechanism
     }
+}
+
+/// A server's end over the host's mechanism, or over those of a number, of which it negotiates one.
+pub(crate) fn end_of(settings: &ServerSettings<'_>, mechanisms: u32) -> Result<End, Error> {
+    let options = sys::newaksu_server_options {
+        mechanism: mechanisms,
+        version: settings.version,
+        least_version: settings.least_version,
+        peers: match settings.users {
+            Some(_) => sys::NEWAKSU_PEERS_LISTED,
+            None => sys::NEWAKSU_PEERS_ANYONE,
+        },
+    };
+    let known = identities(settings.users)?;
+    let (key, length) = (settings.public_key.as_ptr(), settings.public_key.len());
+    // SAFETY: the handles, the options and the slices are valid; a slice's pointer is never null.
+    let handle = Handle::made(|at| unsafe {
+        match mechanisms {
+            sys::NEWAKSU_HOST => {
+                sys::newaksu_server_new(at, known.at(), &options, key, length, [].as_ptr(), 0)
+            }
+            _ => sys::newaksu_server_negotiating(at, known.at(), &options, key, length),
+        }
+    })?;
+    Ok(End::new(handle, settings.version))
+}
+
+/// What a server's turn came to.
+pub(crate) fn concluded(end: &End, made: Made) -> Result<ServerTurn, ProcessError> {
+    match made {
+        Made::Reply(message) | Made::Final(message) => Ok(ServerTurn::Reply(message)),
+        Made::Finished => match identity(end) {
+            Ok(identity) => Ok(ServerTurn::Finished(identity)),
+            Err(error) => Err(unkept(error).into()),
+        },
+    }
+}
+
+fn identity(end: &End) -> Result<Identity, Error> {
+    let text = |which| text(end, which)?.map(string).transpose();
+    Ok(Identity {
+        name: text(sys::NEWAKSU_IDENTITY_NAME)?.unwrap_or_default(),
+        domain: text(sys::NEWAKSU_IDENTITY_DOMAIN)?,
+        account: text(sys::NEWAKSU_IDENTITY_ACCOUNT)?.unwrap_or_default(),
+        password: Secret::new(self::text(end, sys::NEWAKSU_IDENTITY_PASSWORD)?.unwrap_or_default()),
+    })
+}
+
+fn text(end: &End, which: u32) -> Result<Option<Vec<u8>>, Error> {
+    // SAFETY: the handle is valid, and the room is for `capacity` bytes.
+    written(|out, capacity, size| unsafe {
+        sys::newaksu_server_identity(end.handle().at(), which, out, capacity, size)
+    })
 }
 
 /// The list of users, where there is one.

@@ -17,7 +17,7 @@ pub mod cipher;
 
 use newaksu::{
     Acceptor, Client, ClientSettings, ClientTurn, Mechanism, ProcessError, Refusal, SecurityStatus,
-    Server, ServerSettings, ServerTurn, Step,
+    Server, ServerSettings, ServerTurn, Signer, Step,
 };
 
 const T3_NONCE: [u8; 12] = [0xff; 12];
@@ -39,6 +39,8 @@ pub struct Party {
     pub saw_password: bool,
     pub steps: u32,
     pub unseals_asked: u32,
+    pub signs: u64,
+    pub verifies: u64,
     /// Statuses to refuse with.
     pub refuses_step: Option<SecurityStatus>,
     pub refuses_seal: Option<SecurityStatus>,
@@ -212,6 +214,32 @@ impl Mechanism for Party {
         .ok_or(SecurityStatus::MESSAGE_ALTERED)?;
         self.unseals += 1;
         Ok(text)
+    }
+}
+
+/// MICs are counted apart from seals.
+const MICS: u64 = 1 << 32;
+
+impl Signer for Party {
+    fn sign(&mut self, list: &[u8]) -> Result<Vec<u8>, SecurityStatus> {
+        assert_eq!(self.stage, 2);
+        let number = MICS + self.signs;
+        self.signs += 1;
+        Ok(cipher::seal(
+            &self.key,
+            &self.nonce(self.is_server, number),
+            list,
+            b"",
+        ))
+    }
+
+    fn verify(&mut self, list: &[u8], mic: &[u8]) -> Result<(), SecurityStatus> {
+        assert_eq!(self.stage, 2);
+        let number = MICS + self.verifies;
+        self.verifies += 1;
+        cipher::open(&self.key, &self.nonce(!self.is_server, number), list, mic)
+            .map(|_| ())
+            .ok_or(SecurityStatus::MESSAGE_ALTERED)
     }
 }
 

@@ -1,0 +1,144 @@
+//! The two ends that negotiate (RFC 4178, MS-SPNG).
+
+use crate::below::One;
+use crate::client::{self, ClientSettings, ClientTurn};
+use crate::end::{Acts, End, State};
+use crate::error::{Error, ProcessError};
+use crate::mechanism::{Acceptor, Signer};
+use crate::negotiation::{Mechanisms, Negotiation};
+use crate::request::TsRequest;
+use crate::server::{self, ServerSettings, ServerTurn};
+use newaksu_sys as sys;
+use std::fmt;
+
+/// What NTLM's own first token begins with, where no SPNEGO is around it.
+const BARE_NTLM: &[u8] = b"NTLMSSP\0";
+
+/// A [`crate::Client`] that offers its mechanisms by the proved SPNEGO of this library.
+///
+/// It never falls back by itself: where its Kerberos refuses the first step, the exchange is
+/// refused, and the program may make a client of NTLM alone.
+pub struct NegotiatingClient<N, K> {
+    end: End,
+    below: Negotiation<N, K>,
+}
+
+impl<N: Signer, K: Signer> NegotiatingClient<N, K> {
+    /// A client that has said nothing yet. Refused as [`crate::Client::new`].
+    pub fn new(
+        settings: &ClientSettings<'_>,
+        mechanisms: Mechanisms<N, K>,
+    ) -> Result<NegotiatingClient<N, K>, Error> {
+        Ok(NegotiatingClient {
+            end: client::end_of(settings, mechanisms.number())?,
+            below: Negotiation::new(mechanisms, None)?,
+        })
+    }
+
+    /// Makes the first message.
+    pub fn start(&mut self) -> Result<ClientTurn, ProcessError> {
+        self.process(&[])
+    }
+
+    /// Takes one whole message of the server, and makes the next one. After
+    /// [`ProcessError::Refused`] the exchange is over, and each further call is refused with
+    /// `OUT_OF_SEQUENCE`.
+    pub fn process(&mut self, message: &[u8]) -> Result<ClientTurn, ProcessError> {
+        Ok(self.end.turn(&mut self.below, message)?.into())
+    }
+}
+
+/// A [`crate::Server`] that takes one of its mechanisms by the proved SPNEGO of this library, and
+/// NTLM without SPNEGO too, where it has NTLM.
+pub struct NegotiatingServer<N, K> {
+    end: End,
+    /// What NTLM without SPNEGO is taken by.
+    bare: Option<End>,
+    is_bare: bool,
+    below: Negotiation<N, K>,
+}
+
+impl<N: Signer + Acceptor, K: Signer + Acceptor> NegotiatingServer<N, K> {
+    /// A server that was told nothing yet. Refused as [`crate::Server::new`]. Its settings list the
+    /// users: where anyone is taken, a negotiation that needs a MIC is refused with
+    /// `NO_CREDENTIALS`.
+    pub fn new(
+        settings: &ServerSettings<'_>,
+        mechanisms: Mechanisms<N, K>,
+    ) -> Result<NegotiatingServer<N, K>, Error> {
+        let bare = match mechanisms.ntlm {
+            Some(_) => Some(server::end_of(settings, sys::NEWAKSU_HOST)?),
+            None => None,
+        };
+        Ok(NegotiatingServer {
+            end: server::end_of(settings, mechanisms.number())?,
+            bare,
+            is_bare: false,
+            below: Negotiation::new(mechanisms, Some((Some(N::peer), Some(K::peer))))?,
+        })
+    }
+
+    /// Takes one whole message of the client. After [`ProcessError::Refused`] the exchange is over:
+    /// send the refusal's message and close the channel. Each further call is refused with
+    /// `OUT_OF_SEQUENCE`.
+    pub fn process(&mut self, message: &[u8]) -> Result<ServerTurn, ProcessError> {
+        if !self.end.is_started() && is_bare(message) {
+            if let Some(bare) = self.bare.take() {
+                self.end = bare;
+                self.is_bare = true;
+            }
+        }
+        let made = match (self.is_bare, &mut self.below.mechanisms.ntlm) {
+            (true, Some(ntlm)) => {
+                let naming = Some(N::peer as _);
+                let mut below = One {
+                    mechanism: ntlm,
+                    naming,
+                };
+                self.end.turn(&mut below, message)?
+            }
+            _ => self.end.turn(&mut self.below, message)?,
+        };
+        server::concluded(&self.end, made)
+    }
+}
+
+/// Whether a request has the first token of NTLM itself.
+fn is_bare(message: &[u8]) -> bool {
+    TsRequest::decode(message)
+        .ok()
+        .and_then(|request| request.nego_tokens)
+        .is_some_and(|token| token.starts_with(BARE_NTLM))
+}
+
+macro_rules! asked {
+    ($end:ident, $name:literal) => {
+        impl<N, K> fmt::Debug for $end<N, K> {
+            fn fmt(&self, f: &mut fmt::Formatter<'_>) -> fmt::Result {
+                f.debug_struct($name)
+                    .field("state", &self.state())
+                    .finish_non_exhaustive()
+            }
+        }
+
+        impl<N, K> $end<N, K> {
+            /// What it waits for.
+            pub fn state(&self) -> State {
+                self.end.state()
+            }
+
+            /// What the last turn did with the mechanism.
+            pub fn last_acts(&self) -> Acts {
+                self.end.acts()
+            }
+
+            /// Gives the mechanisms back.
+            pub fn into_mechanisms(self) -> Mechanisms<N, K> {
+                self.below.mechanisms
+            }
+        }
+    };
+}
+
+asked!(NegotiatingClient, "NegotiatingClient");
+asked!(NegotiatingServer, "NegotiatingServer");

@@ -1,0 +1,280 @@
+//! Both ends with the negotiation of the library: which mechanism is taken, MICs both ways, and
+//! what somebody in between changes.
+
+mod common;
+
+use common::{holds_utf16, Party};
+use newaksu::{
+    Acceptor, Client, ClientSettings, ClientTurn, Mechanism, Mechanisms, NegTokenInit,
+    NegTokenResp, NegotiatingClient, NegotiatingServer, Oid, ProcessError, SecurityStatus,
+    ServerSettings, ServerTurn, Signer, Step, TsRequest,
+};
+
+const KEY: &[u8] = b"the channel's key";
+const NAME: &str = "DOM\\ann";
+const PASSWORD: &str = "pass word";
+const KERBEROS: [u8; 9] = [0x2a, 0x86, 0x48, 0x86, 0xf7, 0x12, 0x01, 0x02, 0x02];
+
+type Ours = Mechanisms<Party, Party>;
+
+/// NTLM of three tokens, and Kerberos of two.
+fn party(is_server: bool, two_tokens: bool) -> Party {
+    let mut party = Party::new(is_server, NAME, PASSWORD);
+    party.two_tokens = two_tokens;
+    party.own[0] += 2 * two_tokens as u8;
+    party
+}
+
+fn ntlm(is_server: bool) -> Ours {
+    Mechanisms::ntlm(party(is_server, false))
+}
+
+fn kerberos(is_server: bool) -> Ours {
+    Mechanisms::kerberos(party(is_server, true))
+}
+
+fn both(is_server: bool) -> Ours {
+    Mechanisms::both(party(is_server, false), party(is_server, true))
+}
+
+fn client_of(mechanisms: Ours) -> NegotiatingClient<Party, Party> {
+    let settings = ClientSettings::new(KEY, NAME, PASSWORD);
+    NegotiatingClient::new(&settings, mechanisms).unwrap()
+}
+
+fn server_of(mechanisms: Ours) -> NegotiatingServer<Party, Party> {
+    let mut settings = ServerSettings::new(KEY);
+    settings.users = Some(&[NAME]);
+    NegotiatingServer::new(&settings, mechanisms).unwrap()
+}
+
+/// What came of an exchange.
+struct Ended {
+    messages: usize,
+    leaked: bool,
+    client: Result<(), SecurityStatus>,
+    server: Result<Option<(String, String)>, SecurityStatus>,
+    /// Which mechanisms stepped on the server.
+    stepped: (bool, bool),
+}
+
+fn status(error: ProcessError) -> SecurityStatus {
+    match error {
+        ProcessError::Refused(refusal) => refusal.status,
+        other => panic!("{other}"),
+    }
+}
+
+/// Runs two ends; `change` has each message, counted from 0, on its way.
+fn run(client: Ours, server: Ours, change: impl Fn(usize, &mut TsRequest)) -> Ended {
+    let mut client = client_of(client);
+    let mut server = server_of(server);
+    let mut ended = Ended {
+        messages: 0,
+        leaked: false,
+        client: Ok(()),
+        server: Ok(None),
+        stepped: (false, false),
+    };
+    let mut delivered = Vec::new();
+    loop {
+        let sent = match client.process(&delivered) {
+            Ok(ClientTurn::Reply(message) | ClientTurn::Final(message)) => message,
+            Err(error) => {
+                ended.client = Err(status(error));
+                break;
+            }
+        };
+        let on_its_way = passed(&mut ended, sent, &change);
+        match server.process(&on_its_way) {
+            Ok(ServerTurn::Reply(message)) => delivered = passed(&mut ended, message, &change),
+            Ok(ServerTurn::Finished(identity)) => {
+                let password = identity.password.as_str().to_owned();
+                ended.server = Ok(Some((identity.name, password)));
+                break;
+            }
+            Err(error) => {
+                ended.server = Err(status(error));
+                break;
+            }
+        }
+    }
+    let (ntlm, kerberos) = server.into_mechanisms().into_parts();
+    let has_stepped = |party: Option<Party>| party.is_some_and(|party| party.steps > 0);
+    ended.stepped = (has_stepped(ntlm), has_stepped(kerberos));
+    ended
+}
+
+fn passed(ended: &mut Ended, message: Vec<u8>, change: impl Fn(usize, &mut TsRequest)) -> Vec<u8> {
+    ended.leaked |= holds_utf16(&message, PASSWORD);
+    let mut request = TsRequest::decode(&message).unwrap();
+    change(ended.messages, &mut request);
+    ended.messages += 1;
+    request.encode().unwrap()
+}
+
+fn check_delegated(ended: &Ended, messages: usize) {
+    assert_eq!(ended.client, Ok(()));
+    assert_eq!(
+        ended.server,
+        Ok(Some((NAME.to_owned(), PASSWORD.to_owned())))
+    );
+    assert_eq!(ended.messages, messages);
+    assert!(!ended.leaked);
+}
+
+/// Puts Kerberos in front of the list that the client offers, as its own tokens are not of it.
+fn prepend_kerberos(number: usize, request: &mut TsRequest) {
+    if number == 0 {
+        let mut init = NegTokenInit::decode(request.nego_tokens.as_ref().unwrap()).unwrap();
+        let mut list = vec![Oid(KERBEROS.to_vec())];
+        list.append(&mut init.mech_types.unwrap());
+        init.mech_types = Some(list);
+        request.nego_tokens = Some(init.encode().unwrap());
+    }
+}
+
+fn strip_mic(request: &mut TsRequest) {
+    let Some(token) = &request.nego_tokens else {
+        return;
+    };
+    if let Ok(mut response) = NegTokenResp::decode(token) {
+        response.mech_list_mic = None;
+        request.nego_tokens = Some(response.encode().unwrap());
+    }
+}
+
+#[test]
+fn each_takes_the_mechanism_that_both_have() {
+    let alone = run(ntlm(false), ntlm(true), |_, _| {});
+    check_delegated(&alone, alone.messages);
+    assert_eq!(alone.stepped, (true, false));
+    let kerberos_alone = run(kerberos(false), kerberos(true), |_, _| {});
+    check_delegated(&kerberos_alone, kerberos_alone.messages);
+    assert_eq!(kerberos_alone.stepped, (false, true));
+    let preferred = run(both(false), both(true), |_, _| {});
+    check_delegated(&preferred, kerberos_alone.messages);
+    assert_eq!(preferred.stepped, (false, true));
+}
+
+#[test]
+fn a_second_choice_has_mics_both_ways() {
+    let ended = run(both(false), ntlm(true), |_, _| {});
+    check_delegated(&ended, ended.messages);
+    assert_eq!(ended.stepped, (true, false));
+    for whose in [0, 1] {
+        let ended = run(both(false), ntlm(true), |number, request| {
+            if number % 2 == whose {
+                strip_mic(request)
+            }
+        });
+        assert!(ended.client.is_err() || ended.server.is_err());
+        assert!(!matches!(ended.server, Ok(Some(_))));
+        assert!(!ended.leaked);
+    }
+}
+
+#[test]
+fn a_changed_list_is_refused() {
+    let ended = run(ntlm(false), ntlm(true), prepend_kerberos);
+    assert_eq!(ended.server, Err(SecurityStatus::MESSAGE_ALTERED));
+    assert!(!ended.leaked);
+    let stripped = run(ntlm(false), ntlm(true), |number, request| {
+        prepend_kerberos(number, request);
+        strip_mic(request);
+    });
+    assert!(stripped.server.is_err() || stripped.client.is_err());
+    assert!(!matches!(stripped.server, Ok(Some(_))));
+}
+
+#[test]
+fn without_a_common_mechanism_there_is_no_exchange() {
+    let ended = run(kerberos(false), ntlm(true), |_, _| {});
+    assert_eq!(ended.stepped, (false, false));
+    assert!(!matches!(ended.server, Ok(Some(_))));
+}
+
+/// The tokens of a party behind the signature of NTLM's messages.
+struct WithSignature(Party);
+
+const SIGNATURE: &[u8] = b"NTLMSSP\0";
+
+impl Mechanism for WithSignature {
+    fn step(&mut self, token: &[u8]) -> Result<Step, SecurityStatus> {
+        let inner = match token {
+            [] => token,
+            _ => token
+                .strip_prefix(SIGNATURE)
+                .ok_or(SecurityStatus::INVALID_TOKEN)?,
+        };
+        let signed = |token: Vec<u8>| match token[..] {
+            [] => token,
+            _ => [SIGNATURE, &token].concat(),
+        };
+        Ok(match self.0.step(inner)? {
+            Step::Continue(token) => Step::Continue(signed(token)),
+            Step::Done(token) => Step::Done(signed(token)),
+        })
+    }
+
+    fn seal(&mut self, text: &[u8]) -> Result<Vec<u8>, SecurityStatus> {
+        self.0.seal(text)
+    }
+
+    fn unseal(&mut self, blob: &[u8]) -> Result<Vec<u8>, SecurityStatus> {
+        self.0.unseal(blob)
+    }
+}
+
+impl Signer for WithSignature {
+    fn sign(&mut self, list: &[u8]) -> Result<Vec<u8>, SecurityStatus> {
+        self.0.sign(list)
+    }
+
+    fn verify(&mut self, list: &[u8], mic: &[u8]) -> Result<(), SecurityStatus> {
+        self.0.verify(list, mic)
+    }
+}
+
+impl Acceptor for WithSignature {
+    fn peer(&mut self) -> Result<String, SecurityStatus> {
+        self.0.peer()
+    }
+}
+
+/// A client without SPNEGO, over NTLM, at a server that negotiates.
+#[test]
+fn ntlm_is_taken_without_spnego() {
+    let settings = ClientSettings::new(KEY, NAME, PASSWORD);
+    let mut client = Client::new(&settings, WithSignature(party(false, false))).unwrap();
+    let mut serving = ServerSettings::new(KEY);
+    serving.users = Some(&[NAME]);
+    let mechanisms = Mechanisms::both(WithSignature(party(true, false)), party(true, true));
+    let mut server = NegotiatingServer::new(&serving, mechanisms).unwrap();
+    let mut delivered = Vec::new();
+    for _ in 0..3 {
+        let (ClientTurn::Reply(message) | ClientTurn::Final(message)) =
+            client.process(&delivered).unwrap();
+        match server.process(&message).unwrap() {
+            ServerTurn::Reply(message) => delivered = message,
+            ServerTurn::Finished(identity) => {
+                assert_eq!(identity.name, NAME);
+                assert_eq!(identity.password.as_str(), PASSWORD);
+                return;
+            }
+        }
+    }
+    panic!("the server does not finish");
+}
+
+/// Any other token without SPNEGO is no offer.
+#[test]
+fn other_tokens_without_spnego_are_refused() {
+    let settings = ClientSettings::new(KEY, NAME, PASSWORD);
+    let mut client = Client::new(&settings, party(false, false)).unwrap();
+    let ClientTurn::Reply(first) = client.start().unwrap() else {
+        panic!("a first message is answered");
+    };
+    let refused = server_of(ntlm(true)).process(&first).unwrap_err();
+    assert_eq!(status(refused), SecurityStatus::INVALID_TOKEN);
+}
