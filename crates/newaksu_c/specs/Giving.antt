@@ -1,22 +1,7 @@
 -- What a caller is given, and what its buffer and its count then hold.
-use Rattle.std.specs.Global.{Vec}
 use Rattle.std.specs.Prelude.{◌≡◌, ℕ, ◌++◌, List, drop, length, nat_lt, Bool, true, false, Result}
 use Rattle.std.specs.Prelude.{Ok, Err}
-use Rattle.std.specs.Borrow.{Bor}
 use Rattle.newaksu_c.specs.Status.{ok, buffer_too_small}
-
--- a refusal, or bytes that are borrowed
-abbrev pub told : Result (Bor (List ℕ)) ℕ → Result (List ℕ) ℕ
-told (Ok bytes) = Ok bytes.now
-told (Err status) = Err status
-
-abbrev pub told_list : Result (Bor (List (List ℕ))) ℕ → Result (List (List ℕ)) ℕ
-told_list (Ok list) = Ok list.now
-told_list (Err status) = Err status
-
-abbrev pub items_of : Result (Vec ℕ) ℕ → Result (List ℕ) ℕ
-items_of (Ok bytes) = Ok bytes.items
-items_of (Err status) = Err status
 
 -- by whether the buffer is too small: the bytes at its prefix, or nothing
 abbrev pub Fills : Bool → List ℕ → List ℕ → List ℕ → ℕ → Type 0

@@ -2,6 +2,7 @@ pub mod Courses
 pub mod Credentials
 pub mod Early
 pub mod Giving
+pub mod Told
 pub mod Held
 pub mod Identities
 pub mod Making
@@ -11,6 +12,7 @@ pub mod Negotiating
 pub mod Owned
 pub mod Processing
 pub mod Putting
+pub mod Changing
 pub mod Readers
 pub mod Requests
 pub mod Sending

@@ -47,10 +47,3 @@ abbrev pub SetsOr : {X : Type 0} → Option X → (X → Object) → (X → Resu
     Option Object → ℕ → Type 0
 SetsOr None make change before after status = (status ≡ invalid_handle) × (after ≡ before)
 SetsOr (Some x) make change before after status = Puts before after (made_by make (change x)) status
-
--- a value that is changed in place: so, or not at all, when out of memory or as the change is
--- refused
-abbrev pub Changes : {X : Type 0} → Result X ℕ → X → X → ℕ → Type 0
-Changes (Ok x) before after status = (status ≡ ok → after ≡ x) ×
-    (status ≢ ok → (status ≡ insufficient_memory) × (after ≡ before))
-Changes (Err refusal) before after status = (status ≡ refusal) × (after ≡ before)

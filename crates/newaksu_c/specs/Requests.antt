@@ -8,6 +8,7 @@ use Rattle.sspi_tsreq.specs.Spelling.{fits, spelled}
 use Rattle.sspi_tsreq.specs.declared.request.TsRequest.{TsRequest}
 use Rattle.newaksu_c.specs.declared.object.Object.{Object}
 use Rattle.newaksu_c.specs.declared.object.Object.TheVariants.{Request}
+use Rattle.newaksu_c.specs.Giving.{Answers}
 use Rattle.newaksu_c.specs.Status.{ok, absent, invalid_handle, invalid_parameter}
 use Rattle.newaksu_c.specs.Status.{insufficient_memory, wire_status}
 
@@ -64,6 +65,13 @@ IsEncoded None (Err status) = status ≡ invalid_handle
 IsEncoded (Some r) (Ok bytes) = (fits r ≡ true) × (bytes ≡ spelled r)
 IsEncoded (Some r) (Err status) = (fits r ≡ false → status ≡ 2) ×
     (fits r ≡ true → status ≡ insufficient_memory)
+
+-- an encoding is given, or the status says why it is not
+abbrev pub GivesEncoded : Option TsRequest → List ℕ → List ℕ → ℕ → ℕ → Type 0
+GivesEncoded None before after written status =
+    Answers (Err invalid_handle) before after written status
+GivesEncoded (Some r) before after written status =
+    (text : Result (List ℕ) ℕ) × IsEncoded (Some r) text × Answers text before after written status
 
 -- a number that is there, or the status that says why there is none
 abbrev pub Tells : Result ℕ ℕ → ℕ → ℕ → ℕ → Type 0

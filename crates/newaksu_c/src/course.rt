@@ -6,7 +6,8 @@ ghost use Rattle.newaksu_c.specs.declared.object.Object.TheVariants as objects;
 ghost use Rattle.newaksu_c.specs.Courses.{course_by, course_in, due_number, is_set, list_of};
 ghost use Rattle.newaksu_c.specs.Courses.{mechanism_number, packages_by, status_by};
 ghost use Rattle.newaksu_c.specs.Courses.{TakesAnswer, TakesOffer, TellsContinuation, TellsFirst};
-ghost use Rattle.newaksu_c.specs.Giving.{Answers, items_of};
+ghost use Rattle.newaksu_c.specs.Giving.{Answers};
+ghost use Rattle.newaksu_c.specs.Told.{items_of};
 ghost use Rattle.newaksu_c.specs.Held.{init_in, targ_in};
 ghost use Rattle.newaksu_c.specs.Putting.{Puts, Sets, SetsOr};
 ghost use Rattle.newaksu_c.specs.Tokens.{of_it, IsSpelled};
@@ -57,7 +58,7 @@ fn number_of(mechanism: Protocol) -> u32
 }
 
 fn due_number(due: Option<Due<'_>>) -> u32
-    ensures { result ≡ due_number (option_map {T = Asking}
+    ensures { result ≡ due_number (option_map {U = Asking}
         (λ d. record { mechanism = d.mechanism; token = d.token.now }) due.entry) }
 {
     match due {

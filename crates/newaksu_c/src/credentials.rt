@@ -7,7 +7,8 @@ ghost use Rattle.sspi_tsreq.specs.Creds.{creds_of, text_or_refused, texts_of};
 ghost use Rattle.sspi_tsreq.specs.CredsAnswers.{IsOrMemory};
 ghost use Rattle.newaksu_c.specs.declared.object.Object.TheVariants as objects;
 ghost use Rattle.newaksu_c.specs.Credentials.{text_at, text_in, IsWritten, OrMemory};
-ghost use Rattle.newaksu_c.specs.Giving.{Answers, items_of};
+ghost use Rattle.newaksu_c.specs.Giving.{Answers};
+ghost use Rattle.newaksu_c.specs.Told.{items_of};
 ghost use Rattle.newaksu_c.specs.Held.{credentials_in};
 ghost use Rattle.newaksu_c.specs.Putting.{made, Puts};
 

@@ -1,6 +1,7 @@
 //! How bytes are given to the caller.
 ghost use Rattle.std.specs.Prelude.{◌≡◌};
-ghost use Rattle.newaksu_c.specs.Giving.{Answers, Gives, items_of, told};
+ghost use Rattle.newaksu_c.specs.Giving.{Answers, Gives};
+ghost use Rattle.newaksu_c.specs.Told.{items_of, told};
 
 use crate::status::{BUFFER_TOO_SMALL, OK};
 

@@ -2,7 +2,8 @@
 ghost use Rattle.std.specs.Prelude.{◌≡◌, ◌≢◌, Some, None, IfOk, option_copied, option_map};
 ghost use Rattle.newaksu_c.specs.declared.object.Object.TheVariants as objects;
 ghost use Rattle.newaksu_c.specs.Courses.{good_over, signing_of, with_report, with_step};
-ghost use Rattle.newaksu_c.specs.Giving.{Answers, told};
+ghost use Rattle.newaksu_c.specs.Giving.{Answers};
+ghost use Rattle.newaksu_c.specs.Told.{told};
 ghost use Rattle.newaksu_c.specs.Held.{init_in, targ_in};
 ghost use Rattle.newaksu_c.specs.Putting.{SetsOr};
 ghost use Rattle.newaksu_c.specs.Tokens.{of_it};

@@ -30,6 +30,7 @@ pub mod identities;
 pub mod identity_list;
 pub mod init;
 pub mod init_setting;
+pub mod kept_request;
 mod loose;
 pub mod names;
 pub mod negotiating;

@@ -6,6 +6,7 @@ ghost use Rattle.newaksu_c.specs.Courses.{course_in};
 ghost use Rattle.newaksu_c.specs.Status.{insufficient_memory};
 
 use crate::identity_list::IdentityList;
+use crate::kept_request::KeptRequest;
 use crate::status::INSUFFICIENT_MEMORY;
 use sspi_mech::Ntlm;
 use sspi_names::CredentialsBuffers;
@@ -19,7 +20,7 @@ use std::alloc::Global;
 #[derive(Drop)]
 pub enum Object {
     /// A TSRequest.
-    Request(TsRequest),
+    Request(KeptRequest),
     /// A reader of a TSRequest in pieces.
     Reader(TsReader),
     /// The first token of a client.
@@ -80,7 +81,7 @@ pub(crate) fn request_of(object: &Option<Box<Object>>) -> Option<&TsRequest>
     ensures { option_copied result ≡ request_in (option_map (λ b. b.value) object.now) }
 {
     match &**object.as_ref()? {
-        Object::Request(request) => Some(request),
+        Object::Request(KeptRequest { request, .. }) => Some(request),
         _ => None,
     }
 }

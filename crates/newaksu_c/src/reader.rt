@@ -8,6 +8,7 @@ ghost use Rattle.newaksu_c.specs.Putting.{Puts};
 ghost use Rattle.newaksu_c.specs.Readers.{Finishes, HasFed, HasFinished};
 
 use crate::handle::Handle;
+use crate::kept_request::KeptRequest;
 use crate::object::Object;
 use crate::putting::put;
 use crate::status::{INSUFFICIENT_MEMORY, INVALID_HANDLE, OK, wire_status};
@@ -72,7 +73,7 @@ fn finish(alloc: Global, object: &mut Object) -> u32
     };
     match finished(alloc, reader) {
         Ok(request) => {
-            *object = Object::Request(request);
+            *object = Object::Request(KeptRequest::new(alloc, request));
             OK
         }
         Err(kind) => wire_status(kind),

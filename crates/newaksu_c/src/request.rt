@@ -6,14 +6,17 @@ ghost use Rattle.sspi_tsreq.specs.Grammar.{bare};
 ghost use Rattle.sspi_tsreq.specs.Header.{request_size_at};
 ghost use Rattle.sspi_tsreq.specs.declared.request.TsRequest.{TsRequest as Message};
 ghost use Rattle.newaksu_c.specs.declared.object.Object.TheVariants as objects;
-ghost use Rattle.newaksu_c.specs.Giving.{Answers, told, items_of};
+ghost use Rattle.newaksu_c.specs.Giving.{Answers};
+ghost use Rattle.newaksu_c.specs.Told.{told, items_of};
 ghost use Rattle.newaksu_c.specs.Held.{request_in};
 ghost use Rattle.newaksu_c.specs.Putting.{Puts};
+ghost use Rattle.newaksu_c.specs.Requests.{GivesEncoded};
 ghost use Rattle.newaksu_c.specs.Requests.{code_in, code_of, field_at, field_in, present};
 ghost use Rattle.newaksu_c.specs.Requests.{request_made, version_in, IsEncoded, Sized, Tells};
 
 use crate::giving::{answer, give_all};
 use crate::handle::Handle;
+use crate::kept_request::KeptRequest;
 use crate::object::{Object, request_of};
 use crate::putting::put;
 use crate::status::{ABSENT, INVALID_HANDLE, INVALID_PARAMETER, OK, wire_status};
@@ -45,14 +48,17 @@ pub extern "C" fn newaksu_request_new(alloc: Global, handle: &mut Handle, versio
     put(
         alloc,
         handle,
-        Object::Request(TsRequest {
-            version,
-            nego_tokens: None,
-            auth_info: None,
-            pub_key_auth: None,
-            error_code: None,
-            client_nonce: None,
-        }),
+        Object::Request(KeptRequest::new(
+            alloc,
+            TsRequest {
+                version,
+                nego_tokens: None,
+                auth_info: None,
+                pub_key_auth: None,
+                error_code: None,
+                client_nonce: None,
+            },
+        )),
     )
 }
 
@@ -68,12 +74,17 @@ pub extern "C" fn newaksu_request_decode(alloc: Global, handle: &mut Handle, byt
     }
 }
 
-fn set_request(object: &mut Object, request: TsRequest)
+fn set_request(alloc: Global, object: &mut Object, request: TsRequest)
     ensures { object.new ≡ objects.Request request }
 {
     match object {
-        Object::Request(before) => *before = request,
-        _ => *object = Object::Request(request),
+        Object::Request(
+            KeptRequest {
+                request: before,
+                ..
+            },
+        ) => *before = request,
+        _ => *object = Object::Request(KeptRequest::new(alloc, request)),
     }
 }
 
@@ -82,20 +93,26 @@ fn put_request(alloc: Global, handle: &mut Handle, request: TsRequest) -> u32
     ensures { Puts handle.old.held handle.new.held (Ok (objects.Request request)) result }
 {
     let Some(mut object) = handle.take(alloc) else {
-        return put(alloc, handle, Object::Request(request));
+        return put(
+            alloc,
+            handle,
+            Object::Request(KeptRequest::new(alloc, request)),
+        );
     };
-    set_request(&mut object, request);
+    set_request(alloc, &mut object, request);
     handle.put(object);
     OK
 }
 
-fn encoded(alloc: Global, object: &Option<Box<Object>>) -> Result<Vec<u8>, u32>
-    ensures { IsEncoded (request_in (option_map (λ b. b.value) object.now)) (items_of result) }
+fn encode(object: &mut Object, out: &mut [u8], written: &mut usize) -> u32
+    ensures kept { object.new ≡ object.old }
+    ensures gives { GivesEncoded (request_in (Some object.old)) out.old out.new written.new
+        result }
 {
-    let Some(request) = request_of(object) else {
-        return Err(INVALID_HANDLE);
-    };
-    encoded_message(alloc, request)
+    match object {
+        Object::Request(kept) => kept.encode(out, written),
+        _ => answer(Err(INVALID_HANDLE), out, written),
+    }
 }
 
 pub(crate) fn encoded_message(alloc: Global, request: &TsRequest) -> Result<Vec<u8>, u32>
@@ -107,7 +124,8 @@ pub(crate) fn encoded_message(alloc: Global, request: &TsRequest) -> Result<Vec<
     }
 }
 
-/// The request in its shortest encoding.
+/// The request in its shortest encoding. Its memory is kept for the next one, until the handle is
+/// released.
 #[unsafe(no_mangle)]
 pub extern "C" fn newaksu_request_encode(
     alloc: Global,
@@ -116,14 +134,14 @@ pub extern "C" fn newaksu_request_encode(
     written: &mut usize,
 ) -> u32
     ensures kept { handle.new.held ≡ handle.old.held }
-    ensures gives { (text : Result (List ℕ) ℕ) × IsEncoded (request_in handle.old.held) text ×
-        Answers text out.old out.new written.new
-        result }
+    ensures gives { GivesEncoded (request_in handle.old.held) out.old out.new written.new result }
 {
-    let object = handle.take(alloc);
-    let text = encoded(alloc, &object);
-    handle.keep(object);
-    give_all(text, out, written)
+    let Some(mut object) = handle.take(alloc) else {
+        return answer(Err(INVALID_HANDLE), out, written);
+    };
+    let status = encode(&mut object, out, written);
+    handle.put(object);
+    status
 }
 
 /// The version.

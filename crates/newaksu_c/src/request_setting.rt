@@ -2,11 +2,13 @@
 ghost use Rattle.std.specs.Prelude.{◌≡◌, ◌≢◌, Some, length};
 ghost use Rattle.newaksu_c.specs.declared.object.Object.TheVariants as objects;
 ghost use Rattle.newaksu_c.specs.Held.{request_in};
-ghost use Rattle.newaksu_c.specs.Putting.{Changes, Sets, SetsOr};
+ghost use Rattle.newaksu_c.specs.Putting.{Sets, SetsOr};
+ghost use Rattle.newaksu_c.specs.Changing.{Changes};
 ghost use Rattle.newaksu_c.specs.Status.{insufficient_memory, invalid_parameter};
 ghost use Rattle.newaksu_c.specs.Requests.{with_field, without_field};
 
 use crate::handle::Handle;
+use crate::kept_request::KeptRequest;
 use crate::object::Object;
 use crate::status::{INSUFFICIENT_MEMORY, INVALID_HANDLE, INVALID_PARAMETER, OK};
 use sspi_tsreq::TsRequest;
@@ -19,7 +21,7 @@ fn set_version(object: &mut Object, version: u32) -> u32
         (Some object.old) (Some object.new) result }
 {
     match object {
-        Object::Request(request) => {
+        Object::Request(KeptRequest { request, .. }) => {
             request.version = version;
             OK
         }
@@ -52,7 +54,7 @@ fn set_code(object: &mut Object, code: u32) -> u32
         (Some object.old) (Some object.new) result }
 {
     match object {
-        Object::Request(request) => {
+        Object::Request(KeptRequest { request, .. }) => {
             request.error_code = Some(NStatusCode(code));
             OK
         }
@@ -122,7 +124,7 @@ fn set_field_in(alloc: Global, object: &mut Object, field: u32, bytes: &[u8]) ->
         (Some object.old) (Some object.new) result }
 {
     match object {
-        Object::Request(request) => set_field(alloc, request, field, bytes),
+        Object::Request(KeptRequest { request, .. }) => set_field(alloc, request, field, bytes),
         _ => INVALID_HANDLE,
     }
 }
@@ -166,7 +168,7 @@ fn clear_field_in(object: &mut Object, field: u32) -> u32
         (Some object.old) (Some object.new) result }
 {
     match object {
-        Object::Request(request) => clear_field(request, field),
+        Object::Request(KeptRequest { request, .. }) => clear_field(request, field),
         _ => INVALID_HANDLE,
     }
 }

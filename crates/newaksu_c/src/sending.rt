@@ -2,7 +2,8 @@
 ghost use Rattle.std.specs.Prelude.{◌≡◌, ℕ, List, Ok, Err, option_map, Result};
 ghost use Rattle.sspi_tsreq.specs.declared.request.TsRequest.{TsRequest as Message};
 ghost use Rattle.sspi_outside.specs.Hosting.{message_of, sent};
-ghost use Rattle.newaksu_c.specs.Giving.{Answers, items_of, told};
+ghost use Rattle.newaksu_c.specs.Giving.{Answers};
+ghost use Rattle.newaksu_c.specs.Told.{items_of, told};
 ghost use Rattle.newaksu_c.specs.Held.{acts_in, is_hosted, last_in};
 ghost use Rattle.newaksu_c.specs.Requests.{present};
 ghost use Rattle.newaksu_c.specs.SendingText.{IsMessageText};

@@ -3,7 +3,8 @@ ghost use Rattle.std.specs.Prelude.{◌≡◌, ◌≢◌, ℕ, Some};
 ghost use Rattle.sspi_tokens.specs.Oids.{kind_of};
 ghost use Rattle.newaksu_c.specs.declared.object.Object.TheVariants as objects;
 ghost use Rattle.newaksu_c.specs.Held.{targ_in};
-ghost use Rattle.newaksu_c.specs.Putting.{Changes, SetsOr};
+ghost use Rattle.newaksu_c.specs.Putting.{SetsOr};
+ghost use Rattle.newaksu_c.specs.Changing.{Changes};
 ghost use Rattle.newaksu_c.specs.Status.{insufficient_memory};
 ghost use Rattle.newaksu_c.specs.Tokens.{mech_number, with_state, with_targ_field};
 

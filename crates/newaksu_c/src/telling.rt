@@ -1,6 +1,7 @@
 //! What an end waits for, and what its last call did and came to.
 ghost use Rattle.std.specs.Prelude.{◌≡◌, Err, Ok, option_map, IfErr, IfOk};
-ghost use Rattle.newaksu_c.specs.Giving.{Answers, told};
+ghost use Rattle.newaksu_c.specs.Giving.{Answers};
+ghost use Rattle.newaksu_c.specs.Told.{told};
 ghost use Rattle.newaksu_c.specs.Held.{acts_in, last_in, state_in};
 ghost use Rattle.newaksu_c.specs.Requests.{Tells};
 ghost use Rattle.newaksu_c.specs.Telling.{acts_told, error_of, flag, identity_in, identity_part};
