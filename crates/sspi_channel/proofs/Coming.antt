@@ -8,7 +8,7 @@ use Rattle.sspi_scenario.specs.declared.scenario.ScenarioError.TheVariants as te
 use Rattle.sspi_scenario.specs.Scenario.{Parses}
 use Rattle.sspi_channel.specs.declared.answer.ChannelError.{ChannelError}
 use Rattle.sspi_channel.specs.Answers.{ComesOf, of_none, without_memory}
-use Rattle.sspi_channel.specs.Delegating.{text_error}
+use Rattle.sspi_channel.specs.Sides.{text_error}
 
 pub refused_comes : {X : Type 0} (purpose : Purpose) (text : List ℕ) (Runs : Scenario → Channel → Channel → Result X ChannelError → Type 0)
     (now : Channel) (error : ScenarioError) → Parses purpose text (Err error) →

@@ -17,8 +17,6 @@ use Rattle.sspi_live.specs.Fresh.{ConnectedFresh, ServedFresh}
 use Rattle.sspi_live.specs.Pasts.{ConnectPast}
 use Rattle.sspi_live.specs.Sides.{AreOf, BeginsItself}
 use Rattle.sspi_scenario.specs.declared.scenario.Scenario.{Scenario}
-use Rattle.sspi_scenario.specs.declared.scenario.ScenarioError.{ScenarioError}
-use Rattle.sspi_scenario.specs.declared.scenario.ScenarioError.TheVariants as texts
 use Rattle.sspi_program.specs.Ends.{PlainContext, IsClientOf, IsServerOf, kdc_in}
 use Rattle.sspi_program.specs.Exchange.{around, kdc_faults, plain_meaning, told_replies}
 use Rattle.sspi_channel.specs.declared.answer.ChannelError.{ChannelError}
@@ -34,27 +32,6 @@ counted_channel left written source sink =
       read_faults = source.faults;
       written = written sink.inner;
       write_faults = sink.faults;
-    }
-
--- the same where the other side of the channel shows this
-abbrev pub sink_channel : {W : Type 0} → (W → Option (List ℕ)) → Option (List ℕ) → ℕ → Counted W →
-    Channel
-sink_channel written left read_faults sink =
-    record {
-      left = left;
-      read_faults = read_faults;
-      written = written sink.inner;
-      write_faults = sink.faults;
-    }
-
-abbrev pub source_channel : {S : Type 0} → (S → Option (List ℕ)) → Option (List ℕ) → ℕ → Counted S →
-    Channel
-source_channel left written write_faults source =
-    record {
-      left = left source.inner;
-      read_faults = source.faults;
-      written = written;
-      write_faults = write_faults;
     }
 
 -- ---- the ends
@@ -112,10 +89,6 @@ by_fault (Err error) write_failed = Err (error_by error write_failed)
 -- the count of failed writes moved
 abbrev pub write_failed : Channel → Channel → Bool
 write_failed before after = not (after.write_faults == before.write_faults)
-
-abbrev pub text_error : ScenarioError → ChannelError
-text_error (texts.Line line) = channel.Scenario line
-text_error texts.InsufficientMemory = channel.InsufficientMemory
 
 -- what came of the delegation; or there was no memory for the end, and the channel is as it was
 pub data Delegates {X : Type 0} (Ran : Channel → Channel → Result X DelegateError →

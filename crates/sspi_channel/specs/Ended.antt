@@ -25,11 +25,6 @@ pub data Says (line : List ℕ) (before after : Option (List ℕ)) : Type 0 wher
       Says line before after
   without_memory : after ≡ before → Says line before after
 
--- the same of what making a line came to
-abbrev pub SaysMade : {E : Type 0} → Result (Vec ℕ) E → Option (List ℕ) → Option (List ℕ) → Type 0
-SaysMade (Ok line) before after = Says line.items before after
-SaysMade (Err error) before after = after ≡ before
-
 -- the end came to an answer, which the line and the status say
 abbrev pub EndsAs : End → List ℕ → Channel → Channel → Option (List ℕ) → Option (List ℕ) → ℕ →
     Type 0

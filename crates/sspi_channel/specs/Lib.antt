@@ -1,7 +1,9 @@
 pub mod Asked
 pub mod Delegating
+pub mod Sides
 pub mod Early
 pub mod Answers
 pub mod Statuses
 pub mod Texts
 pub mod Ended
+pub mod Saying

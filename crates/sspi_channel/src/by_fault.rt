@@ -2,6 +2,7 @@
 
 ghost use Rattle.std.specs.Prelude.{◌≡◌};
 ghost use Rattle.sspi_channel.specs.Delegating;
+ghost use Rattle.sspi_channel.specs.Sides;
 ghost use Rattle.sspi_channel.specs.Delegating.{error_by};
 
 use crate::answer::ChannelError;
@@ -39,7 +40,7 @@ fn error_by(error: DelegateError, write_failed: bool) -> ChannelError
 
 /// Why a text gave no scenario.
 pub(crate) fn text_error(error: ScenarioError) -> ChannelError
-    ensures { result ≡ Delegating.text_error error }
+    ensures { result ≡ Sides.text_error error }
 {
     match error {
         ScenarioError::Line(line) => ChannelError::Scenario(line),

@@ -3,7 +3,7 @@
 ghost use Rattle.std.specs.Prelude.{◌≡◌, ℕ, List, Option};
 ghost use Rattle.sspi_channel.specs.Answers.{ConnectsAs, ConnectsText, HearsBehind, connected_with};
 ghost use Rattle.sspi_channel.specs.Delegating.{Delegates, IsConnected, counted_channel};
-ghost use Rattle.sspi_channel.specs.Delegating.{source_channel};
+ghost use Rattle.sspi_channel.specs.Sides.{source_channel};
 
 use crate::answer::{ChannelError, Connected};
 use crate::by_fault::{by_fault, text_error, without};

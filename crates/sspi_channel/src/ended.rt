@@ -1,6 +1,7 @@
 //! Runs one end of a scenario over a channel, and tells what it came to.
 
-ghost use Rattle.sspi_channel.specs.Ended.{EndsAs, EndsFile, Says, SaysMade, file_error};
+ghost use Rattle.sspi_channel.specs.Ended.{EndsAs, EndsFile, Says, file_error};
+ghost use Rattle.sspi_channel.specs.Saying.{SaysMade};
 ghost use Rattle.sspi_channel.specs.Delegating.{counted_channel};
 ghost use Rattle.sspi_channel.specs.Texts.{error_text};
 ghost use Rattle.sspi_channel.specs.Statuses.{error_status};

@@ -2,7 +2,8 @@
 
 ghost use Rattle.std.specs.Prelude.{◌≡◌, ℕ, List, Option};
 ghost use Rattle.sspi_channel.specs.Answers.{ServesAs, ServesText, TellsBehind, served_with};
-ghost use Rattle.sspi_channel.specs.Delegating.{Delegates, IsServed, counted_channel, sink_channel};
+ghost use Rattle.sspi_channel.specs.Delegating.{Delegates, IsServed, counted_channel};
+ghost use Rattle.sspi_channel.specs.Sides.{sink_channel};
 
 use crate::answer::{ChannelError, Served};
 use crate::by_fault::{by_fault, text_error, without};
