@@ -110,6 +110,21 @@ def negotiated(table):
             [*ours(mechanism), *users], **realm)
 
 
+def negotiated_with_freerdp(table):
+    """FreeRDP 2 sends NTLM without SPNEGO, and its server knows no other; FreeRDP 3 offers Kerberos before NTLM."""
+    words = ["--negotiate", "--mechanism", "ntlm"]
+    serving = [*words, "--users", table.work / "users"]
+    went_on = says(None, table.freerdp.client_went_on)
+    table.freerdp_at_ours("our SPNEGO", went_on, says(0, version(6), r"authenticated DOM\\ann", IDENTITY), serving)
+    table.freerdp_at_ours("our SPNEGO: a wrong password", says(None, r"SPNEGO failed with NTSTATUS: [^\n]*0xC007030C\]"),
+                          says(1, refused("LogonDenied")), serving, password="wrong")
+    if not table.freerdp.second:
+        table.ours_at_freerdp("our SPNEGO", says(0, version(6), DELEGATED), says(None, table.freerdp.server_went_on), words)
+        table.freerdp_at_ours("our SPNEGO: its MIC is taken out", says(None, r"SPNEGO failed with NTSTATUS[^\n]*"),
+                              says(1, refused("InvalidToken")), serving,
+                              between=table.passing(editing("client", 3, ANSWERED, without(MIC))), credentials_left=False)
+
+
 def negotiated_relayed(table):
     """The same with somebody in between, who changes the list of mechanisms, or takes out a MIC."""
     add, users = table.ours_at_ours, ["--users", table.work / "users"]
@@ -217,7 +232,7 @@ def freerdp_servers_relayed(table):
 def logons(ours, freerdp, realm, work):
     (work / "users").write_text(f"{DOMAIN}:{USER}:{PASSWORD}\n{DOMAIN}:{OTHER_USER}:{OTHER_PASSWORD}\n{realm.user}\n", encoding="utf8")
     table = Table(ours, freerdp, realm, work)
-    for some in (both_ours, both_ours_relayed, by_kerberos, negotiated, negotiated_relayed, freerdp_clients, freerdp_clients_relayed, freerdp_servers,
+    for some in (both_ours, both_ours_relayed, by_kerberos, negotiated, negotiated_relayed, negotiated_with_freerdp, freerdp_clients, freerdp_clients_relayed, freerdp_servers,
                  freerdp_servers_relayed):
         some(table)
     return table.logons
