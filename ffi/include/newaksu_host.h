@@ -169,7 +169,14 @@ typedef struct newaksu_mechanisms {
  * first token then begins with the octets "NTLMSSP" and a zero.
  *
  * A server that takes anyone whom its mechanism names finds no user for a MIC, and refuses where one
- * is needed, as NEWAKSU_E_NO_CREDENTIALS: list the users. */
+ * is needed, as NEWAKSU_E_NO_CREDENTIALS: list the users.
+ *
+ * Kerberos as the first choice of both ends is refused, as NEWAKSU_E_INVALID_TOKEN and before any
+ * credentials leave: the server needs no MIC there and sends none, while a client always wants one.
+ * Put Kerberos alone, or the system's SPNEGO, below such ends (newaksu_host_client).
+ *
+ * An NTLM whose `sign` or `verify` was called begins its cipher and its counts anew, in both
+ * directions (MS-SPNG 3.3.5.1). */
 uint32_t newaksu_host_negotiating_client(const newaksu_client_settings *options,
                                          const newaksu_mechanisms *mechanisms, newaksu_host **host);
 uint32_t newaksu_host_negotiating_server(const newaksu_server_settings *options,

@@ -18,6 +18,10 @@ const BARE_NTLM: &[u8] = b"NTLMSSP\0";
 ///
 /// It never falls back by itself: where its Kerberos refuses the first step, the exchange is
 /// refused, and the program may make a client of NTLM alone.
+///
+/// Kerberos as the first choice of both ends is refused before any credentials leave: the server
+/// needs no MIC there and sends none, while a client always wants one. Put Kerberos alone, or the
+/// system's SPNEGO, below a [`crate::Client`].
 pub struct NegotiatingClient<N, K> {
     end: End,
     below: Negotiation<N, K>,

@@ -123,12 +123,12 @@ fn check_delegated(ended: &Ended, messages: usize) {
     assert!(!ended.leaked);
 }
 
-/// Puts Kerberos in front of the list that the client offers, as its own tokens are not of it.
-fn prepend_kerberos(number: usize, request: &mut TsRequest) {
+/// Puts Kerberos behind the list that the client offers.
+fn append_kerberos(number: usize, request: &mut TsRequest) {
     if number == 0 {
         let mut init = NegTokenInit::decode(request.nego_tokens.as_ref().unwrap()).unwrap();
-        let mut list = vec![Oid(KERBEROS.to_vec())];
-        list.append(&mut init.mech_types.unwrap());
+        let mut list = init.mech_types.unwrap();
+        list.push(Oid(KERBEROS.to_vec()));
         init.mech_types = Some(list);
         request.nego_tokens = Some(init.encode().unwrap());
     }
@@ -144,23 +144,30 @@ fn strip_mic(request: &mut TsRequest) {
     }
 }
 
+/// Four messages of the client and three of the server: each has a MIC.
 #[test]
-fn each_takes_the_mechanism_that_both_have() {
-    let alone = run(ntlm(false), ntlm(true), |_, _| {});
-    check_delegated(&alone, alone.messages);
-    assert_eq!(alone.stepped, (true, false));
-    let kerberos_alone = run(kerberos(false), kerberos(true), |_, _| {});
-    check_delegated(&kerberos_alone, kerberos_alone.messages);
-    assert_eq!(kerberos_alone.stepped, (false, true));
-    let preferred = run(both(false), both(true), |_, _| {});
-    check_delegated(&preferred, kerberos_alone.messages);
-    assert_eq!(preferred.stepped, (false, true));
+fn ntlm_has_mics_both_ways() {
+    let ended = run(ntlm(false), ntlm(true), |_, _| {});
+    check_delegated(&ended, 7);
+    assert_eq!(ended.stepped, (true, false));
+}
+
+/// A server needs no MIC of a Kerberos that its client likes best, and sends none, while a client
+/// always wants one.
+#[test]
+fn kerberos_as_the_first_choice_is_refused() {
+    for mechanisms in [kerberos, both] {
+        let ended = run(mechanisms(false), mechanisms(true), |_, _| {});
+        assert_eq!(ended.stepped, (false, true));
+        assert_eq!(ended.server, Err(SecurityStatus::INVALID_TOKEN));
+        assert!(!ended.leaked);
+    }
 }
 
 #[test]
 fn a_second_choice_has_mics_both_ways() {
     let ended = run(both(false), ntlm(true), |_, _| {});
-    check_delegated(&ended, ended.messages);
+    check_delegated(&ended, 9);
     assert_eq!(ended.stepped, (true, false));
     for whose in [0, 1] {
         let ended = run(both(false), ntlm(true), |number, request| {
@@ -176,15 +183,16 @@ fn a_second_choice_has_mics_both_ways() {
 
 #[test]
 fn a_changed_list_is_refused() {
-    let ended = run(ntlm(false), ntlm(true), prepend_kerberos);
+    let ended = run(ntlm(false), ntlm(true), append_kerberos);
     assert_eq!(ended.server, Err(SecurityStatus::MESSAGE_ALTERED));
     assert!(!ended.leaked);
     let stripped = run(ntlm(false), ntlm(true), |number, request| {
-        prepend_kerberos(number, request);
+        append_kerberos(number, request);
         strip_mic(request);
     });
-    assert!(stripped.server.is_err() || stripped.client.is_err());
-    assert!(!matches!(stripped.server, Ok(Some(_))));
+    assert_eq!(stripped.client, Err(SecurityStatus::INVALID_TOKEN));
+    assert_eq!(stripped.server, Ok(None));
+    assert!(!stripped.leaked);
 }
 
 #[test]
