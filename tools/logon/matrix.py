@@ -1,8 +1,9 @@
 """The logons of a run, and what each side must say of each."""
 import re
 
+from kerberos import REALM
 from meeting import (DOMAIN, NAME, OTHER_PASSWORD, OTHER_USER, PASSWORD, USER, Table, both_of, cutting, editing, garbling, rewriting,
-                     says, spoiling)
+                     says, spoiling, stripping)
 from tsrequest import ANSWERED, AUTH_INFO, KERBEROS, MIC, NEGO_TOKENS, OFFERED, PUB_KEY_AUTH, without
 
 # what our ends say
@@ -87,7 +88,6 @@ def negotiated(table):
     """By our SPNEGO over NTLM and Kerberos of the system."""
     add, users = table.ours_at_ours, ["--users", table.work / "users"]
     realm = {"user": table.realm.user, "environment": table.realm.environment()}
-    in_realm = rf"identity {re.escape(table.realm.user)}"
 
     def ours(mechanism):
         return ["--negotiate", "--mechanism", mechanism]
@@ -99,15 +99,14 @@ def negotiated(table):
             [*ours("ntlm"), *words], [*ours("ntlm"), *users, *words])
     add("our SPNEGO: a wrong password", says(1, TOLD), says(1, refused("LogonDenied")), ours("ntlm"), [*ours("ntlm"), *users],
         password="wrong")
-    add("our SPNEGO: Kerberos alone", says(0, DELEGATED), says(0, in_realm), ours("kerberos"), [*ours("kerberos"), *users], **realm)
-    add("our SPNEGO: both have both, and take Kerberos", says(0, DELEGATED), says(0, in_realm), ours("both"), [*ours("both"), *users],
-        **realm)
+    # a server needs no MIC of the Kerberos that its client likes best, and a client always wants one
+    add("our SPNEGO: Kerberos is the first choice of both", says(None), says(1, refused("InvalidToken")), ours("both"),
+        [*ours("both"), *users], **realm)
     add("NTLM without SPNEGO at our SPNEGO", says(0, DELEGATED), says(0, IDENTITY), ["--mechanism", "ntlm"], [*ours("ntlm"), *users])
-    for mechanism in ("kerberos", "both"):
-        add(f"our SPNEGO at that of GSSAPI: {mechanism}", says(0, DELEGATED), says(0, in_realm), ours(mechanism),
-            ["--mechanism", "spnego"], **realm)
-        add(f"the SPNEGO of GSSAPI at ours: {mechanism}", says(0, DELEGATED), says(0, in_realm), ["--mechanism", "spnego"],
-            [*ours(mechanism), *users], **realm)
+    # the SPNEGO of MIT krb5 1.21 looks for the MIC in another field than RFC 4178 has
+    if table.freerdp.second:
+        add("our SPNEGO at that of GSSAPI", says(0, DELEGATED), says(0, IDENTITY), ours("ntlm"), ["--mechanism", "spnego", *users])
+        add("the SPNEGO of GSSAPI at ours", says(0, DELEGATED), says(0, IDENTITY), ["--mechanism", "spnego"], [*ours("ntlm"), *users])
 
 
 def negotiated_with_freerdp(table):
@@ -120,20 +119,25 @@ def negotiated_with_freerdp(table):
                           says(1, refused("LogonDenied")), serving, password="wrong")
     if not table.freerdp.second:
         table.ours_at_freerdp("our SPNEGO", says(0, version(6), DELEGATED), says(None, table.freerdp.server_went_on), words)
-        table.freerdp_at_ours("our SPNEGO: its MIC is taken out", says(None, r"SPNEGO failed with NTSTATUS[^\n]*"),
-                              says(1, refused("InvalidToken")), serving,
-                              between=table.passing(editing("client", 3, ANSWERED, without(MIC))), credentials_left=False)
+        both = {"domain": REALM, "kerberos": table.realm.environment()}
+        table.freerdp_at_ours("our SPNEGO: it offers Kerberos before NTLM", went_on, says(0, rf"identity {REALM}\\ann"), serving, **both)
+        table.freerdp_at_ours("our SPNEGO: and its MIC is taken out", says(None, r"ERRCONNECT\w+|SPNEGO failed with NTSTATUS[^\n]*"),
+                              says(None, r"fault: ConnectionClosed[^\n]*|refused: [^\n]*"), serving,
+                              between=table.passing(stripping("client")), credentials_left=False, **both)
 
 
 def negotiated_relayed(table):
     """The same with somebody in between, who changes the list of mechanisms, or takes out a MIC."""
     add, users = table.ours_at_ours, ["--users", table.work / "users"]
     words = ["--negotiate", "--mechanism", "ntlm"]
-    add("our SPNEGO: Kerberos is put in front of the client's list", says(3, CLOSED), says(1, refused("MessageAltered")), words,
-        [*words, *users], between=table.passing(editing("client", 1, OFFERED, lambda oids: KERBEROS + oids)), credentials_left=False)
-    add("our SPNEGO: and the client's MIC is taken out", says(3, CLOSED), says(1, refused("InvalidToken")), words, [*words, *users],
-        between=table.passing(both_of(editing("client", 1, OFFERED, lambda oids: KERBEROS + oids),
-                                      editing("client", 2, ANSWERED, without(MIC)))), credentials_left=False)
+    longer = editing("client", 1, OFFERED, lambda oids: oids + KERBEROS)
+    add("our SPNEGO: a mechanism is put behind the client's list", says(1, TOLD), says(1, refused("MessageAltered")), words,
+        [*words, *users], between=table.passing(longer), credentials_left=False)
+    bare = editing("client", 2, ANSWERED, without(MIC))
+    add("our SPNEGO: the client's MIC is taken out", says(1, refused("InvalidToken")), says(3, CLOSED), words, [*words, *users],
+        between=table.passing(bare), credentials_left=False)
+    add("our SPNEGO: both of these", says(1, refused("InvalidToken")), says(3, CLOSED), words, [*words, *users],
+        between=table.passing(both_of(longer, bare)), credentials_left=False)
 
 
 def freerdp_clients(table):
@@ -230,7 +234,7 @@ def freerdp_servers_relayed(table):
 
 
 def logons(ours, freerdp, realm, work):
-    (work / "users").write_text(f"{DOMAIN}:{USER}:{PASSWORD}\n{DOMAIN}:{OTHER_USER}:{OTHER_PASSWORD}\n{realm.user}\n", encoding="utf8")
+    (work / "users").write_text(f"{DOMAIN}:{USER}:{PASSWORD}\n{DOMAIN}:{OTHER_USER}:{OTHER_PASSWORD}\n{realm.user}\n{REALM}:{USER}:{PASSWORD}\n", encoding="utf8")
     table = Table(ours, freerdp, realm, work)
     for some in (both_ours, both_ours_relayed, by_kerberos, negotiated, negotiated_relayed, negotiated_with_freerdp, freerdp_clients, freerdp_clients_relayed, freerdp_servers,
                  freerdp_servers_relayed):

@@ -102,10 +102,11 @@ class Table:
         text = certificate.read_text().strip("\0\n")
         return ["--fingerprint", hashlib.sha256(ssl.PEM_cert_to_DER_cert(text)).hexdigest()]
 
-    def freerdp_at_ours(self, name, client, server, words=(), client_words=("/sec:nla",), user=USER, password=PASSWORD, **more):
+    def freerdp_at_ours(self, name, client, server, words=(), client_words=("/sec:nla",), user=USER, password=PASSWORD, domain=DOMAIN,
+                        kerberos=None, **more):
         self.logons.append(Logon(
             f"{self.freerdp.name} at ours", name, lambda: self.ours.start(*words), self.ours.stop,
-            lambda port: self.freerdp.connect(port, DOMAIN, user, password, *client_words), client, server, **more))
+            lambda port: self.freerdp.connect(port, domain, user, password, *client_words, kerberos=kerberos), client, server, **more))
 
     def ours_at_freerdp(self, name, client, server, words=(), server_words=("/sec:nla",), user=NAME, password=PASSWORD, trust=None,
                         environment=None, **more):
@@ -172,3 +173,9 @@ def editing(whose, which, path, edit):
 
 def both_of(first, second):
     return lambda sender, count, request: second(sender, count, first(sender, count, request))
+
+
+def stripping(whose):
+    """Each MIC of one end is taken out."""
+    return lambda sender, count, request: tsrequest.within(request, tsrequest.ANSWERED, tsrequest.without(tsrequest.MIC)) \
+        if sender == whose else request

@@ -163,12 +163,14 @@ class FreeRdp:
                               stdout=subprocess.PIPE, check=True)
         return made.stdout.decode()
 
-    def connect(self, port, domain, user, password, *arguments):
+    def connect(self, port, domain, user, password, *arguments, kerberos=None):
+        """`kerberos`: the environment of a realm, which lets it offer Kerberos too."""
+        environment = {**self.environment, **({"KRB5_CONFIG": kerberos["KRB5_CONFIG"]} if kerberos else {})}
         # FreeRDP warns of passwords on a command line; this one is made up for the run
         words = [self.client, f"/v:127.0.0.1:{port}", "/cert:ignore", "+auth-only", f"/d:{domain}", f"/u:{user}", f"/p:{password}",
                  *(arguments or ["/sec:nla"])]
         try:
-            ran = subprocess.run(words, stdin=subprocess.DEVNULL, capture_output=True, timeout=SECONDS, env=self.environment, check=False)
+            ran = subprocess.run(words, stdin=subprocess.DEVNULL, capture_output=True, timeout=SECONDS, env=environment, check=False)
         except subprocess.TimeoutExpired as late:
             return Said(((late.stdout or b"") + (late.stderr or b"")).decode(errors="replace"), None)
         return Said((ran.stdout + ran.stderr).decode(errors="replace"), ran.returncode)

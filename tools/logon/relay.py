@@ -62,7 +62,7 @@ class Relay(threading.Thread):
             self.seen.append((sender, request))
             sent = self.edit(sender, counts[sender], request)
             receiver.sendall(sent)
-            if len(sent) < len(request):
+            if tsrequest.header(sent, 0)[2] > len(sent):
                 return
 
     @staticmethod
