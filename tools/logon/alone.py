@@ -103,8 +103,9 @@ def at_the_prompt(ours, port, typed):
 
     def with_terminal():
         fcntl.ioctl(slave, termios.TIOCSCTTY, 0)
-        # a shell's background job would hand on that it is ignored
+        # a shell's background job would hand on that they are ignored
         signal.signal(signal.SIGINT, signal.SIG_DFL)
+        signal.signal(signal.SIGQUIT, signal.SIG_DFL)
     client = subprocess.Popen(words, stdin=slave, stdout=slave, stderr=slave, start_new_session=True, preexec_fn=with_terminal)
     seen = b""
     while b"Password: " not in seen:
