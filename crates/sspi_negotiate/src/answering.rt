@@ -11,25 +11,21 @@ ghost use Rattle.sspi_tokens.specs.declared.oid.MechKind.TheVariants as kinds;
 ghost use Rattle.sspi_tokens.specs.Reading.{targ_of};
 ghost use Rattle.sspi_negotiate.specs.declared.branch.Branch.TheVariants as branches;
 ghost use Rattle.sspi_negotiate.specs.declared.protocol.Protocol.TheVariants as protocols;
-ghost use Rattle.sspi_negotiate.specs.declared.state.NegotiateState.TheVariants as states;
-ghost use Rattle.sspi_types.specs.declared.security_status.SecurityStatus.TheVariants as statuses;
 ghost use Rattle.sspi_negotiate.specs.Beginning.{FallsBy, FallsResumed};
 ghost use Rattle.sspi_negotiate.specs.Choices.{protocol_of, chosen_in, excuses_guest};
 ghost use Rattle.sspi_negotiate.specs.Client.{at_progress, chosen, chooses_kerberos, chooses_ntlm};
 ghost use Rattle.sspi_negotiate.specs.Client.{in_kerberos, answers, without_ntlm};
-ghost use Rattle.sspi_negotiate.specs.Client.{stepped, settles, verified, at_verify_mic, confirmed};
-ghost use Rattle.sspi_negotiate.specs.Client.{last_mic, handle_for, resumes_answering};
-ghost use Rattle.sspi_negotiate.specs.Client.{spnego_resumed};
+ghost use Rattle.sspi_negotiate.specs.Client.{stepped, settles, verified, handle_for};
+ghost use Rattle.sspi_negotiate.specs.Client.{resumes_answering, spnego_resumed};
 ghost use Rattle.sspi_negotiate.specs.Does.{Does, Stays, StaysNeeded, StaysPicked, StaysResumed};
 ghost use Rattle.sspi_negotiate.specs.Does.{StaysUnmarked, StaysSilent, WaitsOn, told};
-ghost use Rattle.sspi_negotiate.specs.Exact.{TellsKind, kind_if, unread_refusal, choice_refusal};
+ghost use Rattle.sspi_negotiate.specs.Exact.{TellsKind, unread_refusal, choice_refusal};
 ghost use Rattle.sspi_negotiate.specs.Exact.{resumed_refusal};
 ghost use Rattle.sspi_negotiate.specs.Hand.{hand, hand_of};
 ghost use Rattle.sspi_negotiate.specs.Holding.{MayHave};
 ghost use Rattle.sspi_negotiate.specs.Keeps.{is_answering, is_opening};
 ghost use Rattle.sspi_negotiate.specs.Negotiate.{negotiate};
-ghost use Rattle.sspi_negotiate.specs.Plan.{Goes};
-ghost use Rattle.sspi_negotiate.specs.Rows.{or_empty, in_ntlm, is_complete, verifies};
+ghost use Rattle.sspi_negotiate.specs.Rows.{or_empty, in_ntlm, verifies};
 ghost use Rattle.sspi_negotiate.specs.Values.{values_of};
 
 use crate::branch::Branch;
@@ -41,7 +37,7 @@ use crate::rows::{is_complete, is_guest, is_ok};
 use sspi_mech::{Answer, InitializeSecurityContext, Mechanism, Progressing, Refusal, Reply, Step};
 use sspi_names::CredentialsBuffers;
 use sspi_tokens::{MechKind, NegTokenTarg};
-use sspi_types::{Bytes, Error, ErrorKind, Reason, SecurityStatus};
+use sspi_types::{Bytes, Error, Reason};
 use std::mem;
 
 /// Which mechanism a server's token chooses.
@@ -413,74 +409,6 @@ impl<N: Mechanism, K: Mechanism> Negotiate<N, K> {
         } else {
             self.complete_signed(token)
         }
-    }
-
-    pub(crate) fn confirm(
-        &mut self,
-        args: &InitializeSecurityContext<'_>,
-    ) -> Result<Progressing, Refusal>
-        ensures step { Does N.meaning K.meaning
-            (at_verify_mic (targ_of args.now.input.now) (values_of self.old))
-            self.old (answer_of (answered result)) self.new }
-        ensures stays { OnErr result (Stays (values_of self.old) (values_of self.new)) }
-        ensures exact { TellsKind (unread_refusal (targ_of args.now.input.now))
-            (answer_of (answered result)) }
-        ensures unused { StaysSilent N.meaning K.meaning self.old self.new }
-        ensures need { self.new.need ≡ self.old.need }
-        ensures picked { StaysPicked (values_of self.old) (values_of self.new) }
-    {
-        let token = NegTokenTarg::decode(self.alloc, args.input)?;
-        done(self.confirm_by(token))
-    }
-
-    fn confirm_by(&mut self, token: NegTokenTarg) -> Result<Step, Refusal>
-        ensures step { Does N.meaning K.meaning (confirmed token (values_of self.old)) self.old
-            (told (answered result)) self.new }
-        ensures stays { OnErr result (Stays (values_of self.old) (values_of self.new)) }
-        ensures exact { TellsKind
-            (kind_if (not (is_complete token.neg_result)) ErrorKind.InvalidToken)
-            (told (answered result)) }
-        ensures unused { StaysSilent N.meaning K.meaning self.old self.new }
-        ensures need { self.new.need ≡ self.old.need }
-        ensures picked { StaysPicked (values_of self.old) (values_of self.new) }
-    {
-        if is_complete(token.neg_result) {
-            self.confirm_mic(token.mech_list_mic)
-        } else {
-            Err(invalid_token(Reason::NegResult))
-        }
-    }
-
-    fn confirm_mic(&mut self, mic: Option<Bytes>) -> Result<Step, Refusal>
-        ensures step { Does N.meaning K.meaning (last_mic mic (values_of self.old)) self.old
-            (told (answered result)) self.new }
-        ensures stays { OnErr result (Stays (values_of self.old) (values_of self.new)) }
-        ensures unused { StaysSilent N.meaning K.meaning self.old self.new }
-        ensures need { self.new.need ≡ self.old.need }
-        ensures picked { StaysPicked (values_of self.old) (values_of self.new) }
-    {
-        match mic {
-            None => Ok(Step {
-                status: SecurityStatus::ContinueNeeded,
-                output: Bytes::new(self.alloc),
-            }),
-            Some(mic) => self.verify_last(&mic),
-        }
-    }
-
-    fn verify_last(&mut self, mic: &Bytes) -> Result<Step, Refusal>
-        ensures step { Does N.meaning K.meaning
-            (verifies mic.now (values_of self.old)
-            (Goes (record (values_of self.old) { state = states.Ok })
-            (record { status = statuses.Ok; output = [] })))
-            self.old (told (answered result)) self.new }
-        ensures stays { OnErr result (Stays (values_of self.old) (values_of self.new)) }
-        ensures unused { StaysSilent N.meaning K.meaning self.old self.new }
-        ensures need { self.new.need ≡ self.old.need }
-        ensures picked { StaysPicked (values_of self.old) (values_of self.new) }
-    {
-        self.verify(mic)?;
-        self.end()
     }
 
     /// Goes on with the step that was suspended, once it is known what came of its request.

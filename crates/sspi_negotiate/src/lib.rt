@@ -19,6 +19,7 @@ mod acquire;
 mod answering;
 pub mod branch;
 mod client;
+mod confirming;
 mod context;
 pub mod fallback;
 mod hand;
