@@ -1,8 +1,8 @@
 -- TSCredentials with a password (MS-CSSP 2.2.1.2, 2.2.1.2.1), in the pieces of BER:
 --
 --     TSCredentials   ::= SEQUENCE { [0] credType INTEGER, [1] credentials OCTET STRING }
---     TSPasswordCreds ::= SEQUENCE { [0] domainName OCTET STRING, [1] userName OCTET STRING, [2]
---     password OCTET STRING }
+--     TSPasswordCreds ::= SEQUENCE {
+--         [0] domainName OCTET STRING, [1] userName OCTET STRING, [2] password OCTET STRING }
 --
 -- An element is a tag, a length of n and n bytes. What stands inside an element is read inside
 -- these n bytes alone; bytes behind what is read there are not looked at.

@@ -1,8 +1,8 @@
 -- What TSCredentials are, as concatenations of their pieces (MS-CSSP 2.2.1.2, 2.2.1.2.1):
 --
 --     TSCredentials   ::= SEQUENCE { [0] credType INTEGER, [1] credentials OCTET STRING }
---     TSPasswordCreds ::= SEQUENCE { [0] domainName OCTET STRING, [1] userName OCTET STRING, [2]
---     password OCTET STRING }
+--     TSPasswordCreds ::= SEQUENCE {
+--         [0] domainName OCTET STRING, [1] userName OCTET STRING, [2] password OCTET STRING }
 --
 -- Bytes behind the last piece that an element needs are left, and not looked at.
 use Rattle.std.specs.Prelude.{◌≡◌, ◌≢◌, ◌⊎◌, ℕ, List, [], ◌∷◌, ◌++◌, Ok, IsErr}

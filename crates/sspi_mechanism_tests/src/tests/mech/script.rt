@@ -1,29 +1,35 @@
 //! Cases as scripts. An empty line ends a case, `#` begins a title, and every other line does
 //! something:
 //!
-//!     kdc REALM URL               the next object knows this KDC kdc-url URL                 the
-//!     next object asks this KDC, whatever the realm make CONFIGURATION          makes an object of
-//!     `ntlm`, `kerberos`, or `kerberos+ticket`, whose ticket is the bytes `40` to `5f` handle
-//!     DOMAIN USER PASSWORD the steps to come are handed these credentials, or `key-table NAME`, or
-//!     `none` flags FLAG                  the steps to come ask for this flag, or `none` state 2
-//!     left                how often a KDC may still be asked, with `, waits` and `, user to user`
-//!     where it is so package NAME MOST           its entry: the name, and the most bytes of a
-//!     token sizes 2010 16 0 16          the most bytes of a token and of a signature, a block, and
-//!     the trailer of a blob
+//!     kdc REALM URL               the next object knows this KDC
+//!     kdc-url URL                 the next object asks this KDC, whatever the realm
+//!     make CONFIGURATION          makes an object of `ntlm`, `kerberos`, or `kerberos+ticket`,
+//!                                 whose ticket is the bytes `40` to `5f`
+//!     handle DOMAIN USER PASSWORD the steps to come are handed these credentials, or
+//!                                 `key-table NAME`, or `none`
+//!     flags FLAG                  the steps to come ask for this flag, or `none`
+//!     state 2 left                how often a KDC may still be asked, with `, waits` and
+//!                                 `, user to user` where it is so
+//!     package NAME MOST           its entry: the name, and the most bytes of a token
+//!     sizes 2010 16 0 16          the most bytes of a token and of a signature, a block, and the
+//!                                 trailer of a blob
 //!
 //! and the calls, with what comes of each behind an arrow, where OCTETS are in the words of
 //! `octets`:
 //!
 //!     initialize OCTETS -> ContinueNeeded OCTETS    a client's step, its status and its token
-//!     accept OCTETS -> Ok OCTETS                    a server's step resume OCTETS -> asks Tcp
-//!     'URL' OCTETS        the KDC answered this, and another question comes fail -> refuses KIND
-//!     REASON                   the KDC did not answer acquire USE CREDENTIALS -> gives-handle
-//!     credentials by NAME PASSWORD, `key-table NAME` or `none` names -> gives OCTETS
-//!     the name of the context key -> gives OCTETS                           its session key
-//!     complete -> Ok                                the end of the authentication identify
-//!     CREDENTIALS; CREDENTIALS -> takes    the server is told who its peer may be, or by `none`
-//!     nobody seal OCTETS -> gives OCTETS                   and `unseal`, and `sign` verify OCTETS
-//!     : OCTETS -> takes               a MIC and its text
+//!     accept OCTETS -> Ok OCTETS                    a server's step
+//!     resume OCTETS -> asks Tcp 'URL' OCTETS        the KDC answered this; another question comes
+//!     fail -> refuses KIND REASON                   the KDC did not answer
+//!     acquire USE CREDENTIALS -> gives-handle       credentials by NAME PASSWORD,
+//!                                                   `key-table NAME` or `none`
+//!     names -> gives OCTETS                         the name of the context
+//!     key -> gives OCTETS                           its session key
+//!     complete -> Ok                                the end of the authentication
+//!     identify CREDENTIALS; CREDENTIALS -> takes    the server is told who its peer may be, or by
+//!                                                   `none` nobody
+//!     seal OCTETS -> gives OCTETS                   and `unseal`, and `sign`
+//!     verify OCTETS : OCTETS -> takes               a MIC and its text
 
 use crate::tests::came::{
     of_buffers, of_done, of_key, of_name, of_octets, of_package, of_progress, of_sizes, of_status,

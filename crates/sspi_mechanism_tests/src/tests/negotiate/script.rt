@@ -1,28 +1,35 @@
 //! Cases as scripts. An empty line ends a case, `#` begins a title, and every other line does
 //! something:
 //!
-//!     known NAME PASSWORD         the next server knows this identity kdc REALM URL
-//!     the next end knows this KDC, in its own table and in Kerberos's kdc-url URL
-//!     the next end's Kerberos asks this KDC, whatever the realm client PROTOCOL [PACKAGES]  makes
-//!     a client that begins with this mechanism and may use these packages, or all server PROTOCOL
-//!     [PACKAGES]  makes a server; of `kerberos+ticket` its Kerberos has a ticket of 32 bytes `07`
-//!     handle DOMAIN USER PASSWORD the steps to come are handed these credentials, or `key-table
-//!     NAME`, or `none` flags FLAG                  the steps to come ask for this flag, or `none`,
-//!     or all `others` target NAME                 the steps to come are for this service state
-//!     HAND, MIC needed      which mechanism is selected, and whether MICs are needed, or `no MIC`
+//!     known NAME PASSWORD         the next server knows this identity
+//!     kdc REALM URL               the next end knows this KDC, in its own table and in Kerberos's
+//!     kdc-url URL                 the next end's Kerberos asks this KDC, whatever the realm
+//!     client PROTOCOL [PACKAGES]  makes a client that begins with this mechanism and may use
+//!                                 these packages, or all
+//!     server PROTOCOL [PACKAGES]  makes a server; of `kerberos+ticket` its Kerberos has a ticket
+//!                                 of 32 bytes `07`
+//!     handle DOMAIN USER PASSWORD the steps to come are handed these credentials, or
+//!                                 `key-table NAME`, or `none`
+//!     flags FLAG                  the steps to come ask for this flag, or `none`, or all `others`
+//!     target NAME                 the steps to come are for this service
+//!     state HAND, MIC needed      which mechanism is selected, and whether MICs are needed, or
+//!                                 `no MIC`
 //!     questions 2, one waits      how often a KDC may still be asked, and whether one is asked
 //!
 //! and the calls, with what comes of each behind an arrow, where OCTETS are in the words of
 //! `octets`:
 //!
 //!     initialize OCTETS -> ContinueNeeded OCTETS    a client's step, its status and its token
-//!     accept OCTETS -> Ok OCTETS                    a server's step resume OCTETS -> asks Tcp
-//!     'URL' OCTETS           the KDC answered this, and another question comes fail -> refuses
-//!     KIND REASON                   the KDC did not answer acquire USE CREDENTIALS -> gives-handle
-//!     credentials by NAME PASSWORD, `key-table NAME` or `none` names -> gives OCTETS
-//!     the name of the context complete -> Ok                                the end of the
-//!     authentication identify CREDENTIALS -> takes                 the server is told an identity,
-//!     or by `none` a list without any seal OCTETS -> gives OCTETS                   and `unseal`
+//!     accept OCTETS -> Ok OCTETS                    a server's step
+//!     resume OCTETS -> asks Tcp 'URL' OCTETS        the KDC answered this; another question comes
+//!     fail -> refuses KIND REASON                   the KDC did not answer
+//!     acquire USE CREDENTIALS -> gives-handle       credentials by NAME PASSWORD,
+//!                                                   `key-table NAME` or `none`
+//!     names -> gives OCTETS                         the name of the context
+//!     complete -> Ok                                the end of the authentication
+//!     identify CREDENTIALS -> takes                 the server is told an identity, or by `none`
+//!                                                   a list without any
+//!     seal OCTETS -> gives OCTETS                   and `unseal`
 
 use crate::tests::came::{
     of_buffers, of_done, of_names, of_octets, of_progress, of_status, of_step, wanted,
