@@ -1,9 +1,12 @@
 -- What the host of an `Outside` hands in: in the place of a token an envelope, in the place of a
 -- sealed blob sixteen zeros and the text.
 --
---     step    = %x00 token / %x01 token / %x02 4OCTET     the context has ended / goes on /
---     refused, by a code of winerror.h client  = step server  = 2OCTET name step
---     how many bytes the name has, the name of the peer in UTF-16, no name where it has none
+--     step    = %x00 token            the context has ended
+--             / %x01 token            it goes on
+--             / %x02 4OCTET           it refused the step, by a code of winerror.h
+--             / %x03 token            it goes on, and is user-to-user or in DCE style
+--     client  = step
+--     server  = 2OCTET name step      the bytes of the name, and the peer's name in UTF-16, if known
 --
 -- The low byte of each number stands first.
 use Rattle.std.specs.Prelude.{◌≡◌, ℕ, ◌+◌, ◌*◌, ◌==◌, List, [], ◌∷◌, take, drop, length, replicate}
@@ -25,6 +28,8 @@ use Rattle.sspi_names.specs.Utf16.{decode_le, text_of}
 pub data Said : Type 0 where
   Ended : List ℕ → Said
   GoesOn : List ℕ → Said
+  -- it goes on, and authenticates user-to-user or in DCE style
+  UserToUser : List ℕ → Said
   Denied : ℕ → Said
   Unsaid : Said
 
@@ -33,7 +38,7 @@ denied_by code = if length code == 4 then Denied (from_le_bytes w32 code) else U
 
 abbrev pub said_by : ℕ → List ℕ → Said
 said_by status rest = if status == 0 then Ended rest else if status == 1 then GoesOn rest
-    else if status == 2 then denied_by rest else Unsaid
+    else if status == 2 then denied_by rest else if status == 3 then UserToUser rest else Unsaid
 
 unfoldable pub said : List ℕ → Said
 said [] = Unsaid

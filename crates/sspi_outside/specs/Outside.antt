@@ -26,18 +26,21 @@ use Rattle.sspi_mech.specs.Meaning.{Meaning}
 use Rattle.sspi_mech.specs.Ntlm.{ntlm_sizes, absence}
 use Rattle.sspi_mech.specs.Protection.{unless_spent}
 use Rattle.sspi_mech.specs.Settings.{Setting}
-use Rattle.sspi_outside.specs.Envelope.{Said, Ended, GoesOn, Denied, Unsaid, said, IsKindOf}
+use Rattle.sspi_outside.specs.Envelope.{Said, Ended, GoesOn, UserToUser, Denied, Unsaid, said}
+use Rattle.sspi_outside.specs.Envelope.{IsKindOf}
 use Rattle.sspi_outside.specs.Envelope.{Introduced, introduced, name_of, no_tag, text_in}
 
 pub record OutsideState : Type 0 where
   -- whether the host said that its context has ended
   pub ended : Bool
+  -- whether it said that this authenticates user-to-user or in DCE style
+  pub pairs : Bool
   -- the name of the peer that it told last
   pub peer : Option Name
   pub counts : Counts
 
 abbrev pub new_outside : OutsideState
-new_outside = record { ended = false; peer = None; counts = no_counts }
+new_outside = record { ended = false; pairs = false; peer = None; counts = no_counts }
 
 -- ---- steps
 
@@ -57,6 +60,8 @@ takes m heard (Ended token) =
     Goes (record m { ended = true; peer = latest heard m.peer })
     (record { status = status.Ok; output = token })
 takes m heard (GoesOn token) = Goes (record m { peer = latest heard m.peer })
+    (record { status = status.ContinueNeeded; output = token })
+takes m heard (UserToUser token) = Goes (record m { pairs = true; peer = latest heard m.peer })
     (record { status = status.ContinueNeeded; output = token })
 takes m heard (Denied code) = Denies code
 takes m heard Unsaid = Stops InvalidToken
@@ -149,7 +154,7 @@ outside_meaning = record {
   session_key = λ m. None;
   waits = λ m. false;
   left = λ m. 0;
-  pairs = λ m. false;
+  pairs = λ m. m.pairs;
   counts = λ m. m.counts;
   counted = λ m n. record m { counts = n };
   seals = λ m n text blob. blob ≡ no_tag ++ text;

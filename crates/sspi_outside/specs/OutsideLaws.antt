@@ -12,8 +12,8 @@ use Rattle.sspi_mech.specs.declared.step.Reply.{Reply}
 use Rattle.sspi_mech.specs.declared.step.Step.{Step}
 use Rattle.sspi_mech.specs.Calls.{StepArgs}
 use Rattle.sspi_mech.specs.Laws.{IsMechanism}
-use Rattle.sspi_outside.specs.Envelope.{Said, Ended, GoesOn, Denied, Unsaid, said, Introduced}
-use Rattle.sspi_outside.specs.Envelope.{introduced, name_of, no_tag}
+use Rattle.sspi_outside.specs.Envelope.{Said, Ended, GoesOn, UserToUser, Denied, Unsaid, said}
+use Rattle.sspi_outside.specs.Envelope.{Introduced, introduced, name_of, no_tag}
 use Rattle.sspi_outside.specs.Outside.{OutsideState, outside_meaning, Outcome, Goes, Stops, Denies}
 use Rattle.sspi_outside.specs.Outside.{Steps, takes, hears_of, hears_name, hears}
 use Rattle.sspi_outside.specs.Outside.{client_step, server_step, OutsideSteps, OutsideResumes}
@@ -27,6 +27,7 @@ Keeps m (Denies code) = Unit {0}
 takes_keeps : (m : OutsideState) (heard : Option Name) (it : Said) → Keeps m (takes m heard it)
 takes_keeps m heard (Ended token) = refl
 takes_keeps m heard (GoesOn token) = refl
+takes_keeps m heard (UserToUser token) = refl
 takes_keeps m heard (Denied code) = tt
 takes_keeps m heard Unsaid = tt
 

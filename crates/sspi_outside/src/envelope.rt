@@ -11,6 +11,8 @@ pub enum Envelope<'a> {
     Ended(&'a [u8]),
     // The context goes on, with this token for the peer.
     GoesOn(&'a [u8]),
+    // The same, and it authenticates user-to-user or in DCE style.
+    UserToUser(&'a [u8]),
     // The context refused the step, with this code of winerror.h.
     Denied(u32),
     // The bytes are no envelope.
@@ -25,6 +27,7 @@ pub fn read_step(envelope: &[u8]) -> Envelope<'_>
         [0, token @ ..] => Envelope::Ended(token),
         [1, token @ ..] => Envelope::GoesOn(token),
         [2, code @ ..] => read_code(code),
+        [3, token @ ..] => Envelope::UserToUser(token),
         _ => Envelope::Unsaid,
     }
 }

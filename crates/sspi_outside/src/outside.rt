@@ -26,7 +26,8 @@ use std::marker::Model;
 ///
 /// - a client's envelope is a status byte, 0 where the context has ended and 1 where it goes on,
 ///   and the token for the peer; or 2 and a code of winerror.h in four bytes, the low one first,
-///   where the context refused the step;
+///   where the context refused the step. The byte 3 says what 1 says, and that the context
+///   authenticates user-to-user or in DCE style: then a server needs MICs of a Kerberos too;
 /// - a server's has before that how many bytes the peer's name has, in two bytes with the low one
 ///   first, and the name in UTF-16; no bytes where the name is not known yet.
 ///
@@ -48,6 +49,7 @@ use std::marker::Model;
 pub struct Outside {
     alloc: Global,
     ended: bool,
+    pairs: bool,
     peer: Option<Username>,
     sealings: u64,
     unsealings: u64,
@@ -62,6 +64,7 @@ impl Model for Outside {
 
     ghost view = { λ it. record {
       ended = it.ended;
+      pairs = it.pairs;
       peer = it.peer;
       counts = record {
         sealings = it.sealings;
@@ -145,6 +148,15 @@ impl Outside {
                     output,
                 })
             }
+            Envelope::UserToUser(token) => {
+                let output = Bytes::from_slice(self.alloc, token)?;
+                self.pairs = true;
+                self.hear(heard);
+                Ok(Step {
+                    status: SecurityStatus::ContinueNeeded,
+                    output,
+                })
+            }
             Envelope::Denied(code) => Err(denied(code)),
             Envelope::Unsaid => Err(Refusal::malformed()),
         }
@@ -222,6 +234,7 @@ impl Mechanism for Outside {
         Ok(Outside {
             alloc,
             ended: false,
+            pairs: false,
             peer: None,
             sealings: 0,
             unsealings: 0,
@@ -319,7 +332,7 @@ impl Mechanism for Outside {
     }
 
     fn user_to_user(&self) -> bool {
-        false
+        self.pairs
     }
 
     fn package_info(&self) -> Result<PackageInfo, Error> {
