@@ -16,6 +16,7 @@ use std::alloc::Global;
 #[derive(Drop)]
 pub(crate) struct Context {
     pub(crate) alloc: Global,
+    user_to_user: bool,
     steps: u32,
     key: u8,
 }
@@ -24,14 +25,35 @@ impl Context {
     pub(crate) fn new(alloc: Global) -> Context {
         Context {
             alloc,
+            user_to_user: false,
             steps: 0,
             key: 0x5a,
         }
     }
 
+    /// One that authenticates user-to-user, as a Kerberos may.
+    pub(crate) fn user_to_user(alloc: Global) -> Context {
+        Context {
+            alloc,
+            user_to_user: true,
+            steps: 0,
+            key: 0x5a,
+        }
+    }
+
+    fn status(&self) -> u8 {
+        if self.steps > 0 {
+            0
+        } else if self.user_to_user {
+            3
+        } else {
+            1
+        }
+    }
+
     /// A step, as the envelope says it: whether the context has ended, and the token for the peer.
     pub(crate) fn step(&mut self) -> Result<Vec<u8>, Error> {
-        let status = if self.steps == 0 { 1 } else { 0 };
+        let status = self.status();
         self.steps = self.steps.saturating_add(1);
         Ok(Vec::from_slice(self.alloc, &[status, b't'])?)
     }

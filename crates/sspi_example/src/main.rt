@@ -27,5 +27,6 @@ fn main(rt: HostRuntime) -> io::Result<()> {
     say(&rt, alloc, "host", host::both(alloc))?;
     say(&rt, alloc, "negotiated", negotiated::both(alloc))?;
     say(&rt, alloc, "picked", negotiated::picked(alloc))?;
+    say(&rt, alloc, "preferred", negotiated::preferred(alloc))?;
     say(&rt, alloc, "a MIC was changed", negotiated::changed(alloc))
 }

@@ -34,7 +34,7 @@ fn made_host(alloc: Global, packages: PackageListConfig) -> Host {
     Host {
         alloc,
         ntlm: Context::new(alloc),
-        kerberos: Context::new(alloc),
+        kerberos: Context::user_to_user(alloc),
         course: Course::new(alloc, packages, false),
         verified: 0,
     }
@@ -259,30 +259,41 @@ pub struct Ends {
     changed: bool,
 }
 
-fn made(alloc: Global, offered: PackageListConfig, changed: bool) -> Result<Ends, Error> {
-    let (client, server) = pair(client(alloc, offered), server(alloc, NTLM))?;
+fn made(
+    alloc: Global,
+    offered: PackageListConfig,
+    allowed: PackageListConfig,
+    changed: bool,
+) -> Result<Ends, Error> {
+    let (client, server) = pair(client(alloc, offered), server(alloc, allowed))?;
     Ok(Ends {
         client,
         server,
         client_host: made_host(alloc, offered),
-        server_host: made_host(alloc, NTLM),
+        server_host: made_host(alloc, allowed),
         changed,
     })
 }
 
 pub(crate) fn both(alloc: Global) -> Result<Ends, Error> {
-    made(alloc, NTLM, false)
+    made(alloc, NTLM, NTLM, false)
 }
 
 /// The same where the client likes Kerberos best, and the server has NTLM alone: another context
 /// of the host steps once that was picked.
 pub(crate) fn picked(alloc: Global) -> Result<Ends, Error> {
-    made(alloc, BOTH, false)
+    made(alloc, BOTH, NTLM, false)
+}
+
+/// The same where both like Kerberos best, whose context is user-to-user: the server needs MICs of
+/// it too.
+pub(crate) fn preferred(alloc: Global) -> Result<Ends, Error> {
+    made(alloc, BOTH, BOTH, false)
 }
 
 /// The same with another MIC in the place of each that is sent.
 pub(crate) fn changed(alloc: Global) -> Result<Ends, Error> {
-    made(alloc, NTLM, true)
+    made(alloc, NTLM, NTLM, true)
 }
 
 fn change(alloc: Global, message: &mut TsRequest) -> Result<(), Error> {
