@@ -20,7 +20,9 @@ pub mod Passing
 pub mod RowLeads
 pub mod ServerLeads
 pub mod Shown
+pub mod Silent
 pub mod Slash
 pub mod Tidy
 pub mod Tokens
+pub mod Unsigned
 pub mod Usable

@@ -1,6 +1,7 @@
 -- The steps of a negotiation, with what holds of out of memory too.
 use Rattle.std.proofs.Common.{◌≡◌, ◌≢◌, ◌<◌, ◌↔◌, ◌&&◌, ℕ, Bool, true, false, IsTrue, Result, Ok, Err, OnErr, refl}
 use Rattle.sspi_types.specs.declared.error.Error.{Error}
+use Rattle.sspi_mech.specs.declared.step.Answer.{Answer}
 use Rattle.sspi_mech.specs.declared.step.Progressing.{Progressing}
 use Rattle.sspi_mech.specs.declared.step.Progressing.TheVariants as progress
 use Rattle.sspi_mech.specs.declared.step.Reply.{Reply}
@@ -20,16 +21,20 @@ use Rattle.sspi_negotiate.specs.Does.{Does, Stays, StaysNeeded, StaysPicked, Sta
 use Rattle.sspi_negotiate.specs.Does.{StaysSilent, WaitsOn, told}
 use Rattle.sspi_negotiate.specs.Exact.{TellsKind, client_refusal, server_refusal, resumed_refusal}
 use Rattle.sspi_negotiate.specs.Hand.{asks_left, hand}
-use Rattle.sspi_negotiate.specs.Holding.{MayHave, MayKeep, StaysFirst, user_of, user_url}
+use Rattle.sspi_negotiate.specs.Holding.{MayHave, MayKeep, MayNeed, user_of, user_url}
 use Rattle.sspi_negotiate.specs.Keeps.{is_answering, is_opening}
 use Rattle.sspi_negotiate.specs.Negotiate.{Moves, ClientMoves, ResumeStays, ServerMoves}
+use Rattle.sspi_negotiate.specs.Plan.{Plan}
 use Rattle.sspi_negotiate.specs.Server.{spnego_server}
 use Rattle.sspi_negotiate.specs.Target.{IsNamedByIp}
 use Rattle.sspi_negotiate.specs.Values.{Negotiation, values_of}
 use Rattle.std.proofs.lemmas.Bool.{false≢true}
 use Rattle.sspi_negotiate.proofs.Asks.{resumed_falls}
 use Rattle.sspi_negotiate.proofs.Beginning.{begun_by, on_err}
+use Rattle.sspi_negotiate.proofs.HandLaws.{hand_lawful}
 use Rattle.sspi_negotiate.proofs.Holding.{held_by}
+use Rattle.sspi_negotiate.proofs.Silent.{reached_silent}
+use Rattle.sspi_negotiate.proofs.Unsigned.{IsUnsigned, client_unsigned, resumed_unsigned, server_unsigned, reached_unsigned}
 
 told_stays : (P : Type 0) (result : Result Step Error) → OnErr result P → OnRefused (told result) P
 told_stays P (Ok step) stays = tt
@@ -49,18 +54,26 @@ addressed : {P : Type 0} (ip : Bool) → (IsTrue ip ↔ P) → (ntlm : Bool) →
 addressed true is ntlm h = (is.0 refl, h)
 addressed false is ntlm h = absurd (false≢true h)
 
-module _ {N K : Type 0} (n : Meaning Setting N) (k : Meaning Setting K) (s : Negotiation (NegotiatedProtocol N K)) where
+module _ {N K : Type 0} (r q : ℕ) (n : Meaning Setting N) (k : Meaning Setting K) (ln : IsMechanism r n) (lk : IsMechanism q k)
+    (s : Negotiation (NegotiatedProtocol N K)) where
+  silent : (p : Plan) (a : Answer) (s2 : Negotiation (NegotiatedProtocol N K)) → Does n k p s a s2 → StaysSilent n k s s2
+  silent p a s2 follows = reached_silent (hand n k) (hand_lawful r q n k ln lk) p s.mech s2.mech a follows.reached
+
+  unmarked : (p : Plan) → IsUnsigned p → (a : Answer) (s2 : Negotiation (NegotiatedProtocol N K)) → Does n k p s a s2 →
+      StaysUnmarked n k s s2
+  unmarked p u a s2 follows = reached_unsigned r q n k ln lk p u s.mech s2.mech a follows.reached
+
   pub accept_moves : (args : AcceptArgs) (result : Result Step Error) (s2 : Negotiation (NegotiatedProtocol N K)) →
       Does n k (spnego_server (values_of s) args) s (told result) s2 → OnErr result (Stays (values_of s) (values_of s2)) →
-      OnErr result (s2.need ≡ s.need) → StaysSilent n k s s2 → (s.state ≡ states.Initial → StaysUnmarked n k s s2) →
+      OnErr result (s2.need ≡ s.need) →
       (s.state ≢ states.Initial → StaysPicked (values_of s) (values_of s2)) → StaysConfigured (values_of s) (values_of s2) →
       TellsKind (server_refusal s.role s.state args.input) (told result) → ServerMoves n k s args result s2
-  accept_moves args result s2 follows stays need unused unmarked picked configured exact = record {
+  accept_moves args result s2 follows stays need picked configured exact = record {
     moves = record {
       follows = follows;
       stays = told_stays _ result stays;
-      unused = unused;
-      unmarked = unmarked;
+      unused = silent _ (told result) s2 follows;
+      unmarked = λ first. unmarked _ (server_unsigned (values_of s) args first) (told result) s2 follows;
       protected = need;
       exact = exact;
     };
@@ -70,8 +83,8 @@ module _ {N K : Type 0} (n : Meaning Setting N) (k : Meaning Setting K) (s : Neg
 
   pub client_moves : (args : StepArgs) (result : Result Progressing Error) (s2 : Negotiation (NegotiatedProtocol N K)) (ip : Bool) →
       (IsTrue ip ↔ IsNamedByIp args.target) → Does n k (spnego_client ip (values_of s) args) s (answer_of result) s2 →
-      OnErr result (Stays (values_of s) (values_of s2)) → StaysSilent n k s s2 →
-      (s.state ≡ states.Initial → StaysFirst n k args s s2) →
+      OnErr result (Stays (values_of s) (values_of s2)) →
+      (s.state ≡ states.Initial → MayNeed args.requirements s.need s2.need) →
       (s.state ≢ states.Initial →
       StaysNeeded (excuses_guest (chosen_at s.state args.input) (values_of s) args) (values_of s) (values_of s2)
       × MayHave (ip && s.packages.ntlm ≡ true) (user_url (values_of s) (user_of args.handle))
@@ -79,18 +92,18 @@ module _ {N K : Type 0} (n : Meaning Setting N) (k : Meaning Setting K) (s : Neg
       (s.state ≡ states.Initial → OnErr result (MayBegin (hand n k) (ip && s.packages.ntlm ≡ true)
       (user_url (values_of s) (user_of args.handle)) args s s2)) →
       TellsKind (client_refusal s.role s.state s.branch) (answer_of result) → ClientMoves n k s args (answer_of result) s2
-  client_moves args result s2 ip is follows stays unused opened later kept begun exact = record {
+  client_moves args result s2 ip is follows stays asked later kept begun exact = record {
     begun = λ first. answered_stays _ result (on_err result (begun_by (hand n k) (addressed ip is s.packages.ntlm)) (begun first));
     held = λ late. held_by (addressed ip is s.packages.ntlm) (λ found h. h) (later late).1;
     kept = kept;
-    asked = λ first. (opened first).1;
+    asked = asked;
     ip = ip;
     ip_is = is;
     moves = record {
       follows = follows;
       stays = answered_stays _ result stays;
-      unused = unused;
-      unmarked = λ first. (opened first).0;
+      unused = silent _ (answer_of result) s2 follows;
+      unmarked = λ first. unmarked _ (client_unsigned ip (values_of s) args first) (answer_of result) s2 follows;
       protected = λ late. (later late).0;
       exact = exact;
     };
@@ -98,16 +111,16 @@ module _ {N K : Type 0} (n : Meaning Setting N) (k : Meaning Setting K) (s : Neg
 
   pub resume_moves : (reply : Reply) (result : Result Progressing Error) (s2 : Negotiation (NegotiatedProtocol N K)) →
       Does n k (spnego_resumed (values_of s) reply) s (answer_of result) s2 → OnErr result (WaitsOn s (record s { branch = Idle }) s2) →
-      StaysSilent n k s s2 → (is_answering s.branch ≡ false → StaysUnmarked n k s s2) → StaysResumed (values_of s) (values_of s2) →
+      StaysResumed (values_of s) (values_of s2) →
       (is_opening s.branch ≡ true → OnErr result (FallsBy (FallsResumed (hand n k) s.mech reply) (values_of s) (values_of s2))) →
       TellsKind (resumed_refusal s.branch) (answer_of result) →
       Moves n k (is_answering s.branch ≡ false) (ResumeStays n k s reply s2) (StaysResumed (values_of s) (values_of s2))
       (resumed_refusal s.branch) (spnego_resumed (values_of s) reply) s (answer_of result) s2
-  resume_moves reply result s2 follows stays unused unmarked resumed begun exact = record {
+  resume_moves reply result s2 follows stays resumed begun exact = record {
     follows = follows;
     stays = answered_stays _ result (resume_stays result (λ waits begun. record { waits = waits; begun = begun }) stays begun);
-    unused = unused;
-    unmarked = unmarked;
+    unused = silent _ (answer_of result) s2 follows;
+    unmarked = λ first. unmarked _ (resumed_unsigned (values_of s) reply first) (answer_of result) s2 follows;
     protected = resumed;
     exact = exact;
   }

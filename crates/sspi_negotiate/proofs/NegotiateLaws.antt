@@ -1,10 +1,9 @@
 -- A negotiation is a context.
-use Rattle.std.proofs.Common.{◌≡◌, ◌+◌, ℕ, List, Option, None, Some, Result, Ok, Err, refl, sym, ap, subst, inl, inr, ◌∙◌}
+use Rattle.std.proofs.Common.{◌≡◌, ◌+◌, ℕ, List, Option, None, Some, Result, Ok, Err, refl, ap, inl, inr}
 use Rattle.sspi_types.specs.declared.error_kind.ErrorKind.{ErrorKind}
 use Rattle.sspi_names.specs.declared.kdc_table.KdcEntry.{KdcEntry}
 use Rattle.sspi_mech.specs.declared.step.Answer.TheVariants.{Done, Ask}
 use Rattle.sspi_mech.specs.Calls.{Counts, no_counts}
-use Rattle.sspi_mech.specs.Calls.{IsUnused}
 use Rattle.sspi_mech.specs.Context.{IsContext, NeitherSealsNorOpens}
 use Rattle.sspi_mech.specs.Laws.{IsMechanism}
 use Rattle.sspi_mech.specs.Meaning.{Meaning}
@@ -19,24 +18,13 @@ use Rattle.sspi_negotiate.specs.Rule.{TakenBy}
 use Rattle.sspi_negotiate.specs.Values.{Negotiation, values_of}
 use Rattle.sspi_negotiate.proofs.Asks.{resumed_falls}
 use Rattle.sspi_negotiate.proofs.HandLaws.{hand_lawful}
+use Rattle.sspi_negotiate.proofs.Silent.{fresh_unused, silent_after}
 use Rattle.sspi_negotiate.proofs.Tidy.{client_tidy, resumed_tidy}
 
 first_fresh : {M : Type 0} (c : Meaning Origin M) → IsContext c → (o : Result Origin ErrorKind) (m : M) → IsFirst c o m →
     c.counts m ≡ no_counts
 first_fresh c laws (Ok origin) m made = laws.made_fresh origin m made
 first_fresh c laws (Err kind) m made = absurd made
-
-fresh_unused : (counts : Counts) → counts ≡ no_counts → IsUnused counts
-fresh_unused counts none = subst IsUnused (sym none) (record { sealings = refl; unsealings = refl })
-
--- one that neither seals nor opens, after another
-silent_after : (n k l : Counts) → NeitherSealsNorOpens n k → NeitherSealsNorOpens k l → NeitherSealsNorOpens n l
-silent_after n k l (inl same) (inl again) = inl (again.0 ∙ same.0, again.1 ∙ same.1)
-silent_after n k l (inr unused) (inl again) = inr (record {
-  sealings = again.0 ∙ unused.sealings;
-  unsealings = again.1 ∙ unused.unsealings;
-})
-silent_after n k l first (inr unused) = inr unused
 
 taken_silent : {M : Type 0} (c : Meaning Origin M) → IsContext c →
     (url : Option (List ℕ)) (kdcs : List KdcEntry) (computer : List ℕ) (m m2 : M) →

@@ -7,19 +7,15 @@ use Rattle.sspi_names.specs.declared.credentials.CredentialsBuffers.{Credentials
 use Rattle.sspi_names.specs.declared.credentials.CredentialsBuffers.TheVariants.{AuthIdentity}
 use Rattle.sspi_names.specs.declared.identity.AuthIdentity.{AuthIdentity as Identity}
 use Rattle.sspi_mech.specs.Calls.{StepArgs}
-use Rattle.sspi_mech.specs.Meaning.{Meaning}
-use Rattle.sspi_mech.specs.Settings.{Setting}
 use Rattle.sspi_negotiate.specs.declared.package_list.PackageListConfig.{PackageListConfig}
-use Rattle.sspi_negotiate.specs.declared.protocol.NegotiatedProtocol.{NegotiatedProtocol}
 use Rattle.sspi_negotiate.specs.declared.protocol.Protocol.{Protocol}
 use Rattle.sspi_negotiate.specs.declared.protocol.Protocol.TheVariants.{Kerberos, Ntlm}
 use Rattle.sspi_negotiate.specs.Choices.{chosen_at}
 use Rattle.sspi_negotiate.specs.Client.{passwords_of}
-use Rattle.sspi_negotiate.specs.Does.{StaysUnmarked}
 use Rattle.sspi_negotiate.specs.Rows.{client_wants_mic}
 use Rattle.sspi_negotiate.specs.Rule.{rule_url}
 use Rattle.sspi_negotiate.specs.Target.{IsNamedByIp}
-use Rattle.sspi_negotiate.specs.Values.{Values, Negotiation}
+use Rattle.sspi_negotiate.specs.Values.{Values}
 
 -- the user that a call hands over with a name and a password
 abbrev pub user_of : Option CredentialsBuffers → Option Identity
@@ -73,11 +69,3 @@ abbrev pub StaysHeld : Values → StepArgs → Values → Type 0
 StaysHeld old args new = MayHave (IsNamedByIp args.target × (old.packages.ntlm ≡ true))
     (user_url old (user_of args.handle))
     (chosen_at old.state args.input) old new
-
--- what a client's first step leaves, whatever it answers: where no MIC was made or verified, none
--- is, and the need may be as the flags say
-abbrev pub StaysFirst : {N K : Type 0} → Meaning Setting N → Meaning Setting K → StepArgs →
-    Negotiation (NegotiatedProtocol N K) →
-    Negotiation (NegotiatedProtocol N K) → Type 0
-StaysFirst n k args old new = StaysUnmarked n k old new ×
-    MayNeed args.requirements old.need new.need

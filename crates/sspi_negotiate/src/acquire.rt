@@ -5,10 +5,9 @@ ghost use Rattle.std.specs.Prelude.{OnOk, OnErr};
 ghost use Rattle.std.specs.Prelude.{option_map, option_copied};
 ghost use Rattle.sspi_names.specs.Identity.{credentials_buffers_of};
 ghost use Rattle.std.specs.Option.{unwrap_or};
-ghost use Rattle.sspi_mech.specs.Calls.{ToAcquire, IsUnused, no_counts};
+ghost use Rattle.sspi_mech.specs.Calls.{ToAcquire, no_counts};
 ghost use Rattle.sspi_negotiate.specs.Acquire.{is_outbound, lacks, acquired_url, Acquires};
 ghost use Rattle.sspi_negotiate.specs.Acquire.{RefusesToAcquire};
-ghost use Rattle.sspi_negotiate.specs.Does.{StaysSilent};
 ghost use Rattle.sspi_negotiate.specs.Hand.{hand, hand_of};
 ghost use Rattle.sspi_negotiate.specs.Rule.{TakenBy};
 ghost use Rattle.sspi_negotiate.specs.Values.{values_of};
@@ -80,8 +79,6 @@ impl<N: Mechanism, K: Mechanism> Negotiate<N, K> {
             Acquires N.meaning K.meaning self.old credential_use (option_copied auth_data.entry)
             buffers self.new) }
         ensures err { OnErr result (self.new ≡ self.old) }
-        // What holds of every answer.
-        ensures unused { StaysSilent N.meaning K.meaning self.old self.new }
         // What a refusal says.
         ensures codeless { IfErr result (λ error. error.nstatus ≡ None) }
         ensures lacking { is_outbound credential_use
@@ -145,9 +142,6 @@ impl<N: Mechanism, K: Mechanism> Negotiate<N, K> {
           mech = self.new.mech;
         }) }
         ensures err { OnErr result (self.new ≡ self.old) }
-        // What holds of every answer.
-        ensures unused { IsUnused ((hand N.meaning K.meaning).counts mechanism) →
-            StaysSilent N.meaning K.meaning self.old self.new }
         // What a refusal says.
         ensures cause { IfErr result (λ error. error.error_type ≢ ErrorKind.InsufficientMemory →
             (hand N.meaning K.meaning).refuses mechanism
@@ -175,8 +169,6 @@ impl<N: Mechanism, K: Mechanism> Negotiate<N, K> {
           mech = self.new.mech;
         }) }
         ensures err { OnErr result (self.new ≡ self.old) }
-        // What holds of every answer.
-        ensures unused { StaysSilent N.meaning K.meaning self.old self.new }
         // What a refusal says.
         ensures cause { IfErr result (λ error. error.error_type ≢ ErrorKind.InsufficientMemory →
             (hand N.meaning K.meaning).refuses self.old.mech

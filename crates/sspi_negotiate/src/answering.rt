@@ -4,7 +4,6 @@ ghost use Rattle.std.specs.Prelude.{◌≡◌, ◌<◌, [], false, true, not, No
 ghost use Rattle.std.specs.Prelude.{option_and_then, option_map, option_copied};
 ghost use Rattle.sspi_mech.specs.Answers.{answer_of, IfRefused, OnAsk};
 ghost use Rattle.sspi_mech.specs.Calls.{step_args};
-ghost use Rattle.sspi_mech.specs.Context.{NeitherSealsNorOpens};
 ghost use Rattle.sspi_mech.specs.Answered.{answered};
 ghost use Rattle.sspi_tokens.specs.Oids.{kind_of};
 ghost use Rattle.sspi_tokens.specs.declared.oid.MechKind.TheVariants as kinds;
@@ -18,12 +17,12 @@ ghost use Rattle.sspi_negotiate.specs.Client.{in_kerberos, answers, without_ntlm
 ghost use Rattle.sspi_negotiate.specs.Client.{stepped, settles, verified, handle_for};
 ghost use Rattle.sspi_negotiate.specs.Client.{resumes_answering, spnego_resumed};
 ghost use Rattle.sspi_negotiate.specs.Does.{Does, Stays, StaysNeeded, StaysPicked, StaysResumed};
-ghost use Rattle.sspi_negotiate.specs.Does.{StaysUnmarked, StaysSilent, WaitsOn, told};
+ghost use Rattle.sspi_negotiate.specs.Does.{WaitsOn, told};
 ghost use Rattle.sspi_negotiate.specs.Exact.{TellsKind, unread_refusal, choice_refusal};
 ghost use Rattle.sspi_negotiate.specs.Exact.{resumed_refusal};
 ghost use Rattle.sspi_negotiate.specs.Hand.{hand, hand_of};
 ghost use Rattle.sspi_negotiate.specs.Holding.{MayHave};
-ghost use Rattle.sspi_negotiate.specs.Keeps.{is_answering, is_opening};
+ghost use Rattle.sspi_negotiate.specs.Keeps.{is_opening};
 ghost use Rattle.sspi_negotiate.specs.Negotiate.{negotiate};
 ghost use Rattle.sspi_negotiate.specs.Rows.{or_empty, in_ntlm, verifies};
 ghost use Rattle.sspi_negotiate.specs.Values.{values_of};
@@ -62,8 +61,6 @@ fn answer_with<N: Mechanism, K: Mechanism>(
           (option_copied args.now.credentials_handle);
       input = or_empty token.now;
     }) result protocol.new }
-    ensures unused { let c = hand N.meaning K.meaning in NeitherSealsNorOpens
-        (c.counts protocol.old) (c.counts protocol.new) }
     ensures named { hand_of protocol.new ≡ hand_of protocol.old }
     ensures codeless { IfRefused result (λ error. error.nstatus ≡ None) }
 {
@@ -95,7 +92,6 @@ impl<N: Mechanism, K: Mechanism> Negotiate<N, K> {
         ensures stays { OnErr result (Stays (values_of self.old) (values_of self.new)) }
         ensures exact { TellsKind (unread_refusal (targ_of args.now.input.now))
             (answer_of (answered result)) }
-        ensures unused { StaysSilent N.meaning K.meaning self.old self.new }
         ensures need { let v = values_of self.old in
             StaysNeeded (excuses_guest (chosen_in args.now.input.now) v (step_args args.now)) v
             (values_of self.new) }
@@ -120,7 +116,6 @@ impl<N: Mechanism, K: Mechanism> Negotiate<N, K> {
         ensures exact { TellsKind
             (choice_refusal (option_map kind_of token.supported_mech) self.old.packages)
             (answer_of (answered result)) }
-        ensures unused { StaysSilent N.meaning K.meaning self.old self.new }
         ensures need { let v = values_of self.old in StaysNeeded
             (excuses_guest (option_and_then protocol_of (option_map kind_of token.supported_mech)) v
             (step_args args.now))
@@ -151,7 +146,6 @@ impl<N: Mechanism, K: Mechanism> Negotiate<N, K> {
         ensures stays { OnErr result (Stays (values_of self.old) (values_of self.new)) }
         ensures exact { TellsKind (choice_refusal (Some kinds.Kerberos) self.old.packages)
             (answer_of (answered result)) }
-        ensures unused { StaysSilent N.meaning K.meaning self.old self.new }
         ensures need { StaysNeeded false (values_of self.old) (values_of self.new) }
         ensures held { MayHave ⊥ None (Some protocols.Kerberos) (values_of self.old)
             (values_of self.new) }
@@ -175,7 +169,6 @@ impl<N: Mechanism, K: Mechanism> Negotiate<N, K> {
             self.old (answer_of (answered result)) self.new }
         ensures stays { self.old.packages.kerberos ≡ true →
             OnErr result (Stays (values_of self.old) (values_of self.new)) }
-        ensures unused { StaysSilent N.meaning K.meaning self.old self.new }
         ensures need { StaysNeeded false (values_of self.old) (values_of self.new) }
         ensures held { self.old.packages.kerberos ≡ true → MayHave ⊥ None (Some protocols.Kerberos)
             (values_of self.old) (values_of self.new) }
@@ -200,7 +193,6 @@ impl<N: Mechanism, K: Mechanism> Negotiate<N, K> {
             self.old (answer_of (answered result)) self.new }
         ensures stays { self.old.packages.kerberos ≡ true →
             OnErr result (Stays (values_of self.old) (values_of self.new)) }
-        ensures unused { StaysSilent N.meaning K.meaning self.old self.new }
         ensures need { StaysNeeded false (values_of self.old) (values_of self.new) }
         ensures held { self.old.packages.kerberos ≡ true → MayHave ⊥ None (Some protocols.Kerberos)
             (values_of self.old) (values_of self.new) }
@@ -226,7 +218,6 @@ impl<N: Mechanism, K: Mechanism> Negotiate<N, K> {
             self.old (answer_of (answered result)) self.new }
         ensures stays { hand_of self.old.mech ≡ protocols.Kerberos →
             OnErr result (Stays (values_of self.old) (values_of self.new)) }
-        ensures unused { StaysSilent N.meaning K.meaning self.old self.new }
         ensures need { StaysNeeded false (values_of self.old) (values_of self.new) }
         ensures picked { StaysPicked (without_ntlm (values_of self.old)) (values_of self.new) }
     {
@@ -246,7 +237,6 @@ impl<N: Mechanism, K: Mechanism> Negotiate<N, K> {
         ensures stays { OnErr result (Stays (values_of self.old) (values_of self.new)) }
         ensures exact { TellsKind (choice_refusal (Some kinds.Ntlm) self.old.packages)
             (answer_of (answered result)) }
-        ensures unused { StaysSilent N.meaning K.meaning self.old self.new }
         ensures need { let v = values_of self.old in
             StaysNeeded (excuses_guest (Some protocols.Ntlm) v (step_args args.now)) v
             (values_of self.new) }
@@ -278,7 +268,6 @@ impl<N: Mechanism, K: Mechanism> Negotiate<N, K> {
             self.old (answer_of (answered result)) self.new }
         ensures stays { self.old.packages.ntlm ≡ true →
             OnErr result (Stays (values_of self.old) (values_of self.new)) }
-        ensures unused { StaysSilent N.meaning K.meaning self.old self.new }
         ensures need { StaysNeeded guest (values_of self.old) (values_of self.new) }
         ensures held { self.old.packages.ntlm ≡ true → MayHave ⊥ None (Some protocols.Ntlm)
             (values_of self.old) (values_of self.new) }
@@ -302,7 +291,6 @@ impl<N: Mechanism, K: Mechanism> Negotiate<N, K> {
             self.old (answer_of (answered result)) self.new }
         ensures stays { hand_of self.old.mech ≡ protocols.Ntlm →
             OnErr result (Stays (values_of self.old) (values_of self.new)) }
-        ensures unused { StaysSilent N.meaning K.meaning self.old self.new }
         ensures need { StaysNeeded guest (values_of self.old) (values_of self.new) }
         ensures picked { StaysPicked
             (record (values_of self.old) {
@@ -325,7 +313,6 @@ impl<N: Mechanism, K: Mechanism> Negotiate<N, K> {
             (answers token (values_of self.old) (step_args args.now))
             self.old (answer_of (answered result)) self.new }
         ensures stays { OnErr result (Stays (values_of self.old) (values_of self.new)) }
-        ensures unused { StaysSilent N.meaning K.meaning self.old self.new }
         ensures need { self.new.need ≡ self.old.need }
         ensures picked { StaysPicked (values_of self.old) (values_of self.new) }
     {
@@ -344,7 +331,6 @@ impl<N: Mechanism, K: Mechanism> Negotiate<N, K> {
         ensures step { Does N.meaning K.meaning (stepped token (values_of self.old) step) self.old
             (told (answered result)) self.new }
         ensures stays { OnErr result (Stays (values_of self.old) (values_of self.new)) }
-        ensures unused { StaysSilent N.meaning K.meaning self.old self.new }
         ensures need { self.new.need ≡ self.old.need }
         ensures picked { StaysPicked (values_of self.old) (values_of self.new) }
     {
@@ -367,7 +353,6 @@ impl<N: Mechanism, K: Mechanism> Negotiate<N, K> {
             (settles need mic complete (values_of self.old) token) self.old
             (told (answered result)) self.new }
         ensures stays { OnErr result (Stays (values_of self.old) (values_of self.new)) }
-        ensures unused { StaysSilent N.meaning K.meaning self.old self.new }
         ensures need { self.new.need ≡ self.old.need }
         ensures picked { StaysPicked (values_of self.old) (values_of self.new) }
     {
@@ -388,7 +373,6 @@ impl<N: Mechanism, K: Mechanism> Negotiate<N, K> {
             (verifies mic.now (values_of self.old) (verified complete (values_of self.old) token))
             self.old (told (answered result)) self.new }
         ensures stays { OnErr result (Stays (values_of self.old) (values_of self.new)) }
-        ensures unused { StaysSilent N.meaning K.meaning self.old self.new }
         ensures need { self.new.need ≡ self.old.need }
         ensures picked { StaysPicked (values_of self.old) (values_of self.new) }
     {
@@ -400,7 +384,6 @@ impl<N: Mechanism, K: Mechanism> Negotiate<N, K> {
         ensures step { Does N.meaning K.meaning (verified complete (values_of self.old) token)
             self.old (told (answered result)) self.new }
         ensures stays { OnErr result (Stays (values_of self.old) (values_of self.new)) }
-        ensures unused { StaysSilent N.meaning K.meaning self.old self.new }
         ensures need { self.new.need ≡ self.old.need }
         ensures picked { StaysPicked (values_of self.old) (values_of self.new) }
     {
@@ -438,9 +421,6 @@ impl<N: Mechanism, K: Mechanism> Negotiate<N, K> {
             (values_of self.old) (values_of self.new)) }
         ensures exact { TellsKind (resumed_refusal self.old.branch) (answer_of (answered result)) }
         // What every answer keeps.
-        ensures unused { StaysSilent N.meaning K.meaning self.old self.new }
-        ensures first { is_answering self.old.branch ≡ false →
-            StaysUnmarked N.meaning K.meaning self.old self.new }
         ensures resumed { StaysResumed (values_of self.old) (values_of self.new) }
     {
         match mem::replace(&mut self.branch, Branch::Idle) {
@@ -461,7 +441,6 @@ impl<N: Mechanism, K: Mechanism> Negotiate<N, K> {
             self.old (answer_of (answered result)) self.new }
         ensures stays { OnErr result
             (WaitsOn (record self.old { branch = branches.Answering token }) self.old self.new) }
-        ensures unused { StaysSilent N.meaning K.meaning self.old self.new }
         ensures need { self.new.need ≡ self.old.need }
         ensures picked { StaysPicked (values_of self.old) (values_of self.new) }
     {

@@ -11,10 +11,10 @@ ghost use Rattle.sspi_negotiate.specs.Beginning.{FallsBy, Falls, MayBegin, OnlyN
 ghost use Rattle.sspi_negotiate.specs.Choices.{chosen_at, excuses_guest};
 ghost use Rattle.sspi_negotiate.specs.Client.{is_closed, spnego_client, by_target, with_handle};
 ghost use Rattle.sspi_negotiate.specs.Client.{keeps, ruled, client_at};
-ghost use Rattle.sspi_negotiate.specs.Does.{Does, Stays, StaysNeeded, StaysSilent};
+ghost use Rattle.sspi_negotiate.specs.Does.{Does, Stays, StaysNeeded};
 ghost use Rattle.sspi_negotiate.specs.Exact.{TellsKind, client_refusal};
 ghost use Rattle.sspi_negotiate.specs.Hand.{hand, hand_of};
-ghost use Rattle.sspi_negotiate.specs.Holding.{MayHave, MayKeep, StaysFirst, user_of, user_url};
+ghost use Rattle.sspi_negotiate.specs.Holding.{MayHave, MayKeep, MayNeed, user_of, user_url};
 ghost use Rattle.sspi_negotiate.specs.Negotiate.{negotiate};
 ghost use Rattle.sspi_negotiate.specs.Rows.{in_ntlm};
 ghost use Rattle.sspi_negotiate.specs.Rule.{rule_url};
@@ -85,9 +85,8 @@ impl<N: Mechanism, K: Mechanism> Negotiate<N, K> {
         ensures exact { TellsKind (client_refusal self.old.role self.old.state self.old.branch)
             (answer_of (answered result)) }
         // What every answer keeps.
-        ensures unused { StaysSilent N.meaning K.meaning self.old self.new }
-        ensures first { self.old.state ≡ states.Initial →
-            StaysFirst N.meaning K.meaning (step_args args.now) self.old self.new }
+        ensures asked { self.old.state ≡ states.Initial →
+            MayNeed (step_args args.now).requirements self.old.need self.new.need }
         ensures later { let v = values_of self.old in self.old.state ≢ states.Initial →
             StaysNeeded (excuses_guest (chosen_at self.old.state args.now.input.now) v
             (step_args args.now)) v (values_of self.new)
@@ -119,9 +118,8 @@ impl<N: Mechanism, K: Mechanism> Negotiate<N, K> {
             (user_url (values_of self.old) (user_of (step_args args.now).handle))
             (step_args args.now) self.old self.new) }
         // What every answer keeps.
-        ensures unused { StaysSilent N.meaning K.meaning self.old self.new }
-        ensures first { self.old.state ≡ states.Initial →
-            StaysFirst N.meaning K.meaning (step_args args.now) self.old self.new }
+        ensures asked { self.old.state ≡ states.Initial →
+            MayNeed (step_args args.now).requirements self.old.need self.new.need }
         ensures need { let v = values_of self.old in self.old.state ≢ states.Initial →
             StaysNeeded (excuses_guest (chosen_at self.old.state args.now.input.now) v
             (step_args args.now)) v (values_of self.new) }
@@ -155,9 +153,8 @@ impl<N: Mechanism, K: Mechanism> Negotiate<N, K> {
         ensures begun { self.old.state ≡ states.Initial →
             OnErr result (FallsBy (Unit {0}) (values_of self.old) (values_of self.new)) }
         // What every answer keeps.
-        ensures unused { StaysSilent N.meaning K.meaning self.old self.new }
-        ensures first { self.old.state ≡ states.Initial →
-            StaysFirst N.meaning K.meaning (step_args args.now) self.old self.new }
+        ensures asked { self.old.state ≡ states.Initial →
+            MayNeed (step_args args.now).requirements self.old.need self.new.need }
         ensures need { let v = values_of self.old in self.old.state ≢ states.Initial →
             StaysNeeded (excuses_guest (chosen_at self.old.state args.now.input.now) v
             (step_args args.now)) v (values_of self.new) }
@@ -186,9 +183,8 @@ impl<N: Mechanism, K: Mechanism> Negotiate<N, K> {
         ensures begun { self.old.state ≡ states.Initial → hand_of self.old.mech ≡ protocols.Ntlm →
             OnErr result (OnlyNtlm (values_of self.old) (values_of self.new)) }
         // What every answer keeps.
-        ensures unused { StaysSilent N.meaning K.meaning self.old self.new }
-        ensures first { self.old.state ≡ states.Initial →
-            StaysFirst N.meaning K.meaning (step_args args.now) self.old self.new }
+        ensures asked { self.old.state ≡ states.Initial →
+            MayNeed (step_args args.now).requirements self.old.need self.new.need }
         ensures need { let v = values_of self.old in self.old.state ≢ states.Initial →
             StaysNeeded (excuses_guest (chosen_at self.old.state args.now.input.now) v
             (step_args args.now)) v (values_of self.new) }
@@ -215,9 +211,8 @@ impl<N: Mechanism, K: Mechanism> Negotiate<N, K> {
             ⊥ (user_url (values_of self.old) (user_of (step_args args.now).handle))
             (step_args args.now) self.old self.new) }
         // What every answer keeps.
-        ensures unused { StaysSilent N.meaning K.meaning self.old self.new }
-        ensures first { self.old.state ≡ states.Initial →
-            StaysFirst N.meaning K.meaning (step_args args.now) self.old self.new }
+        ensures asked { self.old.state ≡ states.Initial →
+            MayNeed (step_args args.now).requirements self.old.need self.new.need }
         ensures need { let v = values_of self.old in self.old.state ≢ states.Initial →
             StaysNeeded (excuses_guest (chosen_at self.old.state args.now.input.now) v
             (step_args args.now)) v (values_of self.new) }
@@ -249,9 +244,8 @@ impl<N: Mechanism, K: Mechanism> Negotiate<N, K> {
             ⊥ (user_url (values_of self.old) (identity_of buffers.now)) (step_args args.now)
             self.old self.new) }
         // What every answer keeps.
-        ensures unused { StaysSilent N.meaning K.meaning self.old self.new }
-        ensures first { self.old.state ≡ states.Initial →
-            StaysFirst N.meaning K.meaning (step_args args.now) self.old self.new }
+        ensures asked { self.old.state ≡ states.Initial →
+            MayNeed (step_args args.now).requirements self.old.need self.new.need }
         ensures need { let v = values_of self.old in self.old.state ≢ states.Initial →
             StaysNeeded (excuses_guest (chosen_at self.old.state args.now.input.now) v
             (step_args args.now)) v (values_of self.new) }
@@ -283,9 +277,8 @@ impl<N: Mechanism, K: Mechanism> Negotiate<N, K> {
             ⊥ (rule_url (values_of self.old) identity.now.username) (step_args args.now) self.old
             self.new) }
         // What every answer keeps.
-        ensures unused { StaysSilent N.meaning K.meaning self.old self.new }
-        ensures first { self.old.state ≡ states.Initial →
-            StaysFirst N.meaning K.meaning (step_args args.now) self.old self.new }
+        ensures asked { self.old.state ≡ states.Initial →
+            MayNeed (step_args args.now).requirements self.old.need self.new.need }
         ensures need { let v = values_of self.old in self.old.state ≢ states.Initial →
             StaysNeeded (excuses_guest (chosen_at self.old.state args.now.input.now) v
             (step_args args.now)) v (values_of self.new) }
@@ -314,9 +307,8 @@ impl<N: Mechanism, K: Mechanism> Negotiate<N, K> {
             OnErr result (MayBegin (hand N.meaning K.meaning)
             ⊥ (rule_url (values_of self.old) name.now) (step_args args.now) self.old self.new) }
         // What every answer keeps.
-        ensures unused { StaysSilent N.meaning K.meaning self.old self.new }
-        ensures first { self.old.state ≡ states.Initial →
-            StaysFirst N.meaning K.meaning (step_args args.now) self.old self.new }
+        ensures asked { self.old.state ≡ states.Initial →
+            MayNeed (step_args args.now).requirements self.old.need self.new.need }
         ensures need { let v = values_of self.old in self.old.state ≢ states.Initial →
             StaysNeeded (excuses_guest (chosen_at self.old.state args.now.input.now) v
             (step_args args.now)) v (values_of self.new) }
@@ -341,9 +333,8 @@ impl<N: Mechanism, K: Mechanism> Negotiate<N, K> {
             (step_args args.now))
             (values_of self.old) (values_of self.new)) }
         // What every answer keeps.
-        ensures unused { StaysSilent N.meaning K.meaning self.old self.new }
-        ensures first { self.old.state ≡ states.Initial →
-            StaysFirst N.meaning K.meaning (step_args args.now) self.old self.new }
+        ensures asked { self.old.state ≡ states.Initial →
+            MayNeed (step_args args.now).requirements self.old.need self.new.need }
         ensures need { let v = values_of self.old in self.old.state ≢ states.Initial →
             StaysNeeded (excuses_guest (chosen_at self.old.state args.now.input.now) v
             (step_args args.now)) v (values_of self.new) }

@@ -7,7 +7,7 @@ ghost use Rattle.sspi_tokens.specs.Reading.{targ_of};
 ghost use Rattle.sspi_negotiate.specs.declared.state.NegotiateState.TheVariants as states;
 ghost use Rattle.sspi_types.specs.declared.security_status.SecurityStatus.TheVariants as statuses;
 ghost use Rattle.sspi_negotiate.specs.Client.{at_verify_mic, confirmed, last_mic};
-ghost use Rattle.sspi_negotiate.specs.Does.{Does, Stays, StaysPicked, StaysSilent, told};
+ghost use Rattle.sspi_negotiate.specs.Does.{Does, Stays, StaysPicked, told};
 ghost use Rattle.sspi_negotiate.specs.Exact.{TellsKind, kind_if, unread_refusal};
 ghost use Rattle.sspi_negotiate.specs.Plan.{Goes};
 ghost use Rattle.sspi_negotiate.specs.Rows.{is_complete, verifies};
@@ -32,7 +32,6 @@ impl<N: Mechanism, K: Mechanism> Negotiate<N, K> {
         ensures stays { OnErr result (Stays (values_of self.old) (values_of self.new)) }
         ensures exact { TellsKind (unread_refusal (targ_of args.now.input.now))
             (answer_of (answered result)) }
-        ensures unused { StaysSilent N.meaning K.meaning self.old self.new }
         ensures need { self.new.need ≡ self.old.need }
         ensures picked { StaysPicked (values_of self.old) (values_of self.new) }
     {
@@ -47,7 +46,6 @@ impl<N: Mechanism, K: Mechanism> Negotiate<N, K> {
         ensures exact { TellsKind
             (kind_if (not (is_complete token.neg_result)) ErrorKind.InvalidToken)
             (told (answered result)) }
-        ensures unused { StaysSilent N.meaning K.meaning self.old self.new }
         ensures need { self.new.need ≡ self.old.need }
         ensures picked { StaysPicked (values_of self.old) (values_of self.new) }
     {
@@ -62,7 +60,6 @@ impl<N: Mechanism, K: Mechanism> Negotiate<N, K> {
         ensures step { Does N.meaning K.meaning (last_mic mic (values_of self.old)) self.old
             (told (answered result)) self.new }
         ensures stays { OnErr result (Stays (values_of self.old) (values_of self.new)) }
-        ensures unused { StaysSilent N.meaning K.meaning self.old self.new }
         ensures need { self.new.need ≡ self.old.need }
         ensures picked { StaysPicked (values_of self.old) (values_of self.new) }
     {
@@ -82,7 +79,6 @@ impl<N: Mechanism, K: Mechanism> Negotiate<N, K> {
             (record { status = statuses.Ok; output = [] })))
             self.old (told (answered result)) self.new }
         ensures stays { OnErr result (Stays (values_of self.old) (values_of self.new)) }
-        ensures unused { StaysSilent N.meaning K.meaning self.old self.new }
         ensures need { self.new.need ≡ self.old.need }
         ensures picked { StaysPicked (values_of self.old) (values_of self.new) }
     {

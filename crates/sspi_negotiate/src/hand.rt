@@ -9,14 +9,12 @@ ghost use Rattle.sspi_mech.specs.Calls.{step_args, accept_args, no_counts, one_s
 ghost use Rattle.sspi_mech.specs.Calls.{one_unsealing, one_signing, one_verification};
 ghost use Rattle.sspi_mech.specs.Calls.{ToAcquire, ToName, ToIdentify, ToComplete, ToSeal};
 ghost use Rattle.sspi_mech.specs.Calls.{ToUnseal, ToSign, ToVerify};
-ghost use Rattle.sspi_mech.specs.Context.{NeitherSealsNorOpens};
 ghost use Rattle.sspi_mech.specs.Refusals.{refusal_of};
 ghost use Rattle.sspi_mech.specs.Answered.{IsRefusedAs, answered};
 ghost use Rattle.sspi_negotiate.specs.declared.protocol.Protocol.TheVariants as protocols;
 ghost use Rattle.sspi_negotiate.specs.Hand.{InPlaceOfNtlm, in_place_of_kerberos, hand, hand_of};
 ghost use Rattle.sspi_negotiate.specs.Hand.{asks_left};
 ghost use Rattle.sspi_negotiate.specs.Identity.{is_refused_identity};
-ghost use Rattle.sspi_negotiate.specs.Verified.{HasNoMic};
 
 use crate::protocol::NegotiatedProtocol;
 use sspi_mech::{
@@ -119,10 +117,6 @@ impl<N: Mechanism, K: Mechanism> NegotiatedProtocol<N, K> {
         ensures step { (hand N.meaning K.meaning).steps self.old (step_args args.now) result
             self.new }
         // What every answer keeps, and that a refusal has no code.
-        ensures unused { let c = hand N.meaning K.meaning in NeitherSealsNorOpens
-            (c.counts self.old) (c.counts self.new) }
-        ensures unmarked { HasNoMic ((hand N.meaning K.meaning).counts self.old) →
-            HasNoMic ((hand N.meaning K.meaning).counts self.new) }
         ensures named { hand_of self.new ≡ hand_of self.old }
         ensures codeless { IfRefused result (λ error. error.nstatus ≡ None) }
     {
@@ -136,10 +130,6 @@ impl<N: Mechanism, K: Mechanism> NegotiatedProtocol<N, K> {
         // The step.
         ensures step { (hand N.meaning K.meaning).resumes self.old reply.now result self.new }
         // What every answer keeps, and that a refusal has no code.
-        ensures unused { let c = hand N.meaning K.meaning in NeitherSealsNorOpens
-            (c.counts self.old) (c.counts self.new) }
-        ensures unmarked { HasNoMic ((hand N.meaning K.meaning).counts self.old) →
-            HasNoMic ((hand N.meaning K.meaning).counts self.new) }
         ensures named { hand_of self.new ≡ hand_of self.old }
         ensures codeless { IfRefused result (λ error. error.nstatus ≡ None) }
     {
@@ -154,10 +144,6 @@ impl<N: Mechanism, K: Mechanism> NegotiatedProtocol<N, K> {
         ensures step { (hand N.meaning K.meaning).accepts self.old (accept_args args.now)
             (answered result) self.new }
         // What every answer keeps.
-        ensures unused { let c = hand N.meaning K.meaning in NeitherSealsNorOpens
-            (c.counts self.old) (c.counts self.new) }
-        ensures unmarked { HasNoMic ((hand N.meaning K.meaning).counts self.old) →
-            HasNoMic ((hand N.meaning K.meaning).counts self.new) }
         ensures named { hand_of self.new ≡ hand_of self.old }
     {
         match self {

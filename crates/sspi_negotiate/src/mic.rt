@@ -6,7 +6,7 @@ ghost use Rattle.sspi_mech.specs.Calls.{one_signing, one_verification, ToSign, T
 ghost use Rattle.sspi_mech.specs.Answered.{answered};
 ghost use Rattle.sspi_negotiate.specs.Hand.{hand, hand_of};
 ghost use Rattle.sspi_names.specs.declared.credentials.Credentials.TheVariants as credentials;
-ghost use Rattle.sspi_negotiate.specs.Does.{Does, Stays, StaysPicked, StaysSilent, told};
+ghost use Rattle.sspi_negotiate.specs.Does.{Does, Stays, StaysPicked, told};
 ghost use Rattle.sspi_negotiate.specs.Passes.{Passes};
 ghost use Rattle.sspi_negotiate.specs.Rows.{identifies_among, identifies, verifies, checks};
 ghost use Rattle.sspi_negotiate.specs.Rows.{writes, targ, if_some, answers_signed};
@@ -85,7 +85,6 @@ impl<N: Mechanism, K: Mechanism> Negotiate<N, K> {
             (answered result) self.new }
         // What every answer keeps.
         ensures stays { Stays (values_of self.old) (values_of self.new) }
-        ensures unused { StaysSilent N.meaning K.meaning self.old self.new }
         ensures picked { StaysPicked (values_of self.old) (values_of self.new) }
         ensures need { self.new.need ≡ self.old.need }
     {
@@ -100,7 +99,6 @@ impl<N: Mechanism, K: Mechanism> Negotiate<N, K> {
             (answered result) self.new }
         // What every answer keeps.
         ensures stays { Stays (values_of self.old) (values_of self.new) }
-        ensures unused { StaysSilent N.meaning K.meaning self.old self.new }
         ensures picked { StaysPicked (values_of self.old) (values_of self.new) }
         ensures need { self.new.need ≡ self.old.need }
     {
@@ -118,7 +116,6 @@ impl<N: Mechanism, K: Mechanism> Negotiate<N, K> {
             IfErr result (λ error. error.error_type ≡ ErrorKind.NoCredentials) }
         // What every answer keeps.
         ensures stays { Stays (values_of self.old) (values_of self.new) }
-        ensures unused { StaysSilent N.meaning K.meaning self.old self.new }
         ensures picked { StaysPicked (values_of self.old) (values_of self.new) }
         ensures need { self.new.need ≡ self.old.need }
     {
@@ -136,7 +133,6 @@ impl<N: Mechanism, K: Mechanism> Negotiate<N, K> {
             (values_of self.old) self.old (answered result) self.new }
         // What every answer keeps.
         ensures stays { Stays (values_of self.old) (values_of self.new) }
-        ensures unused { StaysSilent N.meaning K.meaning self.old self.new }
         ensures picked { StaysPicked (values_of self.old) (values_of self.new) }
         ensures need { self.new.need ≡ self.old.need }
     {
@@ -151,7 +147,6 @@ impl<N: Mechanism, K: Mechanism> Negotiate<N, K> {
             (answered result) self.new }
         // What every answer keeps.
         ensures stays { Stays (values_of self.old) (values_of self.new) }
-        ensures unused { StaysSilent N.meaning K.meaning self.old self.new }
         ensures picked { StaysPicked (values_of self.old) (values_of self.new) }
         ensures need { self.new.need ≡ self.old.need }
     {
@@ -168,7 +163,6 @@ impl<N: Mechanism, K: Mechanism> Negotiate<N, K> {
             (ToVerify mic.now text.now) error.error_type) }
         // What every answer keeps.
         ensures stays { Stays (values_of self.old) (values_of self.new) }
-        ensures unused { StaysSilent N.meaning K.meaning self.old self.new }
         ensures picked { StaysPicked (values_of self.old) (values_of self.new) }
         ensures need { self.new.need ≡ self.old.need }
     {
@@ -190,7 +184,6 @@ impl<N: Mechanism, K: Mechanism> Negotiate<N, K> {
             (told (answered result)) self.new }
         ensures stays { OnErr result (Stays (values_of self.old) (values_of self.new)) }
         // What every answer keeps.
-        ensures unused { StaysSilent N.meaning K.meaning self.old self.new }
         ensures picked { StaysPicked (values_of self.old) (values_of self.new) }
         ensures need { self.new.need ≡ self.old.need }
     {
@@ -213,7 +206,6 @@ impl<N: Mechanism, K: Mechanism> Negotiate<N, K> {
             self.old (told (answered result)) self.new }
         ensures stays { OnErr result (Stays (values_of self.old) (values_of self.new)) }
         // What every answer keeps.
-        ensures unused { StaysSilent N.meaning K.meaning self.old self.new }
         ensures picked { StaysPicked (values_of self.old) (values_of self.new) }
         ensures need { self.new.need ≡ self.old.need }
     {
@@ -234,7 +226,6 @@ impl<N: Mechanism, K: Mechanism> Negotiate<N, K> {
             self.old (told (answered result)) self.new }
         ensures stays { OnErr result (Stays (values_of self.old) (values_of self.new)) }
         // What every answer keeps.
-        ensures unused { StaysSilent N.meaning K.meaning self.old self.new }
         ensures picked { StaysPicked (values_of self.old) (values_of self.new) }
         ensures need { self.new.need ≡ self.old.need }
     {
@@ -253,7 +244,6 @@ impl<N: Mechanism, K: Mechanism> Negotiate<N, K> {
             (told (answered result)) self.new }
         ensures stays { OnErr result (Stays (values_of self.old) (values_of self.new)) }
         // What every answer keeps.
-        ensures unused { StaysSilent N.meaning K.meaning self.old self.new }
         ensures picked { StaysPicked (values_of self.old) (values_of self.new) }
         ensures need { self.new.need ≡ self.old.need }
     {

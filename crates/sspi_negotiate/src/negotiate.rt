@@ -3,7 +3,7 @@
 ghost use Rattle.std.specs.Prelude.{◌≡◌, [], true, None, OnErr};
 ghost use Rattle.sspi_mech.specs.Answered.{answered};
 ghost use Rattle.sspi_negotiate.specs.Does.{Does, Stays, StaysPicked, StaysConfigured};
-ghost use Rattle.sspi_negotiate.specs.Does.{StaysUnmarked, StaysSilent, told};
+ghost use Rattle.sspi_negotiate.specs.Does.{told};
 ghost use Rattle.sspi_negotiate.specs.Passes.{Passes};
 ghost use Rattle.sspi_negotiate.specs.declared.protocol.Protocol.TheVariants as protocols;
 ghost use Rattle.sspi_negotiate.specs.Hand.{hand_of, asks_left};
@@ -113,8 +113,6 @@ impl<N: Mechanism, K: Mechanism> Negotiate<N, K> {
         // What every answer keeps.
         ensures stays { self.old.packages.ntlm ≡ true →
             Stays (values_of self.old) (values_of self.new) }
-        ensures unused { StaysSilent N.meaning K.meaning self.old self.new }
-        ensures unmarked { StaysUnmarked N.meaning K.meaning self.old self.new }
         ensures configured { StaysConfigured (values_of self.old) (values_of self.new) }
         ensures need { self.new.need ≡ self.old.need }
         // What a refusal leaves.
@@ -134,8 +132,6 @@ impl<N: Mechanism, K: Mechanism> Negotiate<N, K> {
         // What every answer keeps.
         ensures stays { self.old.packages.ntlm ≡ true →
             Stays (values_of self.old) (values_of self.new) }
-        ensures unused { StaysSilent N.meaning K.meaning self.old self.new }
-        ensures unmarked { StaysUnmarked N.meaning K.meaning self.old self.new }
         ensures configured { StaysConfigured (values_of self.old) (values_of self.new) }
         ensures need { self.new.need ≡ self.old.need }
         // What a refusal leaves.
@@ -162,8 +158,6 @@ impl<N: Mechanism, K: Mechanism> Negotiate<N, K> {
         ensures need { OnErr result (self.new.need ≡ self.old.need) }
         ensures same { need ≡ self.old.need → self.new.need ≡ self.old.need }
         // What every answer keeps.
-        ensures unused { StaysSilent N.meaning K.meaning self.old self.new }
-        ensures unmarked { StaysUnmarked N.meaning K.meaning self.old self.new }
         ensures picked { StaysPicked (values_of self.old) (values_of self.new) }
     {
         let output = spelled_targ(self.alloc, token)?;
@@ -182,7 +176,6 @@ impl<N: Mechanism, K: Mechanism> Negotiate<N, K> {
         ensures need { OnErr result (self.new.need ≡ self.old.need) }
         ensures same { need ≡ self.old.need → self.new.need ≡ self.old.need }
         // What every answer keeps.
-        ensures unused { StaysSilent N.meaning K.meaning self.old self.new }
         ensures picked { StaysPicked (values_of self.old) (values_of self.new) }
     {
         let token = NegTokenTarg {
@@ -203,7 +196,6 @@ impl<N: Mechanism, K: Mechanism> Negotiate<N, K> {
             self.old (told (answered result)) self.new }
         ensures stays { OnErr result (Stays (values_of self.old) (values_of self.new)) }
         // What every answer keeps.
-        ensures unused { StaysSilent N.meaning K.meaning self.old self.new }
         ensures picked { StaysPicked (values_of self.old) (values_of self.new) }
         ensures need { self.new.need ≡ self.old.need }
     {
@@ -222,7 +214,6 @@ impl<N: Mechanism, K: Mechanism> Negotiate<N, K> {
             self.old (told (answered result)) self.new }
         ensures stays { OnErr result (Stays (values_of self.old) (values_of self.new)) }
         // What every answer keeps.
-        ensures unused { StaysSilent N.meaning K.meaning self.old self.new }
         ensures picked { StaysPicked (values_of self.old) (values_of self.new) }
         ensures need { self.new.need ≡ self.old.need }
     {

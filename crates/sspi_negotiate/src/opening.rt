@@ -4,13 +4,12 @@ ghost use Rattle.std.specs.Prelude.{◌≡◌, ◌≢◌, ◌&&◌, false, true,
 ghost use Rattle.std.specs.Prelude.{option_copied};
 ghost use Rattle.sspi_mech.specs.Answers.{answer_of, IfRefused};
 ghost use Rattle.sspi_mech.specs.Calls.{step_args};
-ghost use Rattle.sspi_mech.specs.Context.{NeitherSealsNorOpens};
 ghost use Rattle.sspi_mech.specs.Answered.{answered};
 ghost use Rattle.sspi_negotiate.specs.Beginning.{SameHand, FallsBy, Falls, FallsResumed};
 ghost use Rattle.sspi_negotiate.specs.Client.{at_initial, first_step, has_begun, begun, offers};
 ghost use Rattle.sspi_negotiate.specs.Client.{falls, falls_back};
 ghost use Rattle.sspi_negotiate.specs.Client.{steps_again, handle_for, passwords, resumes_opening};
-ghost use Rattle.sspi_negotiate.specs.Does.{Does, Stays, StaysUnmarked, StaysSilent, UnlessMemory};
+ghost use Rattle.sspi_negotiate.specs.Does.{Does, Stays, UnlessMemory};
 ghost use Rattle.sspi_negotiate.specs.Does.{WaitsOn, told};
 ghost use Rattle.sspi_negotiate.specs.Exact.{TellsKind, kind_if};
 ghost use Rattle.sspi_negotiate.specs.Hand.{hand, hand_of, is_kerberos_hand};
@@ -18,7 +17,6 @@ ghost use Rattle.sspi_negotiate.specs.Holding.{MayNeed};
 ghost use Rattle.sspi_negotiate.specs.Fallback.{is_fallback};
 ghost use Rattle.sspi_negotiate.specs.declared.branch.Branch.TheVariants as branches;
 ghost use Rattle.sspi_negotiate.specs.Values.{values_of};
-ghost use Rattle.sspi_negotiate.specs.Verified.{HasNoMic};
 
 use crate::branch::{Branch, Opening};
 use crate::fallback::is_fallback;
@@ -54,10 +52,6 @@ pub(crate) fn step_with<N: Mechanism, K: Mechanism>(
         })
         result protocol.new }
     // What every answer keeps, and that a refusal has no code.
-    ensures unused { let c = hand N.meaning K.meaning in NeitherSealsNorOpens
-        (c.counts protocol.old) (c.counts protocol.new) }
-    ensures unmarked { HasNoMic ((hand N.meaning K.meaning).counts protocol.old)
-        → HasNoMic ((hand N.meaning K.meaning).counts protocol.new) }
     ensures named { hand_of protocol.new ≡ hand_of protocol.old }
     ensures codeless { IfRefused result (λ error. error.nstatus ≡ None) }
 {
@@ -86,10 +80,6 @@ fn step_again<N: Mechanism, K: Mechanism>(
       input = first.now.input;
     }) result protocol.new }
     // What every answer keeps, and that a refusal has no code.
-    ensures unused { let c = hand N.meaning K.meaning in NeitherSealsNorOpens
-        (c.counts protocol.old) (c.counts protocol.new) }
-    ensures unmarked { HasNoMic ((hand N.meaning K.meaning).counts protocol.old)
-        → HasNoMic ((hand N.meaning K.meaning).counts protocol.new) }
     ensures named { hand_of protocol.new ≡ hand_of protocol.old }
     ensures codeless { IfRefused result (λ error. error.nstatus ≡ None) }
 {
@@ -121,8 +111,6 @@ impl<N: Mechanism, K: Mechanism> Negotiate<N, K> {
             (FallsBy (Falls (hand N.meaning K.meaning) self.old.mech (step_args args.now))
             (values_of self.old) (values_of self.new)) }
         // What every answer keeps.
-        ensures unused { StaysSilent N.meaning K.meaning self.old self.new }
-        ensures unmarked { StaysUnmarked N.meaning K.meaning self.old self.new }
         ensures kept { self.new.kept ≡ self.old.kept }
         ensures need { MayNeed args.now.context_requirements self.old.need self.new.need }
     {
@@ -146,8 +134,6 @@ impl<N: Mechanism, K: Mechanism> Negotiate<N, K> {
             (FallsBy (Falls (hand N.meaning K.meaning) self.old.mech (step_args args.now))
             (values_of self.old) (values_of self.new)) }
         // What every answer keeps.
-        ensures unused { StaysSilent N.meaning K.meaning self.old self.new }
-        ensures unmarked { StaysUnmarked N.meaning K.meaning self.old self.new }
         ensures kept { self.new.kept ≡ self.old.kept }
         ensures need { self.new.need ≡ self.old.need }
     {
@@ -169,8 +155,6 @@ impl<N: Mechanism, K: Mechanism> Negotiate<N, K> {
         ensures exact { TellsKind (kind_if (not (has_begun step.status)) ErrorKind.InternalError)
             (told (answered result)) }
         // What every answer keeps.
-        ensures unused { StaysSilent N.meaning K.meaning self.old self.new }
-        ensures unmarked { StaysUnmarked N.meaning K.meaning self.old self.new }
         ensures kept { self.new.kept ≡ self.old.kept }
         ensures need { self.new.need ≡ self.old.need }
         ensures held { SameHand (values_of self.old) (values_of self.new) }
@@ -189,8 +173,6 @@ impl<N: Mechanism, K: Mechanism> Negotiate<N, K> {
             (told (answered result)) self.new }
         ensures stays { OnErr result (Stays (values_of self.old) (values_of self.new)) }
         // What every answer keeps.
-        ensures unused { StaysSilent N.meaning K.meaning self.old self.new }
-        ensures unmarked { StaysUnmarked N.meaning K.meaning self.old self.new }
         ensures kept { self.new.kept ≡ self.old.kept }
         ensures need { self.new.need ≡ self.old.need }
         ensures held { SameHand (values_of self.old) (values_of self.new) }
@@ -228,8 +210,6 @@ impl<N: Mechanism, K: Mechanism> Negotiate<N, K> {
             (is_kerberos_hand (hand_of self.old.mech) ≡ true))
             (values_of self.old) (values_of self.new)) }
         // What every answer keeps.
-        ensures unused { StaysSilent N.meaning K.meaning self.old self.new }
-        ensures unmarked { StaysUnmarked N.meaning K.meaning self.old self.new }
         ensures kept { self.new.kept ≡ self.old.kept }
         ensures need { self.new.need ≡ self.old.need }
         ensures other { UnlessMemory (answer_of (answered result))
@@ -255,8 +235,6 @@ impl<N: Mechanism, K: Mechanism> Negotiate<N, K> {
             (is_kerberos_hand (hand_of self.old.mech) ≡ true))
             (values_of self.old) (values_of self.new)) }
         // What every answer keeps.
-        ensures unused { StaysSilent N.meaning K.meaning self.old self.new }
-        ensures unmarked { StaysUnmarked N.meaning K.meaning self.old self.new }
         ensures kept { self.new.kept ≡ self.old.kept }
         ensures need { self.new.need ≡ self.old.need }
         ensures other { UnlessMemory (answer_of (answered result))
@@ -284,8 +262,6 @@ impl<N: Mechanism, K: Mechanism> Negotiate<N, K> {
             self.new) }
         ensures held { OnErr result (FallsBy (Unit {0}) (values_of self.old) (values_of self.new)) }
         // What every answer keeps.
-        ensures unused { StaysSilent N.meaning K.meaning self.old self.new }
-        ensures unmarked { StaysUnmarked N.meaning K.meaning self.old self.new }
         ensures kept { self.new.kept ≡ self.old.kept }
         ensures need { self.new.need ≡ self.old.need }
     {
@@ -311,8 +287,6 @@ impl<N: Mechanism, K: Mechanism> Negotiate<N, K> {
             (answer_of (answered result)) self.new }
         ensures stays { OnErr result (Stays (values_of self.old) (values_of self.new)) }
         // What every answer keeps.
-        ensures unused { StaysSilent N.meaning K.meaning self.old self.new }
-        ensures unmarked { StaysUnmarked N.meaning K.meaning self.old self.new }
         ensures kept { self.new.kept ≡ self.old.kept }
         ensures need { self.new.need ≡ self.old.need }
         ensures held { SameHand (values_of self.old) (values_of self.new) }
@@ -343,8 +317,6 @@ impl<N: Mechanism, K: Mechanism> Negotiate<N, K> {
             (FallsBy (FallsResumed (hand N.meaning K.meaning) self.old.mech reply.now)
             (values_of self.old) (values_of self.new)) }
         // What every answer keeps.
-        ensures unused { StaysSilent N.meaning K.meaning self.old self.new }
-        ensures unmarked { StaysUnmarked N.meaning K.meaning self.old self.new }
         ensures kept { self.new.kept ≡ self.old.kept }
         ensures need { self.new.need ≡ self.old.need }
     {

@@ -5,7 +5,6 @@ ghost use Rattle.std.specs.Option.{unwrap_or};
 ghost use Rattle.sspi_mech.specs.Calls.{no_counts};
 ghost use Rattle.sspi_types.specs.declared.error_kind.ErrorKind.TheVariants as kinds;
 ghost use Rattle.sspi_names.specs.Name.{domain_of};
-ghost use Rattle.sspi_negotiate.specs.Does.{StaysUnmarked, StaysSilent};
 ghost use Rattle.sspi_negotiate.specs.Rule.{url_for, rule_url, ruled_values, TakenBy};
 ghost use Rattle.sspi_negotiate.specs.Hand.{hand, hand_of};
 ghost use Rattle.sspi_negotiate.specs.Values.{values_of};
@@ -77,8 +76,6 @@ impl<N: Mechanism, K: Mechanism> Negotiate<N, K> {
         // What holds of every answer.
         ensures rest { self.new ≡ record self.old { mech = self.new.mech } }
         ensures need { self.new.need ≡ self.old.need }
-        ensures unused { StaysSilent N.meaning K.meaning self.old self.new }
-        ensures unmarked { StaysUnmarked N.meaning K.meaning self.old self.new }
         // What a refusal says, and what it leaves.
         ensures err { OnErr result (self.new ≡ self.old) }
         ensures memory { IfErr result (λ error. error.error_type ≡ kinds.InsufficientMemory) }

@@ -2,11 +2,10 @@
 
 ghost use Rattle.std.specs.Prelude.{◌≡◌, ◌≢◌, [], true, None, Some, IfOk, IfErr, OnErr};
 ghost use Rattle.sspi_mech.specs.Calls.{accept_args};
-ghost use Rattle.sspi_mech.specs.Context.{NeitherSealsNorOpens};
 ghost use Rattle.sspi_mech.specs.Answered.{answered};
 ghost use Rattle.sspi_tokens.specs.Reading.{init_of};
 ghost use Rattle.sspi_negotiate.specs.Does.{Does, Stays, StaysPicked, StaysConfigured};
-ghost use Rattle.sspi_negotiate.specs.Does.{StaysUnmarked, StaysSilent, told};
+ghost use Rattle.sspi_negotiate.specs.Does.{told};
 ghost use Rattle.sspi_negotiate.specs.declared.protocol.Protocol.TheVariants as protocols;
 ghost use Rattle.sspi_negotiate.specs.Exact.{TellsKind, unread_refusal, server_refusal};
 ghost use Rattle.sspi_negotiate.specs.Hand.{hand, hand_of};
@@ -22,7 +21,6 @@ ghost use Rattle.sspi_negotiate.specs.Usable.{OnNtlm, IsUsable};
 ghost use Rattle.sspi_negotiate.specs.Values.{values_of};
 ghost use Rattle.sspi_negotiate.specs.declared.state.NegotiateState.TheVariants as states;
 ghost use Rattle.sspi_negotiate.specs.declared.state.Role.TheVariants as roles;
-ghost use Rattle.sspi_negotiate.specs.Verified.{HasNoMic};
 
 use crate::negotiate::Negotiate;
 use crate::pick::{Choice, Picked, pick};
@@ -46,10 +44,6 @@ pub(crate) fn accept_with<N: Mechanism, K: Mechanism>(
         (record (accept_args args.now) { input = or_empty token.now }) (answered result)
         protocol.new }
     // What every answer keeps.
-    ensures unused { let c = hand N.meaning K.meaning in NeitherSealsNorOpens
-        (c.counts protocol.old) (c.counts protocol.new) }
-    ensures unmarked { HasNoMic ((hand N.meaning K.meaning).counts protocol.old)
-        → HasNoMic ((hand N.meaning K.meaning).counts protocol.new) }
     ensures named { hand_of protocol.new ≡ hand_of protocol.old }
 {
     let input = match token {
@@ -111,9 +105,6 @@ impl<N: Mechanism, K: Mechanism> Negotiate<N, K> {
         ensures exact { TellsKind (server_refusal self.old.role self.old.state args.now.input.now)
             (told (answered result)) }
         // What every answer keeps.
-        ensures unused { StaysSilent N.meaning K.meaning self.old self.new }
-        ensures first { self.old.state ≡ states.Initial →
-            StaysUnmarked N.meaning K.meaning self.old self.new }
         ensures picked { self.old.state ≢ states.Initial →
             StaysPicked (values_of self.old) (values_of self.new) }
         ensures configured { StaysConfigured (values_of self.old) (values_of self.new) }
@@ -141,8 +132,6 @@ impl<N: Mechanism, K: Mechanism> Negotiate<N, K> {
         ensures exact { TellsKind (unread_refusal (init_of args.now.input.now))
             (told (answered result)) }
         // What every answer keeps.
-        ensures unused { StaysSilent N.meaning K.meaning self.old self.new }
-        ensures unmarked { StaysUnmarked N.meaning K.meaning self.old self.new }
         ensures configured { StaysConfigured (values_of self.old) (values_of self.new) }
     {
         let token = NegTokenInit::decode(self.alloc, args.input)?;
@@ -166,8 +155,6 @@ impl<N: Mechanism, K: Mechanism> Negotiate<N, K> {
         ensures need { OnErr result (self.new.need ≡ self.old.need) }
         ensures exact { TellsKind (unread_refusal list) (told (answered result)) }
         // What every answer keeps.
-        ensures unused { StaysSilent N.meaning K.meaning self.old self.new }
-        ensures unmarked { StaysUnmarked N.meaning K.meaning self.old self.new }
         ensures configured { StaysConfigured (values_of self.old) (values_of self.new) }
     {
         match list {
@@ -198,8 +185,6 @@ impl<N: Mechanism, K: Mechanism> Negotiate<N, K> {
         ensures need { OnErr result (self.new.need ≡ self.old.need) }
         ensures exact { TellsKind (unread_refusal picked) (told (answered result)) }
         // What every answer keeps.
-        ensures unused { StaysSilent N.meaning K.meaning self.old self.new }
-        ensures unmarked { StaysUnmarked N.meaning K.meaning self.old self.new }
         ensures configured { StaysConfigured (values_of self.old) (values_of self.new) }
     {
         match picked {
@@ -225,8 +210,6 @@ impl<N: Mechanism, K: Mechanism> Negotiate<N, K> {
             OnErr result (Stays (values_of self.old) (values_of self.new)) }
         ensures need { OnErr result (self.new.need ≡ self.old.need) }
         // What every answer keeps.
-        ensures unused { StaysSilent N.meaning K.meaning self.old self.new }
-        ensures unmarked { StaysUnmarked N.meaning K.meaning self.old self.new }
         ensures configured { StaysConfigured (values_of self.old) (values_of self.new) }
     {
         match picked.choice {
@@ -251,8 +234,6 @@ impl<N: Mechanism, K: Mechanism> Negotiate<N, K> {
             OnErr result (Stays (values_of self.old) (values_of self.new)) }
         ensures need { OnErr result (self.new.need ≡ self.old.need) }
         // What every answer keeps.
-        ensures unused { StaysSilent N.meaning K.meaning self.old self.new }
-        ensures unmarked { StaysUnmarked N.meaning K.meaning self.old self.new }
         ensures configured { StaysConfigured (values_of self.old) (values_of self.new) }
     {
         self.take_ntlm()?;
@@ -273,8 +254,6 @@ impl<N: Mechanism, K: Mechanism> Negotiate<N, K> {
         ensures stays { OnErr result (Stays (values_of self.old) (values_of self.new)) }
         ensures need { OnErr result (self.new.need ≡ self.old.need) }
         // What every answer keeps.
-        ensures unused { StaysSilent N.meaning K.meaning self.old self.new }
-        ensures unmarked { StaysUnmarked N.meaning K.meaning self.old self.new }
         ensures configured { StaysConfigured (values_of self.old) (values_of self.new) }
     {
         if picked.index == 0 {
@@ -299,8 +278,6 @@ impl<N: Mechanism, K: Mechanism> Negotiate<N, K> {
         ensures stays { OnErr result (Stays (values_of self.old) (values_of self.new)) }
         ensures need { OnErr result (self.new.need ≡ self.old.need) }
         // What every answer keeps.
-        ensures unused { StaysSilent N.meaning K.meaning self.old self.new }
-        ensures unmarked { StaysUnmarked N.meaning K.meaning self.old self.new }
         ensures configured { StaysConfigured (values_of self.old) (values_of self.new) }
     {
         let incomplete = NegResult::AcceptIncomplete;
@@ -316,8 +293,6 @@ impl<N: Mechanism, K: Mechanism> Negotiate<N, K> {
         ensures stays { OnErr result (Stays (values_of self.old) (values_of self.new)) }
         ensures need { OnErr result (self.new.need ≡ self.old.need) }
         // What every answer keeps.
-        ensures unused { StaysSilent N.meaning K.meaning self.old self.new }
-        ensures unmarked { StaysUnmarked N.meaning K.meaning self.old self.new }
         ensures configured { StaysConfigured (values_of self.old) (values_of self.new) }
     {
         self.go_on_with(picked, None, true, NegotiateState::InProgress)
@@ -337,8 +312,6 @@ impl<N: Mechanism, K: Mechanism> Negotiate<N, K> {
         ensures stays { OnErr result (Stays (values_of self.old) (values_of self.new)) }
         ensures need { OnErr result (self.new.need ≡ self.old.need) }
         // What every answer keeps.
-        ensures unused { StaysSilent N.meaning K.meaning self.old self.new }
-        ensures unmarked { StaysUnmarked N.meaning K.meaning self.old self.new }
         ensures configured { StaysConfigured (values_of self.old) (values_of self.new) }
     {
         match token {
@@ -370,8 +343,6 @@ impl<N: Mechanism, K: Mechanism> Negotiate<N, K> {
         ensures stays { OnErr result (Stays (values_of self.old) (values_of self.new)) }
         ensures need { OnErr result (self.new.need ≡ self.old.need) }
         // What every answer keeps.
-        ensures unused { StaysSilent N.meaning K.meaning self.old self.new }
-        ensures unmarked { StaysUnmarked N.meaning K.meaning self.old self.new }
         ensures configured { StaysConfigured (values_of self.old) (values_of self.new) }
     {
         let need = self.needs_mic(args);
@@ -393,8 +364,6 @@ impl<N: Mechanism, K: Mechanism> Negotiate<N, K> {
         ensures stays { OnErr result (Stays (values_of self.old) (values_of self.new)) }
         ensures need { OnErr result (self.new.need ≡ self.old.need) }
         // What every answer keeps.
-        ensures unused { StaysSilent N.meaning K.meaning self.old self.new }
-        ensures unmarked { StaysUnmarked N.meaning K.meaning self.old self.new }
         ensures configured { StaysConfigured (values_of self.old) (values_of self.new) }
     {
         let step = accept_with(&mut self.protocol, args, &token)?;
@@ -414,8 +383,6 @@ impl<N: Mechanism, K: Mechanism> Negotiate<N, K> {
         ensures stays { OnErr result (Stays (values_of self.old) (values_of self.new)) }
         ensures need { OnErr result (self.new.need ≡ self.old.need) }
         // What every answer keeps.
-        ensures unused { StaysSilent N.meaning K.meaning self.old self.new }
-        ensures unmarked { StaysUnmarked N.meaning K.meaning self.old self.new }
         ensures configured { StaysConfigured (values_of self.old) (values_of self.new) }
     {
         let need = self.needs_mic(args);
@@ -429,8 +396,6 @@ impl<N: Mechanism, K: Mechanism> Negotiate<N, K> {
         ensures stays { OnErr result (Stays (values_of self.old) (values_of self.new)) }
         ensures need { OnErr result (self.new.need ≡ self.old.need) }
         // What every answer keeps.
-        ensures unused { StaysSilent N.meaning K.meaning self.old self.new }
-        ensures unmarked { StaysUnmarked N.meaning K.meaning self.old self.new }
         ensures configured { StaysConfigured (values_of self.old) (values_of self.new) }
     {
         if is_over(step.status) {
@@ -452,8 +417,6 @@ impl<N: Mechanism, K: Mechanism> Negotiate<N, K> {
         ensures stays { OnErr result (Stays (values_of self.old) (values_of self.new)) }
         ensures need { OnErr result (self.new.need ≡ self.old.need) }
         // What every answer keeps.
-        ensures unused { StaysSilent N.meaning K.meaning self.old self.new }
-        ensures unmarked { StaysUnmarked N.meaning K.meaning self.old self.new }
         ensures configured { StaysConfigured (values_of self.old) (values_of self.new) }
     {
         self.go_on_with(picked, Some(step.output), need, NegotiateState::InProgress)
@@ -467,8 +430,6 @@ impl<N: Mechanism, K: Mechanism> Negotiate<N, K> {
         ensures stays { OnErr result (Stays (values_of self.old) (values_of self.new)) }
         ensures need { OnErr result (self.new.need ≡ self.old.need) }
         // What every answer keeps.
-        ensures unused { StaysSilent N.meaning K.meaning self.old self.new }
-        ensures unmarked { StaysUnmarked N.meaning K.meaning self.old self.new }
         ensures configured { StaysConfigured (values_of self.old) (values_of self.new) }
     {
         self.go_on_with(picked, Some(step.output), true, NegotiateState::VerifyMic)
@@ -482,8 +443,6 @@ impl<N: Mechanism, K: Mechanism> Negotiate<N, K> {
         ensures stays { OnErr result (Stays (values_of self.old) (values_of self.new)) }
         ensures need { OnErr result (self.new.need ≡ self.old.need) }
         // What every answer keeps.
-        ensures unused { StaysSilent N.meaning K.meaning self.old self.new }
-        ensures unmarked { StaysUnmarked N.meaning K.meaning self.old self.new }
         ensures configured { StaysConfigured (values_of self.old) (values_of self.new) }
     {
         let output = Some(step.output);

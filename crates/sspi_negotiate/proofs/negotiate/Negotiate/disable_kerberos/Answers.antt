@@ -7,8 +7,8 @@ use Rattle.sspi_negotiate.proofs.negotiate.Negotiate.disable_kerberos.Goals as g
 pub returns-clause-held : goal.returns-clause-held
 returns-clause-held g c = rw (← c.self.view_is) c.with_handle.ensures.held
 
-pub returns-clause-first : goal.returns-clause-first
-returns-clause-first g c = rw (← c.self.view_is) c.with_handle.ensures.first
+pub returns-clause-asked : goal.returns-clause-asked
+returns-clause-asked g c = rw (← c.self.view_is) c.with_handle.ensures.asked
 
 pub returns-clause-kept : goal.returns-clause-kept
 returns-clause-kept g c = rw (← c.self.view_is) c.with_handle.ensures.kept

@@ -9,8 +9,8 @@ use Rattle.sspi_negotiate.proofs.negotiate.Negotiate.keep.Goals as goal
 pub returns-clause-held : goal.returns-clause-held
 returns-clause-held g c = rw (← c.self.view_is) c.rule.ensures.held
 
-pub returns-clause-first : goal.returns-clause-first
-returns-clause-first g c = rw (← c.self.view_is) c.rule.ensures.first
+pub returns-clause-asked : goal.returns-clause-asked
+returns-clause-asked g c = rw (← c.self.view_is) c.rule.ensures.asked
 
 pub returns-clause-kept : goal.returns-clause-kept
 returns-clause-kept g c = rw (← c.self.view_is) (as_handed c.args.identity.now refl
