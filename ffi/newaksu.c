@@ -71,10 +71,17 @@ static uint32_t append_name(newaksu_host *host, newaksu_bytes *envelope) {
     return status;
 }
 
+/* What an envelope begins with where the step was not refused. */
+static uint8_t said_of(const newaksu_host *host, uint32_t status) {
+    if (status == NEWAKSU_OK)
+        return 0;
+    return host->mechanism.user_to_user && host->mechanism.user_to_user(host->context) ? 3 : 1;
+}
+
 static void envelope_of(newaksu_host *host, uint32_t status, const newaksu_bytes *output,
                         newaksu_bytes *envelope) {
     static const uint8_t no_name[2];
-    uint8_t goes_on = status == NEWAKSU_CONTINUE_NEEDED;
+    uint8_t said;
     if (host->is_server && status == NEWAKSU_OK) {
         status = append_name(host, envelope);
         if (status != NEWAKSU_OK)
@@ -86,7 +93,8 @@ static void envelope_of(newaksu_host *host, uint32_t status, const newaksu_bytes
         append_code(envelope, status);
         return;
     }
-    newaksu_bytes_append(envelope, &goes_on, 1);
+    said = said_of(host, status);
+    newaksu_bytes_append(envelope, &said, 1);
     newaksu_bytes_append(envelope, output->at, output->length);
 }
 

@@ -30,7 +30,9 @@ enum fault below_client(struct below *below, const char *mechanism, const char *
     enum fault fault = FAULT_MECHANISM, other = FAULT_MECHANISM;
     if (has(mechanism, "kerberos"))
         fault = gss_client(&below->kerberos, "kerberos", host, user, password);
-    if (fault != FAULT_NONE)
+    if (fault == FAULT_NONE)
+        gss_use_dce_style(below->kerberos);
+    else
         leave_out(&below->kerberos);
     if (has(mechanism, "ntlm"))
         other = gss_client(&below->ntlm, "ntlm", host, user, password);

@@ -16,6 +16,7 @@ struct gss {
     gss_name_t peer;     /* of a server, once the authentication ended: the user */
     char *authenticated; /* the same as a text */
     bool server;
+    bool dce_style;         /* a client is to be, and a server is */
     OM_uint32 major, minor; /* of the last failure */
 };
 
@@ -84,9 +85,12 @@ static uint32_t step(void *context, const uint8_t *token, size_t length, newaksu
                                        GSS_C_NO_CHANNEL_BINDINGS, &gss->peer, NULL, &given, &flags,
                                        NULL, NULL);
     else
-        major = gss_init_sec_context(&minor, gss->credentials, &gss->context, gss->target,
-                                     gss->mechanism, wanted, 0, GSS_C_NO_CHANNEL_BINDINGS, &taken,
-                                     NULL, &given, &flags, NULL);
+        major =
+            gss_init_sec_context(&minor, gss->credentials, &gss->context, gss->target,
+                                 gss->mechanism, gss->dce_style ? wanted | GSS_C_DCE_STYLE : wanted,
+                                 0, GSS_C_NO_CHANNEL_BINDINGS, &taken, NULL, &given, &flags, NULL);
+    if (gss->server)
+        gss->dce_style = flags & GSS_C_DCE_STYLE;
     uint32_t status = hand_over(&given, output);
     if (GSS_ERROR(major))
         return refuse(gss, major, minor);
@@ -181,8 +185,8 @@ static uint32_t begin_anew(struct gss *gss) {
     static gss_OID_desc reset_crypto = {11, "\x2b\x06\x01\x04\x01\xb7\x7d\x85\x0f\x01\x03"};
     for (uint32_t receives = 0; receives < 2 && gss->mechanism == &ntlm; receives++) {
         gss_buffer_desc direction = buffer_of(&receives, sizeof receives);
-        OM_uint32 minor, major =
-            gss_set_sec_context_option(&minor, &gss->context, &reset_crypto, &direction);
+        OM_uint32 minor,
+            major = gss_set_sec_context_option(&minor, &gss->context, &reset_crypto, &direction);
         if (GSS_ERROR(major))
             return refuse(gss, major, minor);
     }
@@ -192,8 +196,7 @@ static uint32_t begin_anew(struct gss *gss) {
 static uint32_t sign(void *context, const uint8_t *list, size_t length, newaksu_bytes *mic) {
     struct gss *gss = context;
     gss_buffer_desc message = buffer_of(list, length), given = GSS_C_EMPTY_BUFFER;
-    OM_uint32 minor, major =
-        gss_get_mic(&minor, gss->context, GSS_C_QOP_DEFAULT, &message, &given);
+    OM_uint32 minor, major = gss_get_mic(&minor, gss->context, GSS_C_QOP_DEFAULT, &message, &given);
     if (GSS_ERROR(major))
         return refuse(gss, major, minor);
     uint32_t status = hand_over(&given, mic);
@@ -210,6 +213,10 @@ static uint32_t verify(void *context, const uint8_t *list, size_t length, const 
     return GSS_SUPPLEMENTARY_INFO(major) ? NEWAKSU_E_MESSAGE_ALTERED : begin_anew(gss);
 }
 
+static uint32_t user_to_user(void *context) {
+    return ((struct gss *)context)->dce_style;
+}
+
 static void release(void *context) {
     struct gss *gss = context;
     OM_uint32 ignored;
@@ -221,7 +228,8 @@ static void release(void *context) {
     free(gss);
 }
 
-const newaksu_mechanism gss_mechanism = {step, peer, seal, unseal, release, sign, verify};
+const newaksu_mechanism gss_mechanism = {step,    peer, seal,   unseal,
+                                         release, sign, verify, user_to_user};
 
 static struct gss *make(const char *mechanism) {
     struct gss *gss = calloc(1, sizeof *gss);
@@ -276,6 +284,10 @@ enum fault gss_client(struct gss **made, const char *mechanism, const char *host
     if (!import(gss, service, GSS_C_NT_HOSTBASED_SERVICE, &gss->target))
         return FAULT_MECHANISM;
     return acquire(gss, user, password) ? FAULT_NONE : FAULT_MECHANISM;
+}
+
+void gss_use_dce_style(struct gss *gss) {
+    gss->dce_style = true;
 }
 
 enum fault gss_server(struct gss **made, const char *mechanism, const char *users_file) {

@@ -22,6 +22,10 @@ bool gss_knows(const char *mechanism);
 enum fault gss_client(struct gss **gss, const char *mechanism, const char *host, const char *user,
                       const char *password);
 
+/* Before a client's first step: its Kerberos has three tokens (GSS_C_DCE_STYLE), and a server that
+ * negotiates needs MICs of it. */
+void gss_use_dce_style(struct gss *gss);
+
 /* NTLM takes its users from the file, in lines DOMAIN:user:password. Kerberos takes its key from
  * the keytab that KRB5_KTNAME names; `users_file` may then be null. */
 enum fault gss_server(struct gss **gss, const char *mechanism, const char *users_file);

@@ -375,6 +375,7 @@ uint32_t newaksu_end_state(newaksu_handle *end, uint32_t *state);
  *     00 token    the context has ended
  *     01 token    it goes on
  *     02 code     the step was refused: a SECURITY_STATUS, four bytes, the low one first
+ *     03 token    it goes on, and authenticates user-to-user or in DCE style
  *
  * A server's begins with the peer's name, UTF-16LE behind the count of its bytes, two bytes, the
  * low one first: 0000 where it is not known. The step that ends the context has to name the peer.

@@ -70,6 +70,12 @@ typedef struct newaksu_mechanism {
      * NEWAKSU_E_MESSAGE_ALTERED. What was agreed on rests on this answer. */
     uint32_t (*verify)(void *context, const uint8_t *list, size_t length, const uint8_t *mic,
                        size_t mic_length);
+
+    /* Of a server's mechanism that is negotiated, or null, which says never. Called after a step
+     * that answered NEWAKSU_CONTINUE_NEEDED: 1 where the context authenticates user-to-user or in
+     * DCE style (GSS_C_DCE_STYLE), 0 where not. A Kerberos that both ends like best needs the MICs
+     * of both only then. */
+    uint32_t (*user_to_user)(void *context);
 } newaksu_mechanism;
 
 /* A client's settings. `newaksu_client_settings_init` gives each its usual value; all that they
@@ -171,9 +177,11 @@ typedef struct newaksu_mechanisms {
  * A server that takes anyone whom its mechanism names finds no user for a MIC, and refuses where one
  * is needed, as NEWAKSU_E_NO_CREDENTIALS: list the users.
  *
- * Kerberos as the first choice of both ends is refused, as NEWAKSU_E_INVALID_TOKEN and before any
- * credentials leave: the server needs no MIC there and sends none, while a client always wants one.
- * Put Kerberos alone, or the system's SPNEGO, below such ends (newaksu_host_client).
+ * A client always wants a MIC of its server, and a server sends one for NTLM, for a choice that is
+ * not the client's first, and for a context that is `user_to_user`. So a Kerberos that both ends
+ * like best has to be user-to-user, or of three tokens in DCE style. Any other is refused there, as
+ * NEWAKSU_E_INVALID_TOKEN and before any credentials leave; put it alone, or the system's SPNEGO,
+ * below such ends (newaksu_host_client).
  *
  * An NTLM whose `sign` or `verify` was called begins its cipher and its counts anew, in both
  * directions (MS-SPNG 3.3.5.1). */

@@ -6,8 +6,9 @@
  *
  * or, where it has two:
  *
- *     client   "K1", what it drew, a tag of 16 bytes under the password, and the user's name, which
- * the tag covers server   "K2" and what it drew, 16 bytes
+ *     client   "K1", what it drew, a tag of 16 bytes under the password, and the user's name,
+ *              which the tag covers
+ *     server   "K2" and what it drew, 16 bytes
  *
  * A blob is the tag of its text and the encrypted text; the nonce is the direction and the number
  * of the message. */
@@ -251,4 +252,9 @@ static void release(void *context) {
     ((struct party *)context)->releases++;
 }
 
-const newaksu_mechanism party_mechanism = {step, peer, seal, unseal, release, sign, verify};
+static uint32_t user_to_user(void *context) {
+    return (uint32_t)((struct party *)context)->pairs;
+}
+
+const newaksu_mechanism party_mechanism = {step,    peer, seal,   unseal,
+                                           release, sign, verify, user_to_user};

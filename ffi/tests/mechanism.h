@@ -39,6 +39,8 @@ struct party {
     int two_tokens;
     /* A client's only step ends it. */
     int ends_at_once;
+    /* It says that it authenticates user-to-user. */
+    int pairs;
 };
 
 /* A client's or a server's party, which draws `drawn` and zeros. */

@@ -155,8 +155,8 @@ static void ntlm_is_picked(void) {
     release(&pair);
 }
 
-/* Kerberos is the first choice of both, and NTLM is never asked. A server needs no MIC there, and
- * sends none, while a client always wants one. */
+/* Kerberos of two tokens is the first choice of both, and NTLM is never asked. A server needs no
+ * MIC there, and sends none, while a client always wants one. */
 static void kerberos_is_picked(void) {
     struct pair pair;
     make(&pair, NEWAKSU_NTLM_AND_KERBEROS, NEWAKSU_NTLM_AND_KERBEROS);
@@ -165,6 +165,25 @@ static void kerberos_is_picked(void) {
     CHECK_STATUS(pair.status[THE_SERVER], NEWAKSU_E_INVALID_TOKEN);
     CHECK(pair.ntlm[THE_CLIENT].steps_asked == 0 && pair.ntlm[THE_SERVER].steps_asked == 0);
     CHECK(pair.kerberos[THE_CLIENT].seals_asked == 0);
+    release(&pair);
+}
+
+/* The same where Kerberos has three tokens and says that it is user-to-user: a MIC of each end. */
+static void make_user_to_user(struct pair *pair) {
+    make(pair, NEWAKSU_NTLM_AND_KERBEROS, NEWAKSU_NTLM_AND_KERBEROS);
+    for (int end = 0; end < 2; end++) {
+        pair->kerberos[end].two_tokens = 0;
+        pair->kerberos[end].pairs = 1;
+    }
+}
+
+static void user_to_user_is_picked(void) {
+    struct pair pair;
+    make_user_to_user(&pair);
+    run(&pair, NULL);
+    check_delegated(&pair, 7);
+    check_mics(pair.kerberos, 1);
+    CHECK(pair.ntlm[THE_CLIENT].steps_asked == 0 && pair.ntlm[THE_SERVER].steps_asked == 0);
     release(&pair);
 }
 
@@ -265,6 +284,21 @@ static void a_mic_is_changed(void) {
     }
 }
 
+static void a_mic_of_kerberos_is_changed(void) {
+    static const tamper changes[] = {strip_the_clients, strip_the_servers, zero_the_clients,
+                                     zero_the_servers};
+    for (size_t i = 0; i < sizeof changes / sizeof *changes; i++) {
+        struct pair pair;
+        make_user_to_user(&pair);
+        run(&pair, changes[i]);
+        check_withheld(&pair);
+        CHECK(pair.progress[THE_CLIENT] == NEWAKSU_REFUSED ||
+              pair.progress[THE_SERVER] == NEWAKSU_REFUSED);
+        CHECK(pair.kerberos[i % 2 == 0 ? THE_SERVER : THE_CLIENT].verified == 0);
+        release(&pair);
+    }
+}
+
 /* NTLM itself, whose tokens begin with its signature (MS-NLMP 2.2.1). The server's second step
  * has none. */
 static uint32_t bare_step(void *context, const uint8_t *token, size_t length,
@@ -291,9 +325,9 @@ static void make_bare_client(struct pair *pair, const newaksu_mechanism *mechani
     settings.user_length = strlen(name);
     settings.password = password;
     settings.password_length = strlen(password);
-    CHECK_STATUS(newaksu_host_client(&settings, mechanism, &pair->ntlm[THE_CLIENT],
-                                     &pair->ends[THE_CLIENT]),
-                 NEWAKSU_OK);
+    CHECK_STATUS(
+        newaksu_host_client(&settings, mechanism, &pair->ntlm[THE_CLIENT], &pair->ends[THE_CLIENT]),
+        NEWAKSU_OK);
 }
 
 /* A server that negotiates takes it by its NTLM where it has one, without MICs. Three messages of
@@ -344,8 +378,10 @@ int main(void) {
     ntlm_alone();
     ntlm_is_picked();
     kerberos_is_picked();
+    user_to_user_is_picked();
     a_list_is_shortened();
     a_mic_is_changed();
+    a_mic_of_kerberos_is_changed();
     bare_ntlm_is_taken();
     bare_ntlm_is_refused();
     misuse();

@@ -43,7 +43,8 @@ impl<M: Mechanism> Below for One<'_, M> {
 
     fn step(&mut self, request: Option<&TsRequest>) -> Result<(Vec<u8>, bool), SecurityStatus> {
         let token = request.and_then(|request| request.nego_tokens.as_deref());
-        Ok(step(self.mechanism, self.naming, token.unwrap_or_default()))
+        let token = token.unwrap_or_default();
+        Ok(step(self.mechanism, self.naming, |_| false, token))
     }
 
     fn seal(&mut self, text: &[u8]) -> Result<Vec<u8>, SecurityStatus> {
@@ -59,6 +60,7 @@ impl<M: Mechanism> Below for One<'_, M> {
 pub(crate) fn step<M: Mechanism>(
     mechanism: &mut M,
     naming: Naming<M>,
+    is_user_to_user: fn(&M) -> bool,
     token: &[u8],
 ) -> (Vec<u8>, bool) {
     let step = mechanism.step(token);
@@ -74,6 +76,7 @@ pub(crate) fn step<M: Mechanism>(
     let has_ended = matches!(step, Ok(Step::Done(_)));
     match step {
         Ok(Step::Done(token)) => append(&mut envelope, 0, &token),
+        Ok(Step::Continue(token)) if is_user_to_user(mechanism) => append(&mut envelope, 3, &token),
         Ok(Step::Continue(token)) => append(&mut envelope, 1, &token),
         Err(status) => append(&mut envelope, 2, &status.0.to_le_bytes()),
     }

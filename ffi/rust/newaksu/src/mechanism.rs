@@ -48,6 +48,13 @@ pub trait Signer: Mechanism {
     /// Whether this is the peer's next MIC of this list, or `MESSAGE_ALTERED`. What was agreed on
     /// rests on this answer.
     fn verify(&mut self, list: &[u8], mic: &[u8]) -> Result<(), SecurityStatus>;
+
+    /// Whether a server's context, whose last step was [`Step::Continue`], authenticates
+    /// user-to-user or in DCE style. A Kerberos that both ends like best needs the MICs of both
+    /// only then.
+    fn is_user_to_user(&self) -> bool {
+        false
+    }
 }
 
 macro_rules! forwarded {
@@ -73,6 +80,10 @@ macro_rules! forwarded {
 
             fn verify(&mut self, list: &[u8], mic: &[u8]) -> Result<(), SecurityStatus> {
                 (**self).verify(list, mic)
+            }
+
+            fn is_user_to_user(&self) -> bool {
+                (**self).is_user_to_user()
             }
         }
 

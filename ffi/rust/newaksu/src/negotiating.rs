@@ -19,9 +19,11 @@ const BARE_NTLM: &[u8] = b"NTLMSSP\0";
 /// It never falls back by itself: where its Kerberos refuses the first step, the exchange is
 /// refused, and the program may make a client of NTLM alone.
 ///
-/// Kerberos as the first choice of both ends is refused before any credentials leave: the server
-/// needs no MIC there and sends none, while a client always wants one. Put Kerberos alone, or the
-/// system's SPNEGO, below a [`crate::Client`].
+/// It always wants a MIC of its server, which sends one for NTLM, for a choice that is not the
+/// client's first, and for a context that is user-to-user ([`Signer::is_user_to_user`]). So a
+/// Kerberos that both ends like best has to be user-to-user, or of three tokens in DCE style. Any
+/// other is refused there before any credentials leave; put it alone, or the system's SPNEGO, below
+/// a [`crate::Client`].
 pub struct NegotiatingClient<N, K> {
     end: End,
     below: Negotiation<N, K>,

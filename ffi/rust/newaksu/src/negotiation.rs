@@ -130,13 +130,15 @@ impl<N: Signer, K: Signer> Negotiation<N, K> {
         let (ntlm, kerberos) = self.naming.unwrap_or((None, None));
         self.due = due;
         let stepped = match (due, &mut self.mechanisms) {
-            (Due::Ntlm, Mechanisms { ntlm: Some(it), .. }) => step(it, ntlm, token),
+            (Due::Ntlm, Mechanisms { ntlm: Some(it), .. }) => {
+                step(it, ntlm, N::is_user_to_user, token)
+            }
             (
                 Due::Kerberos,
                 Mechanisms {
                     kerberos: Some(it), ..
                 },
-            ) => step(it, kerberos, token),
+            ) => step(it, kerberos, K::is_user_to_user, token),
             _ => return Err(SecurityStatus::INTERNAL_ERROR),
         };
         self.has_ended = stepped.1;

@@ -152,14 +152,42 @@ fn ntlm_has_mics_both_ways() {
     assert_eq!(ended.stepped, (true, false));
 }
 
-/// A server needs no MIC of a Kerberos that its client likes best, and sends none, while a client
-/// always wants one.
+/// A server needs no MIC of a Kerberos that its client likes best and that is not user-to-user, and
+/// sends none, while a client always wants one.
 #[test]
 fn kerberos_as_the_first_choice_is_refused() {
     for mechanisms in [kerberos, both] {
         let ended = run(mechanisms(false), mechanisms(true), |_, _| {});
         assert_eq!(ended.stepped, (false, true));
         assert_eq!(ended.server, Err(SecurityStatus::INVALID_TOKEN));
+        assert!(!ended.leaked);
+    }
+}
+
+fn user_to_user(is_server: bool) -> Ours {
+    let mut kerberos = party(is_server, false);
+    kerberos.own[0] += 2;
+    kerberos.is_user_to_user = true;
+    Mechanisms::both(party(is_server, false), kerberos)
+}
+
+#[test]
+fn user_to_user_has_mics_both_ways() {
+    let ended = run(user_to_user(false), user_to_user(true), |_, _| {});
+    check_delegated(&ended, 7);
+    assert_eq!(ended.stepped, (false, true));
+    for whose in [0, 1] {
+        let ended = run(
+            user_to_user(false),
+            user_to_user(true),
+            |number, request| {
+                if number % 2 == whose {
+                    strip_mic(request)
+                }
+            },
+        );
+        assert!(ended.client.is_err() || ended.server.is_err());
+        assert!(!matches!(ended.server, Ok(Some(_))));
         assert!(!ended.leaked);
     }
 }

@@ -51,6 +51,8 @@ pub struct Party {
     pub two_tokens: bool,
     /// A client's only step ends it.
     pub ends_at_once: bool,
+    /// It says that it is user-to-user.
+    pub is_user_to_user: bool,
 }
 
 impl Party {
@@ -240,6 +242,10 @@ impl Signer for Party {
         cipher::open(&self.key, &self.nonce(!self.is_server, number), list, mic)
             .map(|_| ())
             .ok_or(SecurityStatus::MESSAGE_ALTERED)
+    }
+
+    fn is_user_to_user(&self) -> bool {
+        self.is_user_to_user
     }
 }
 
