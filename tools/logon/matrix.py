@@ -99,14 +99,20 @@ def negotiated(table):
             [*ours("ntlm"), *words], [*ours("ntlm"), *users, *words])
     add("our SPNEGO: a wrong password", says(1, TOLD), says(1, refused("LogonDenied")), ours("ntlm"), [*ours("ntlm"), *users],
         password="wrong")
-    # a server needs no MIC of the Kerberos that its client likes best, and a client always wants one
-    add("our SPNEGO: Kerberos is the first choice of both", says(None), says(1, refused("InvalidToken")), ours("both"),
-        [*ours("both"), *users], **realm)
+    # our client asks for a Kerberos of three tokens, of which a server needs MICs too
+    for name, mechanism in (("both like Kerberos best", "both"), ("Kerberos alone", "kerberos")):
+        add(f"our SPNEGO: {name}", says(0, version(6), DELEGATED), says(0, version(6), rf"identity {re.escape(table.realm.user)}"),
+            ours(mechanism), [*ours(mechanism), *users], **realm)
     add("NTLM without SPNEGO at our SPNEGO", says(0, DELEGATED), says(0, IDENTITY), ["--mechanism", "ntlm"], [*ours("ntlm"), *users])
     # the SPNEGO of MIT krb5 1.21 looks for the MIC in another field than RFC 4178 has
     if table.freerdp.second:
         add("our SPNEGO at that of GSSAPI", says(0, DELEGATED), says(0, IDENTITY), ours("ntlm"), ["--mechanism", "spnego", *users])
         add("the SPNEGO of GSSAPI at ours", says(0, DELEGATED), says(0, IDENTITY), ["--mechanism", "spnego"], [*ours("ntlm"), *users])
+        kerberos = rf"identity {re.escape(table.realm.user)}"
+        add("our SPNEGO at that of GSSAPI, by Kerberos", says(0, DELEGATED), says(0, kerberos), ours("both"),
+            ["--mechanism", "spnego", *users], **realm)
+        add("the SPNEGO of GSSAPI at ours, by Kerberos", says(0, DELEGATED), says(0, kerberos), ["--mechanism", "spnego"],
+            [*ours("both"), *users], **realm)
 
 
 def negotiated_with_freerdp(table):
@@ -138,6 +144,12 @@ def negotiated_relayed(table):
         between=table.passing(bare), credentials_left=False)
     add("our SPNEGO: both of these", says(1, refused("InvalidToken")), says(3, CLOSED), words, [*words, *users],
         between=table.passing(both_of(longer, bare)), credentials_left=False)
+    words = ["--negotiate", "--mechanism", "both"]
+    realm = {"user": table.realm.user, "environment": table.realm.environment()}
+    add("our SPNEGO: both like Kerberos best, and a mechanism is put behind the list", says(1, TOLD),
+        says(1, refused("MessageAltered")), words, [*words, *users], between=table.passing(longer), credentials_left=False, **realm)
+    add("our SPNEGO: both like Kerberos best, and the client's MIC is taken out", says(1, refused("InvalidToken")),
+        says(3, CLOSED), words, [*words, *users], between=table.passing(bare), credentials_left=False, **realm)
 
 
 def freerdp_clients(table):
