@@ -1,9 +1,11 @@
-.PHONY: run explain play program test check fmt size apart guide wrong-bodies hostile fuzz damages lib c rust install check-one
+.PHONY: run explain play program test check fmt size apart guide wrong-bodies hostile fuzz damages
+.PHONY: lib c rust install check-one
 
 PREFIX ?= /usr/local
 
-# Carries one delegation and shows its messages, each with the end that sent it, and the outcome. At once where the gate or `make program`
-# left the program, else in half a minute, which proves nothing.
+# Carries one delegation and shows its messages, each with the end that sent it, and the outcome.
+# At once where the gate or `make program` left the program, else in half a minute, which proves
+# nothing.
 run:
 	@tools/run delegate examples/delegate.scenario
 
@@ -15,7 +17,8 @@ explain:
 play:
 	@tools/run play examples/play.scenario
 
-# Proves the program with every library below it, and leaves it for `make run` and tools/run: some 30 processor minutes the first time.
+# Proves the program with every library below it, and leaves it for `make run` and tools/run: some
+# 30 processor minutes the first time.
 program:
 	@cd crates/sspi_run && rt run -- gen 1 > /dev/null
 
@@ -27,7 +30,8 @@ test:
 check:
 	@rt all check
 
-# Proves one crate, or one function of it: make check-one CRATE=sspi_credssp FN=server::CredSspServer::process
+# Proves one crate, or one function of it:
+# make check-one CRATE=sspi_credssp FN=server::CredSspServer::process
 check-one:
 	@cd crates/$(CRATE) && rt check $(if $(FN),--only $(FN))
 
@@ -39,7 +43,8 @@ fmt:
 size:
 	@tools/size
 
-# The spec files that mix what public contracts reach with what none of them reaches. Those that are left say why.
+# The spec files that mix what public contracts reach with what none of them reaches. Those that are
+# left say why.
 apart:
 	@tools/apart
 
@@ -47,8 +52,8 @@ apart:
 guide:
 	@tools/guide
 
-# The built program with each of its allocations, reads and writes failing in turn; then one end at a time, over channels that are cut
-# or changed, and both over two pipes.
+# The built program with each of its allocations, reads and writes failing in turn; then one end at
+# a time, over channels that are cut or changed, and both over two pipes.
 hostile:
 	@tools/hostile/faults
 	@tools/hostile/ends
@@ -57,11 +62,13 @@ hostile:
 fuzz:
 	@tools/hostile/fuzz 100000 1
 
-# What the word `explain` tells of each message of the tests, and of requests with one octet changed, beside what their readers answer.
+# What the word `explain` tells of each message of the tests, and of requests with one octet
+# changed, beside what their readers answer.
 damages:
 	@tools/damages
 
-# Real logons on loopback, by NTLM and Kerberos of the system, with FreeRDP and with each other. It says what apt-get must install first.
+# Real logons on loopback, by NTLM and Kerberos of the system, with FreeRDP and with each other. It
+# says what apt-get must install first.
 .PHONY: logon
 logon:
 	@tools/logon/logon
@@ -70,19 +77,23 @@ logon:
 wrong-bodies:
 	@tools/wrong-bodies
 
-# The library for C and Rust, build/libnewaksu.a, and build/include. It needs cc and binutils, and rt where a source is newer than the proved library.
+# The library for C and Rust, build/libnewaksu.a, and build/include. It needs cc and binutils, and
+# rt where a source is newer than the proved library.
 lib:
 	@tools/archive
 
-# The tests of C over that library. They need what `lib` needs, and take sanitizers and valgrind where these are there.
+# The tests of C over that library. They need what `lib` needs, and take sanitizers and valgrind
+# where these are there.
 c: lib
 	@ffi/tests/run
 
-# The crates newaksu-sys and newaksu over that library, and their tests. They need cargo and what `lib` needs, and nothing from a registry.
+# The crates newaksu-sys and newaksu over that library, and their tests. They need cargo and what
+# `lib` needs, and nothing from a registry.
 rust: lib
 	@ffi/rust/run
 
-# Puts the library, its headers and newaksu.pc below DESTDIR and PREFIX (/usr/local). It needs what `lib` needs.
+# Puts the library, its headers and newaksu.pc below DESTDIR and PREFIX (/usr/local). It needs what
+# `lib` needs.
 install: lib
 	@install -d "$(DESTDIR)$(PREFIX)/lib/pkgconfig" "$(DESTDIR)$(PREFIX)/include"
 	@install -m 644 build/libnewaksu.a "$(DESTDIR)$(PREFIX)/lib"

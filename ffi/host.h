@@ -1,5 +1,5 @@
-/* A host as its own files see it: newaksu.c has its turns, making.c how it is made and released, and
- * negotiation.c what it does where its end negotiates. */
+/* A host as its own files see it: newaksu.c has its turns, making.c how it is made and released,
+ * and negotiation.c what it does where its end negotiates. */
 #ifndef NEWAKSU_HOST_PRIVATE_H
 #define NEWAKSU_HOST_PRIVATE_H
 
@@ -45,8 +45,8 @@ typedef struct findings {
     uint32_t status; /* why there was no way to go on */
 } findings;
 
-/* A pointer that the archive takes, which is never null; and whether one is there for so many octets.
- */
+/* A pointer that the archive takes, which is never null; and whether one is there for so many
+ * octets. */
 const uint8_t *octets(const void *at);
 int is_there(const void *at, size_t length);
 

@@ -6,7 +6,10 @@ TOP = Path(__file__).resolve().parent.parent
 CRATES = TOP / "crates"
 USE = re.compile(r"use Rattle\.(\w+)\.specs\.(\w+)\.\{([^}]*)\}")
 NAME = re.compile(r"[A-Za-z_][\w'-]*")
-DEFINES = re.compile(r"(\s*)(?:abbrev |unfoldable |recursive )*(?:pub )?(?:(record|data) (?=[A-Z]))?([A-Za-z_][\w'-]*)(?: :|(?<=\w)(?= [({]))")
+DEFINES = re.compile(
+    r"(\s*)(?:abbrev |unfoldable |recursive )*(?:pub )?(?:(record|data) (?=[A-Z]))?"
+    r"([A-Za-z_][\w'-]*)(?: :|(?<=\w)(?= [({]))"
+)
 
 
 def imports(text):
@@ -28,7 +31,8 @@ def cites(text, known):
 
 
 def defined_in(part):
-    """The names that these lines define. Fields and constructors are none: who meets one has met its type."""
+    """The names that these lines define. Fields and constructors are none: who meets one has met
+    its type."""
     owner = None
     for line in part:
         found = DEFINES.match(line)
@@ -52,7 +56,10 @@ class Spec:
         self.imports = imports(text)
         kept = [line for line in text.splitlines() if not line.startswith("use ")]
         parts = [part.split("\n") for part in re.split(r"\n\s*\n", "\n".join(kept))]
-        self.parts = [[line for line in part if line.strip() and not line.strip().startswith("module ")] for part in parts]
+        self.parts = [
+            [line for line in part if line.strip() and not line.strip().startswith("module ")]
+            for part in parts
+        ]
         self.defined = {}
         for at, part in enumerate(self.parts):
             for name in defined_in(part):
@@ -66,7 +73,8 @@ class Spec:
 
 
 def by_definitions(cited, given=None):
-    """The definitions, as file and place in it, that these names of files rest on, but for what one that is given rests on."""
+    """The definitions, as file and place in it, that these names of files rest on, but for what one
+    that is given rests on."""
     found, left = set(), list(cited)
     while left:
         path, name = left.pop()

@@ -117,8 +117,8 @@ static enum fault socket_fault(int error) {
     return error == ECONNRESET || error == EPIPE ? FAULT_CLOSED : FAULT_SOCKET;
 }
 
-/* Waits where a call on the socket would have waited. FAULT_NONE: it may be made again. To be called
- * right behind it. */
+/* Waits where a call on the socket would have waited. FAULT_NONE: it may be made again. To be
+ * called right behind it. */
 static enum fault retry_socket(const struct channel *channel, ssize_t moved, short events) {
     if (moved == 0)
         return FAULT_CLOSED;

@@ -69,7 +69,8 @@ static int usage(void) {
 static bool read_arguments(char **words, struct settings *settings) {
     return arguments_read(words, arguments, settings) && settings->host && settings->user &&
            !settings->trust.file != !settings->trust.fingerprint &&
-           below_knows(settings->mechanism, settings->negotiate) && settings->password_fd <= NO_DESCRIPTOR;
+           below_knows(settings->mechanism, settings->negotiate) &&
+           settings->password_fd <= NO_DESCRIPTOR;
 }
 
 /* A host over GSSAPI, bound to the key of the channel. It and GSSAPI keep copies of the

@@ -50,15 +50,17 @@ static const struct argument arguments[] = {
 };
 
 static int usage(void) {
-    fputs("usage: credssp-server --certificate FILE --key FILE [--users FILE] [--address HOST]\n"
-          "    [--port PORT] [--mechanism ntlm|kerberos|spnego|both] [--negotiate] [--version N]\n"
-          "    [--least-version N] [--seconds N] [--early] [--admit USER] [--show-password]\n"
-          "    [--trace]\n"
-          "FILE of --users has lines DOMAIN:user:password, and user@REALM for Kerberos. --negotiate\n"
-          "has this library's SPNEGO take the mechanism, or both, from users of that file alone;\n"
-          "spnego is that of GSSAPI. --seconds is how long the exchange may take in all, from the\n"
-          "connection on, 60 if left out. --early offers HYBRID_EX too. --trace shows each message.\n",
-          stderr);
+    fputs(
+        "usage: credssp-server --certificate FILE --key FILE [--users FILE] [--address HOST]\n"
+        "    [--port PORT] [--mechanism ntlm|kerberos|spnego|both] [--negotiate] [--version N]\n"
+        "    [--least-version N] [--seconds N] [--early] [--admit USER] [--show-password]\n"
+        "    [--trace]\n"
+        "FILE of --users has lines DOMAIN:user:password, and user@REALM for Kerberos. --negotiate\n"
+        "has this library's SPNEGO take the mechanism, or both, from users of that file alone;\n"
+        "spnego is that of GSSAPI. --seconds is how long the exchange may take in all, from the\n"
+        "connection on, 60 if left out. --early offers HYBRID_EX too. --trace shows each "
+        "message.\n",
+        stderr);
     return 2;
 }
 

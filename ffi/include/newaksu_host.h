@@ -62,8 +62,9 @@ typedef struct newaksu_mechanism {
     /* Called once with the pointer, when the host is released, or may be null. */
     void (*release)(void *context);
 
-    /* Of a mechanism that is negotiated alone, and else null: writes the MIC of a list of mechanisms
-     * (GSS_GetMIC, RFC 4178 section 5) as this end's next, once the authentication has ended here. */
+    /* Of a mechanism that is negotiated alone, and else null: writes the MIC of a list of
+     * mechanisms (GSS_GetMIC, RFC 4178 section 5) as this end's next, once the authentication has
+     * ended here. */
     uint32_t (*sign)(void *context, const uint8_t *list, size_t length, newaksu_bytes *mic);
 
     /* Likewise: NEWAKSU_OK where this is the peer's next MIC of this list, else
@@ -171,11 +172,11 @@ typedef struct newaksu_mechanisms {
  *
  * A client offers what it has, with a token of Kerberos where it has one. It never falls back by
  * itself: where its Kerberos refuses the first step, the exchange is refused, and the caller may
- * make a client of NTLM alone. A server also takes NTLM that comes without SPNEGO, if it has it: the
- * first token then begins with the octets "NTLMSSP" and a zero.
+ * make a client of NTLM alone. A server also takes NTLM that comes without SPNEGO, if it has it:
+ * the first token then begins with the octets "NTLMSSP" and a zero.
  *
- * A server that takes anyone whom its mechanism names finds no user for a MIC, and refuses where one
- * is needed, as NEWAKSU_E_NO_CREDENTIALS: list the users.
+ * A server that takes anyone whom its mechanism names finds no user for a MIC, and refuses where
+ * one is needed, as NEWAKSU_E_NO_CREDENTIALS: list the users.
  *
  * A client always wants a MIC of its server, and a server sends one for NTLM, for a choice that is
  * not the client's first, and for a context that is `user_to_user`. So a Kerberos that both ends

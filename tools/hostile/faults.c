@@ -1,4 +1,5 @@
-/* Preloaded before a program, it has one call of a kind fail, or move a single byte. The environment says which:
+/* Preloaded before a program, it has one call of a kind fail, or move a single byte. The
+ * environment says which:
  *
  *   FAULT_KIND   alloc, read, write, short-read or short-write
  *   FAULT_AT     the number of the call, from 1; 0 for none
@@ -26,7 +27,9 @@ static void *real(const char *name) { return dlsym(RTLD_NEXT, name); }
 
 __attribute__((constructor)) static void begin(void)
 {
-    static const char *const names[] = { "", "alloc", "read", "write", "short-read", "short-write" };
+    static const char *const names[] = {
+        "", "alloc", "read", "write", "short-read", "short-write"
+    };
     const char *wanted = getenv("FAULT_KIND"), *number = getenv("FAULT_AT");
     for (int i = ALLOC; wanted && i <= SHORT_WRITE; i++)
         if (strcmp(wanted, names[i]) == 0)

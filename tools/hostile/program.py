@@ -10,11 +10,17 @@ SECONDS = 10
 
 
 def program(given):
-    """The path of the program: the one that is given, or what `rt run` builds of `crates/sspi_run`."""
+    """The path of the program: the one that is given,
+    or what `rt run` builds of `crates/sspi_run`."""
     if given:
         return os.path.abspath(given)
     folder = TOP / "crates" / "sspi_run"
-    ran = subprocess.run(["rt", "run", "--", "gen", "1"], cwd=folder, stdin=subprocess.DEVNULL, stdout=subprocess.DEVNULL)
+    ran = subprocess.run(
+        ["rt", "run", "--", "gen", "1"],
+        cwd=folder,
+        stdin=subprocess.DEVNULL,
+        stdout=subprocess.DEVNULL,
+    )
     if ran.returncode != 0:
         sys.exit("the program is not built")
     return str(folder / "out" / "sspi_run")
@@ -23,8 +29,15 @@ def program(given):
 def run(program, words, text, environment=None):
     """The exit status of a run, below 0 for a signal and None where it hangs, and what it wrote."""
     try:
-        ran = subprocess.run([program, *words], input=text, env=environment or {}, stdout=subprocess.PIPE,
-                             stderr=subprocess.DEVNULL, timeout=SECONDS, check=False)
+        ran = subprocess.run(
+            [program, *words],
+            input=text,
+            env=environment or {},
+            stdout=subprocess.PIPE,
+            stderr=subprocess.DEVNULL,
+            timeout=SECONDS,
+            check=False,
+        )
     except subprocess.TimeoutExpired:
         return None, b""
     return ran.returncode, ran.stdout

@@ -1,4 +1,5 @@
-"""What the two programs do beside a logon: where a peer never ends its message, and where somebody leaves at the prompt."""
+"""What the two programs do beside a logon: where a peer never ends its message, and where somebody
+leaves at the prompt."""
 import fcntl
 import os
 import pty
@@ -93,9 +94,12 @@ def client_is_left_waiting(ours):
 
 
 def at_the_prompt(ours, port, typed):
-    """Runs a client at a terminal of its own and types at its prompt. Whether it echoed before and behind that, and what it said."""
-    words = [str(ours.folder / "credssp-client"), "--host", "localhost", "--port", str(port), "--user", NAME, "--certificate",
-             str(ours.certificate)]
+    """Runs a client at a terminal of its own and types at its prompt. Whether it echoed before and
+    behind that, and what it said."""
+    words = [
+        str(ours.folder / "credssp-client"), "--host", "localhost", "--port", str(port),
+        "--user", NAME, "--certificate", str(ours.certificate),
+    ]
     master, slave = pty.openpty()
 
     def echoes():
@@ -106,7 +110,14 @@ def at_the_prompt(ours, port, typed):
         # a shell's background job would hand on that they are ignored
         signal.signal(signal.SIGINT, signal.SIG_DFL)
         signal.signal(signal.SIGQUIT, signal.SIG_DFL)
-    client = subprocess.Popen(words, stdin=slave, stdout=slave, stderr=slave, start_new_session=True, preexec_fn=with_terminal)
+    client = subprocess.Popen(
+        words,
+        stdin=slave,
+        stdout=slave,
+        stderr=slave,
+        start_new_session=True,
+        preexec_fn=with_terminal,
+    )
     seen = b""
     while b"Password: " not in seen:
         seen += os.read(master, 1024)
@@ -136,17 +147,28 @@ def somebody_types(ours):
     server, port = ours.start()
     echo, said = at_the_prompt(ours, port, PASSWORD.encode() + b"\n")
     ours.stop(server)
-    return echo and said.status == 0 and "delegated" in said.text and PASSWORD not in said.text, said
+    return (
+        echo and said.status == 0 and "delegated" in said.text and PASSWORD not in said.text,
+        said,
+    )
 
 
 def checks(ours):
-    """The name of each, and what runs it: whether it came as expected, and what the program said."""
+    """The name of each, and what runs it:
+    whether it came as expected, and what the program said."""
     return [
-        ("a client sends its X.224 request a byte at a time", lambda: server_is_left_waiting(ours, without_tls, "X.224")),
-        ("a client sends a request in records of one byte",
-         lambda: server_is_left_waiting(ours, lambda port: over_tls(port, False), "CredSSP")),
-        ("a client sends a TLS record a byte at a time",
-         lambda: server_is_left_waiting(ours, lambda port: over_tls(port, True), "CredSSP")),
+        (
+            "a client sends its X.224 request a byte at a time",
+            lambda: server_is_left_waiting(ours, without_tls, "X.224"),
+        ),
+        (
+            "a client sends a request in records of one byte",
+            lambda: server_is_left_waiting(ours, lambda port: over_tls(port, False), "CredSSP"),
+        ),
+        (
+            "a client sends a TLS record a byte at a time",
+            lambda: server_is_left_waiting(ours, lambda port: over_tls(port, True), "CredSSP"),
+        ),
         ("a server sends its X.224 confirm a byte at a time", lambda: client_is_left_waiting(ours)),
         ("the password is typed at the prompt", lambda: somebody_types(ours)),
         ("Ctrl-C at the prompt", lambda: somebody_leaves(ours, b"sec\x03", signal.SIGINT)),

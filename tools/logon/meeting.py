@@ -15,12 +15,15 @@ NAME = f"{DOMAIN}\\{USER}"
 
 @dataclass
 class Expected:
-    """The exit status of a side, None for any, and expressions each of which must be found in what it said."""
+    """The exit status of a side, None for any, and expressions each of which must be found in what
+    it said."""
     status: int | None
     expressions: tuple
 
     def is_met(self, said):
-        return self.status in (None, said.status) and all(re.search(one, said.text) for one in self.expressions)
+        return self.status in (None, said.status) and all(
+            re.search(one, said.text) for one in self.expressions
+        )
 
     def found(self, said):
         """What was said of that which was expected."""
@@ -45,12 +48,17 @@ class Row:
         return f"{self.pair}: {self.name}\n    client: {self.client}\n    server: {self.server}"
 
     def markdown(self):
-        return "| " + " | ".join(text.replace("|", "\\|") for text in (self.name, self.client, self.server)) + " |\n"
+        return (
+            "| "
+            + " | ".join(text.replace("|", "\\|") for text in (self.name, self.client, self.server))
+            + " |\n"
+        )
 
 
 @dataclass
 class Logon:
-    """`start` answers a server and its port, `stop` what it said, `connect` a client's run at a port, `between` a relay to a port."""
+    """`start` answers a server and its port, `stop` what it said, `connect` a client's run at a
+    port, `between` a relay to a port."""
     pair: str
     name: str
     start: Callable
@@ -102,31 +110,73 @@ class Table:
         text = certificate.read_text().strip("\0\n")
         return ["--fingerprint", hashlib.sha256(ssl.PEM_cert_to_DER_cert(text)).hexdigest()]
 
-    def freerdp_at_ours(self, name, client, server, words=(), client_words=("/sec:nla",), user=USER, password=PASSWORD, domain=DOMAIN,
-                        kerberos=None, **more):
+    def freerdp_at_ours(
+        self, name, client, server, words=(), client_words=("/sec:nla",),
+        user=USER, password=PASSWORD, domain=DOMAIN, kerberos=None, **more
+    ):
         self.logons.append(Logon(
-            f"{self.freerdp.name} at ours", name, lambda: self.ours.start(*words), self.ours.stop,
-            lambda port: self.freerdp.connect(port, domain, user, password, *client_words, kerberos=kerberos), client, server, **more))
+            f"{self.freerdp.name} at ours",
+            name,
+            lambda: self.ours.start(*words),
+            self.ours.stop,
+            lambda port: self.freerdp.connect(
+                port, domain, user, password, *client_words, kerberos=kerberos
+            ),
+            client,
+            server,
+            **more,
+        ))
 
-    def ours_at_freerdp(self, name, client, server, words=(), server_words=("/sec:nla",), user=NAME, password=PASSWORD, trust=None,
-                        environment=None, **more):
+    def ours_at_freerdp(
+        self, name, client, server, words=(), server_words=("/sec:nla",),
+        user=NAME, password=PASSWORD, trust=None, environment=None, **more
+    ):
         def start():
             sam = self.work / "sam"
             users = ((USER, PASSWORD), (OTHER_USER, OTHER_PASSWORD))
-            sam.write_text("".join(self.freerdp.sam_line(DOMAIN, *user) for user in users), encoding="utf8")
+            sam.write_text(
+                "".join(self.freerdp.sam_line(DOMAIN, *user) for user in users), encoding="utf8"
+            )
             kerberos = {"KRB5_CONFIG": environment["KRB5_CONFIG"]} if environment else None
             return self.freerdp.start(sam, *server_words, environment=kerberos)
 
         def connect(port):
             certificate, _ = self.freerdp.files()
-            return self.ours.connect(port, user, password, *words, trust=trust or self.fingerprint(certificate), environment=environment)
-        self.logons.append(Logon(f"ours at {self.freerdp.name}", name, start, self.freerdp.stop, connect, client, server, **more))
-
-    def ours_at_ours(self, name, client, server, words=(), server_words=(), user=NAME, password=PASSWORD, trust=None, environment=None,
-                     **more):
+            return self.ours.connect(
+                port,
+                user,
+                password,
+                *words,
+                trust=trust or self.fingerprint(certificate),
+                environment=environment,
+            )
         self.logons.append(Logon(
-            "ours at ours", name, lambda: self.ours.start(*server_words, environment=environment), self.ours.stop,
-            lambda port: self.ours.connect(port, user, password, *words, trust=trust, environment=environment), client, server, **more))
+            f"ours at {self.freerdp.name}",
+            name,
+            start,
+            self.freerdp.stop,
+            connect,
+            client,
+            server,
+            **more,
+        ))
+
+    def ours_at_ours(
+        self, name, client, server, words=(), server_words=(),
+        user=NAME, password=PASSWORD, trust=None, environment=None, **more
+    ):
+        self.logons.append(Logon(
+            "ours at ours",
+            name,
+            lambda: self.ours.start(*server_words, environment=environment),
+            self.ours.stop,
+            lambda port: self.ours.connect(
+                port, user, password, *words, trust=trust, environment=environment
+            ),
+            client,
+            server,
+            **more,
+        ))
 
     def other(self, port):
         """A relay with a certificate of its own."""
@@ -150,25 +200,35 @@ def rewriting(number):
 
 def cutting(whose, which):
     """Half of one message, and then the end of the connection."""
-    return lambda sender, count, request: request[:len(request) // 2] if (sender, count) == (whose, which) else request
+    return lambda sender, count, request: (
+        request[:len(request) // 2] if (sender, count) == (whose, which) else request
+    )
 
 
 def spoiling(whose, which):
     """One message is no TSRequest: its version has another tag."""
     def edit(sender, count, request):
         _, begin, _ = tsrequest.header(request, 0)
-        return request[:begin] + b"\xaf" + request[begin + 1:] if (sender, count) == (whose, which) else request
+        return (
+            request[:begin] + b"\xaf" + request[begin + 1:]
+            if (sender, count) == (whose, which)
+            else request
+        )
     return edit
 
 
 def garbling(whose, which, number):
     """One bit is changed in a field of one message."""
-    return lambda sender, count, request: tsrequest.garbled(request, number) if (sender, count) == (whose, which) else request
+    return lambda sender, count, request: (
+        tsrequest.garbled(request, number) if (sender, count) == (whose, which) else request
+    )
 
 
 def editing(whose, which, path, edit):
     """What is at a path of one message is changed, with all lengths around it."""
-    return lambda sender, count, request: tsrequest.within(request, path, edit) if (sender, count) == (whose, which) else request
+    return lambda sender, count, request: (
+        tsrequest.within(request, path, edit) if (sender, count) == (whose, which) else request
+    )
 
 
 def both_of(first, second):
@@ -177,5 +237,8 @@ def both_of(first, second):
 
 def stripping(whose):
     """Each MIC of one end is taken out."""
-    return lambda sender, count, request: tsrequest.within(request, tsrequest.ANSWERED, tsrequest.without(tsrequest.MIC)) \
-        if sender == whose else request
+    return lambda sender, count, request: (
+        tsrequest.within(request, tsrequest.ANSWERED, tsrequest.without(tsrequest.MIC))
+        if sender == whose
+        else request
+    )

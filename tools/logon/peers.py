@@ -1,4 +1,5 @@
-"""The ends of a logon: ours, and those of FreeRDP 2 or 3. Each run answers what the end said and how it ended."""
+"""The ends of a logon: ours, and those of FreeRDP 2 or 3. Each run answers what the end said and
+how it ended."""
 import os
 import re
 import shutil
@@ -18,7 +19,8 @@ class Said:
     status: int | None
 
     def everything(self):
-        """For a logon that came otherwise than expected: the status and the last lines, but what NTLM says of its flags."""
+        """For a logon that came otherwise than expected: the status and the last lines, but what
+        NTLM says of its flags."""
         lines = [line for line in self.text.splitlines() if "sspi.NTLM" not in line]
         return "\n".join(["", f"status {self.status}", *lines[-20:]]).replace("\n", "\n        ")
 
@@ -53,7 +55,10 @@ class Ours:
         """A server, once it listens; answers the process and its port."""
         port = free_port()
         self.log.unlink(missing_ok=True)
-        words = [self.folder / "credssp-server", "--certificate", self.certificate, "--key", self.key, "--port", str(port), *arguments]
+        words = [
+            self.folder / "credssp-server", "--certificate", self.certificate, "--key", self.key,
+            "--port", str(port), *arguments,
+        ]
         if "--mechanism" not in arguments:
             words += ["--users", self.work / "users"]
         with self.log.open("wb") as log:
@@ -76,10 +81,20 @@ class Ours:
         read_end, write_end = os.pipe()
         os.write(write_end, password.encode() + b"\n")
         os.close(write_end)
-        words = [self.folder / "credssp-client", "--host", "localhost", "--port", str(port), "--user", user,
-                 "--password-fd", str(read_end), *(trust or ["--certificate", self.certificate]), *arguments]
-        ran = subprocess.run(words, stdout=subprocess.PIPE, stderr=subprocess.STDOUT, pass_fds=[read_end], timeout=SECONDS,
-                             env=environment, check=False)
+        words = [
+            self.folder / "credssp-client", "--host", "localhost", "--port", str(port),
+            "--user", user, "--password-fd", str(read_end),
+            *(trust or ["--certificate", self.certificate]), *arguments,
+        ]
+        ran = subprocess.run(
+            words,
+            stdout=subprocess.PIPE,
+            stderr=subprocess.STDOUT,
+            pass_fds=[read_end],
+            timeout=SECONDS,
+            env=environment,
+            check=False,
+        )
         os.close(read_end)
         return Said(ran.stdout.decode(errors="replace"), ran.returncode)
 
@@ -107,14 +122,27 @@ class FreeRdp:
         read_end, write_end = os.pipe()
         with (self.work / "xvfb.log").open("wb") as log:
             # without a reset it stays when its last client has gone
-            words = ["Xvfb", "-displayfd", str(write_end), "-screen", "0", "640x480x24", "-nolisten", "tcp", "-noreset"]
+            words = [
+                "Xvfb", "-displayfd", str(write_end), "-screen", "0", "640x480x24",
+                "-nolisten", "tcp", "-noreset",
+            ]
             self.display = subprocess.Popen(words, pass_fds=[write_end], stdout=log, stderr=log)
         os.close(write_end)
         with os.fdopen(read_end) as answer:
             number = answer.readline().strip()
-        self.environment = {"PATH": os.environ["PATH"], "HOME": str(self.home), "DISPLAY": f":{number}", "WLOG_LEVEL": "DEBUG",
-                            "XDG_RUNTIME_DIR": str(self.work)}
-        shown = subprocess.run([self.client, "/version"], env=self.environment, stdout=subprocess.PIPE, stderr=subprocess.STDOUT)
+        self.environment = {
+            "PATH": os.environ["PATH"],
+            "HOME": str(self.home),
+            "DISPLAY": f":{number}",
+            "WLOG_LEVEL": "DEBUG",
+            "XDG_RUNTIME_DIR": str(self.work),
+        }
+        shown = subprocess.run(
+            [self.client, "/version"],
+            env=self.environment,
+            stdout=subprocess.PIPE,
+            stderr=subprocess.STDOUT,
+        )
         found = re.search(rb"version (\d+\.\d+\.\d+)", shown.stdout)
         self.version = found.group(1).decode() if found else "?"
         self.name = f"FreeRDP {self.version}"
@@ -129,9 +157,17 @@ class FreeRdp:
         for _ in range(3):
             port = free_port()
             # its log goes through stdio, which would keep the last lines to itself
-            words = ["stdbuf", "-oL", self.shadow, f"/port:{port}", "/bind-address:127.0.0.1", f"/sam-file:{sam}", *arguments]
+            words = [
+                "stdbuf", "-oL", self.shadow, f"/port:{port}", "/bind-address:127.0.0.1",
+                f"/sam-file:{sam}", *arguments,
+            ]
             with self.log.open("wb") as log, self.errors.open("wb") as errors:
-                server = subprocess.Popen(words, stdout=log, stderr=errors, env={**self.environment, **(environment or {})})
+                server = subprocess.Popen(
+                    words,
+                    stdout=log,
+                    stderr=errors,
+                    env={**self.environment, **(environment or {})},
+                )
             try:
                 wait_for(self.log, f"]:{port}", server)
                 return server, port
@@ -139,7 +175,9 @@ class FreeRdp:
                 # somebody else may have taken the port meanwhile
                 server.kill()
                 server.wait()
-        raise TimeoutError(f"{self.shadow} does not listen: {self.errors.read_text(errors='replace')}")
+        raise TimeoutError(
+            f"{self.shadow} does not listen: {self.errors.read_text(errors='replace')}"
+        )
 
     def stop(self, server):
         # what it says of a connection that has ended may come a little later
@@ -150,7 +188,9 @@ class FreeRdp:
         except subprocess.TimeoutExpired:
             server.kill()
             server.wait()
-        return Said(self.log.read_text(errors="replace") + self.errors.read_text(errors="replace"), None)
+        return Said(
+            self.log.read_text(errors="replace") + self.errors.read_text(errors="replace"), None
+        )
 
     def files(self):
         """The certificate and key that the shadow server made for itself."""
@@ -159,18 +199,36 @@ class FreeRdp:
         return certificate, next(folder.glob("*.key"))
 
     def sam_line(self, domain, user, password):
-        made = subprocess.run([self.hash, "-u", user, "-d", domain, "-p", password, "-f", "sam"], env=self.environment,
-                              stdout=subprocess.PIPE, check=True)
+        made = subprocess.run(
+            [self.hash, "-u", user, "-d", domain, "-p", password, "-f", "sam"],
+            env=self.environment,
+            stdout=subprocess.PIPE,
+            check=True,
+        )
         return made.stdout.decode()
 
     def connect(self, port, domain, user, password, *arguments, kerberos=None):
         """`kerberos`: the environment of a realm, which lets it offer Kerberos too."""
-        environment = {**self.environment, **({"KRB5_CONFIG": kerberos["KRB5_CONFIG"]} if kerberos else {})}
+        environment = {
+            **self.environment,
+            **({"KRB5_CONFIG": kerberos["KRB5_CONFIG"]} if kerberos else {}),
+        }
         # FreeRDP warns of passwords on a command line; this one is made up for the run
-        words = [self.client, f"/v:127.0.0.1:{port}", "/cert:ignore", "+auth-only", f"/d:{domain}", f"/u:{user}", f"/p:{password}",
-                 *(arguments or ["/sec:nla"])]
+        words = [
+            self.client, f"/v:127.0.0.1:{port}", "/cert:ignore", "+auth-only",
+            f"/d:{domain}", f"/u:{user}", f"/p:{password}", *(arguments or ["/sec:nla"]),
+        ]
         try:
-            ran = subprocess.run(words, stdin=subprocess.DEVNULL, capture_output=True, timeout=SECONDS, env=environment, check=False)
+            ran = subprocess.run(
+                words,
+                stdin=subprocess.DEVNULL,
+                capture_output=True,
+                timeout=SECONDS,
+                env=environment,
+                check=False,
+            )
         except subprocess.TimeoutExpired as late:
-            return Said(((late.stdout or b"") + (late.stderr or b"")).decode(errors="replace"), None)
+            return Said(
+                ((late.stdout or b"") + (late.stderr or b"")).decode(errors="replace"), None
+            )
         return Said((ran.stdout + ran.stderr).decode(errors="replace"), ran.returncode)

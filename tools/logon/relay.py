@@ -1,5 +1,6 @@
-"""A relay between a client and a server of RDP: the X.224 negotiation as it comes, then a TLS session of its own with each of the
-two, and between them the requests of CredSSP, each edited if it is to be. It has one connection and keeps what was sent."""
+"""A relay between a client and a server of RDP: the X.224 negotiation as it comes, then a TLS
+session of its own with each of the two, and between them the requests of CredSSP, each edited if it
+is to be. It has one connection and keeps what was sent."""
 import select
 import socket
 import ssl
@@ -12,8 +13,9 @@ SECONDS = 10
 
 
 class Relay(threading.Thread):
-    """`edit(sender, number, request)` answers what is sent in place of a request: `sender` is "client" or "server", `number` counts
-    its requests from 1. Shorter octets than a whole request are followed by the end of the connection."""
+    """`edit(sender, number, request)` answers what is sent in place of a request: `sender` is
+    "client" or "server", `number` counts its requests from 1. Shorter octets than a whole request
+    are followed by the end of the connection."""
 
     def __init__(self, certificate, key, target, edit=lambda sender, number, request: request):
         super().__init__(daemon=True)
@@ -44,7 +46,10 @@ class Relay(threading.Thread):
         facing_server = ssl.SSLContext(ssl.PROTOCOL_TLS_CLIENT)
         facing_server.check_hostname = False
         facing_server.verify_mode = ssl.CERT_NONE
-        return facing_client.wrap_socket(client, server_side=True), facing_server.wrap_socket(server)
+        return (
+            facing_client.wrap_socket(client, server_side=True),
+            facing_server.wrap_socket(server),
+        )
 
     def pass_on(self, ends):
         counts = {"client": 0, "server": 0}
@@ -67,7 +72,8 @@ class Relay(threading.Thread):
 
     @staticmethod
     def first_of(ends):
-        """The end that sends next, and its first byte. What makes a socket readable may be a ticket of TLS, and no data."""
+        """The end that sends next, and its first byte. What makes a socket readable may be a ticket
+        of TLS, and no data."""
         latest = time.monotonic() + SECONDS
         while time.monotonic() < latest:
             for name, end in ends.items():
@@ -83,4 +89,8 @@ class Relay(threading.Thread):
 
     def credentials_left(self):
         """Whether a request with authInfo came from the client."""
-        return any(tsrequest.AUTH_INFO in tsrequest.fields(request) for sender, request in self.seen if sender == "client")
+        return any(
+            tsrequest.AUTH_INFO in tsrequest.fields(request)
+            for sender, request in self.seen
+            if sender == "client"
+        )

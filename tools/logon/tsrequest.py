@@ -1,4 +1,5 @@
-"""TSRequests as they lie on the wire: where one ends, where each field is, and how one is edited in place."""
+"""TSRequests as they lie on the wire:
+where one ends, where each field is, and how one is edited in place."""
 
 # the fields, by their tags
 VERSION, NEGO_TOKENS, AUTH_INFO, PUB_KEY_AUTH = range(4)
@@ -53,7 +54,8 @@ def with_version(request, number):
 
 
 def garbled(request, field):
-    """The request with one bit of the last octet of the field's value changed; None where it has no such field."""
+    """The request with one bit of the last octet of the field's value changed;
+    None where it has no such field."""
     found = fields(request)
     if field not in found:
         return None
@@ -63,7 +65,8 @@ def garbled(request, field):
 
 # ---- fields rebuilt, whose lengths may change
 
-# where the token of SPNEGO is, by the tags around it, and where in it are an offer's list and an answer's fields
+# where the token of SPNEGO is, by the tags around it, and where in it are an offer's list and an
+# answer's fields
 TOKEN = (0x30, 0xA1, 0x30, 0x30, 0xA0, 0x04)
 OFFERED = (*TOKEN, 0x60, 0xA0, 0x30, 0xA0, 0x30)
 ANSWERED = (*TOKEN, 0xA1, 0x30)
@@ -74,7 +77,9 @@ MIC = 0xA3
 def element(tag, content):
     length = len(content)
     count = (length.bit_length() + 7) // 8
-    short = bytes([length]) if length < 0x80 else bytes([0x80 | count]) + length.to_bytes(count, "big")
+    short = (
+        bytes([length]) if length < 0x80 else bytes([0x80 | count]) + length.to_bytes(count, "big")
+    )
     return bytes([tag]) + short + content
 
 
@@ -90,9 +95,14 @@ def within(data, path, edit):
     """The elements, with the content at this path of tags edited, where there is such a path."""
     if not path:
         return edit(data)
-    return b"".join(element(tag, within(content, path[1:], edit) if tag == path[0] else content) for tag, content in parts(data))
+    return b"".join(
+        element(tag, within(content, path[1:], edit) if tag == path[0] else content)
+        for tag, content in parts(data)
+    )
 
 
 def without(tag):
     """An edit that leaves out the elements of this tag."""
-    return lambda data: b"".join(element(found, content) for found, content in parts(data) if found != tag)
+    return lambda data: b"".join(
+        element(found, content) for found, content in parts(data) if found != tag
+    )

@@ -3,8 +3,8 @@
 //!
 //! - [`Client`] and [`Server`]: the ends of the exchange. Each takes one message of its peer a
 //!   call, over a [`Mechanism`], as an NTLM or a Kerberos that the program has.
-//! - [`NegotiatingClient`] and [`NegotiatingServer`]: the same over two mechanisms, by the SPNEGO of
-//!   this library (RFC 4178).
+//! - [`NegotiatingClient`] and [`NegotiatingServer`]: the same over two mechanisms, by the SPNEGO
+//!   of this library (RFC 4178).
 //! - [`TsRequest`], [`TsReader`] and [`requests`]: the messages, whole, in pieces, and one behind
 //!   the other.
 //! - [`TsCredentials`], [`EarlyResult`], [`NegTokenInit`] and [`NegTokenResp`]: what else is read

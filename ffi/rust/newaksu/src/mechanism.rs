@@ -17,9 +17,9 @@ pub enum Step {
 /// A refusal is the SECURITY_STATUS of its kind; a number that SSPI does not name as an error
 /// counts as `INVALID_TOKEN`. Once a call refused, no other is made.
 pub trait Mechanism {
-    /// Takes the peer's token and makes the own one. The token is empty in a client's first step, and
-    /// whenever the peer's message has none: then a mechanism refuses, and does not begin anew. Not
-    /// called again once it was [`Step::Done`].
+    /// Takes the peer's token and makes the own one. The token is empty in a client's first step,
+    /// and whenever the peer's message has none: then a mechanism refuses, and does not begin anew.
+    /// Not called again once it was [`Step::Done`].
     fn step(&mut self, token: &[u8]) -> Result<Step, SecurityStatus>;
 
     /// Seals a text as this end's next message, with its signature in front, as SSPI's
