@@ -4,8 +4,8 @@
 PREFIX ?= /usr/local
 
 # Carries one delegation and shows its messages, each with the end that sent it, and the outcome.
-# At once where the gate or `make program` left the program, else in half a minute, which proves
-# nothing.
+# At once where the gate or `make program` left the program, else in about a minute of two
+# processors, which proves nothing.
 run:
 	@tools/run delegate examples/delegate.scenario
 
@@ -17,8 +17,8 @@ explain:
 play:
 	@tools/run play examples/play.scenario
 
-# Proves the program with every library below it, and leaves it for `make run` and tools/run: some
-# 30 processor minutes the first time.
+# Proves the program with every library below it, and leaves it for `make run` and tools/run: 45 to
+# 95 processor minutes the first time.
 program:
 	@cd crates/sspi_run && rt run -- gen 1 > /dev/null
 
@@ -48,7 +48,8 @@ size:
 apart:
 	@tools/apart
 
-# The code in README.md and docs/GUIDE.md that is not, line for line, in the file that it names.
+# The code in README.md, docs/GUIDE.md and docs/LIBRARY.md that is not, line for line, in the file
+# that it names.
 guide:
 	@tools/guide
 
