@@ -89,7 +89,10 @@ static uint32_t step(void *context, const uint8_t *token, size_t length, newaksu
             gss_init_sec_context(&minor, gss->credentials, &gss->context, gss->target,
                                  gss->mechanism, gss->dce_style ? wanted | GSS_C_DCE_STYLE : wanted,
                                  0, GSS_C_NO_CHANNEL_BINDINGS, &taken, NULL, &given, &flags, NULL);
-    if (gss->server)
+    /* of a Kerberos that wants another token of its client GSSAPI tells no flags yet */
+    if (gss->server && (major & GSS_S_CONTINUE_NEEDED))
+        gss->dce_style = gss->mechanism == &kerberos;
+    else if (gss->server)
         gss->dce_style = flags & GSS_C_DCE_STYLE;
     uint32_t status = hand_over(&given, output);
     if (GSS_ERROR(major))
@@ -168,14 +171,47 @@ static uint32_t seal(void *context, const uint8_t *text, size_t length, newaksu_
     return status != NEWAKSU_OK || confidential ? status : NEWAKSU_E_INTERNAL_ERROR;
 }
 
+/* Opens what is laid out so, in place. In DCE style gss_unwrap does not. */
+static OM_uint32 unwrap_in_two(struct gss *gss, OM_uint32 *minor, gss_buffer_t sealed,
+                               int *confidential, newaksu_bytes *text, uint32_t *status) {
+    gss_iov_buffer_desc parts[2] = {{GSS_IOV_BUFFER_TYPE_HEADER, GSS_C_EMPTY_BUFFER},
+                                    {GSS_IOV_BUFFER_TYPE_DATA, *sealed}};
+    OM_uint32 major =
+        gss_wrap_iov_length(minor, gss->context, 1, GSS_C_QOP_DEFAULT, confidential, parts, 2);
+    size_t head = parts[0].buffer.length;
+    if (GSS_ERROR(major))
+        return major;
+    if (sealed->length < head)
+        return GSS_S_DEFECTIVE_TOKEN;
+    uint8_t *copy = malloc(sealed->length);
+    *minor = ENOMEM;
+    if (!copy)
+        return GSS_S_FAILURE;
+    memcpy(copy, sealed->value, sealed->length);
+    parts[0].buffer = buffer_of(copy, head);
+    parts[1].buffer = buffer_of(copy + head, sealed->length - head);
+    major = gss_unwrap_iov(minor, gss->context, confidential, NULL, parts, 2);
+    if (!GSS_ERROR(major))
+        *status = newaksu_bytes_append(text, parts[1].buffer.value, parts[1].buffer.length);
+    explicit_bzero(copy, sealed->length);
+    free(copy);
+    return major;
+}
+
 static uint32_t unseal(void *context, const uint8_t *blob, size_t length, newaksu_bytes *text) {
     struct gss *gss = context;
     gss_buffer_desc sealed = buffer_of(blob, length), plain = GSS_C_EMPTY_BUFFER;
     int confidential = 0;
-    OM_uint32 minor, major = gss_unwrap(&minor, gss->context, &sealed, &plain, &confidential, NULL);
+    uint32_t status = NEWAKSU_OK;
+    OM_uint32 minor, major;
+    if (gss->dce_style)
+        major = unwrap_in_two(gss, &minor, &sealed, &confidential, text, &status);
+    else
+        major = gss_unwrap(&minor, gss->context, &sealed, &plain, &confidential, NULL);
     if (GSS_ERROR(major))
         return refuse(gss, major, minor);
-    uint32_t status = hand_over(&plain, text);
+    if (!gss->dce_style)
+        status = hand_over(&plain, text);
     /* a replay, or one out of its turn, is told beside success */
     return confidential && !GSS_SUPPLEMENTARY_INFO(major) ? status : NEWAKSU_E_MESSAGE_ALTERED;
 }
