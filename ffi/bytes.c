@@ -17,7 +17,7 @@ void bytes_release(newaksu_bytes *bytes) {
     *bytes = (newaksu_bytes){0};
 }
 
-/* Room for so many bytes more. Not by realloc, which would leave a copy behind. */
+/* Room for that many more bytes. Not by realloc, which would leave a copy behind. */
 uint32_t bytes_reserve(newaksu_bytes *bytes, size_t more) {
     size_t capacity = bytes->capacity < 64 ? 64 : bytes->capacity;
     uint8_t *moved;

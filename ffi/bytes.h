@@ -17,11 +17,11 @@ void wipe(void *at, size_t length);
 /* Overwrites and frees what is there, and leaves nothing. */
 void bytes_release(newaksu_bytes *bytes);
 
-/* Room for so many bytes more. NEWAKSU_OK or NEWAKSU_E_INSUFFICIENT_MEMORY. */
+/* Room for that many more bytes. NEWAKSU_OK or NEWAKSU_E_INSUFFICIENT_MEMORY. */
 uint32_t bytes_reserve(newaksu_bytes *bytes, size_t more);
 
 /* Puts a text of UTF-8 behind the others, as UTF-16LE. NEWAKSU_E_INVALID_PARAMETER where it is no
- * UTF-8 (RFC 3629), NEWAKSU_E_INSUFFICIENT_MEMORY; a part of it may then stand there. */
+ * UTF-8 (RFC 3629), NEWAKSU_E_INSUFFICIENT_MEMORY; a part of it may then be there. */
 uint32_t append_utf16(newaksu_bytes *bytes, const uint8_t *text, size_t length);
 
 #endif

@@ -7,7 +7,7 @@
 #include <stdlib.h>
 #include <string.h>
 
-/* In front of each block stands its size. It takes as many bytes as the widest alignment that is
+/* Before each block is its size. It takes as many bytes as the widest alignment that is
  * asked for, which the block so keeps. */
 typedef struct header {
     _Alignas(16) size_t size;
@@ -22,7 +22,7 @@ tried rattle_alloc(size_t size, size_t align);
 tried rattle_realloc(uint8_t *at, size_t kept, size_t size, size_t align);
 void rattle_dealloc(uint8_t *at);
 
-/* What stands for the address of a block that there is none of: an address that is not null, and is
+/* The address of an empty block, which takes no memory: an address that is not null, and is
  * never written to. */
 static const uint8_t nothing;
 

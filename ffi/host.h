@@ -45,7 +45,7 @@ typedef struct findings {
     uint32_t status; /* why there was no way to go on */
 } findings;
 
-/* A pointer that the archive takes, which is never null; and whether one is there for so many
+/* A pointer that the archive takes, which is never null; and whether one is there for this many
  * octets. */
 const uint8_t *octets(const void *at);
 int is_there(const void *at, size_t length);

@@ -6,7 +6,7 @@
 #include <stddef.h>
 #include <stdint.h>
 
-/* What stands behind the word, and what the place is: nothing and a bool, a text and a pointer to
+/* What follows the word, and what the place is: nothing and a bool, a text and a pointer to
  * const char, a decimal number and a uint32_t. */
 enum argument_kind { ARGUMENT_FLAG, ARGUMENT_TEXT, ARGUMENT_NUMBER };
 

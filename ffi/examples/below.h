@@ -1,4 +1,4 @@
-/* What stands below a host: one mechanism of GSSAPI, or, where the host's own SPNEGO negotiates,
+/* What is below a host: one mechanism of GSSAPI, or, where the host's own SPNEGO negotiates,
  * NTLM and Kerberos, of which it picks one. */
 #ifndef NEWAKSU_EXAMPLE_BELOW_H
 #define NEWAKSU_EXAMPLE_BELOW_H

@@ -79,7 +79,7 @@ enum fault exchange_run(struct exchange *exchange, struct channel *channel, newa
     return fault == FAULT_NONE && progress == NEWAKSU_UNREAD ? FAULT_NOT_A_REQUEST : fault;
 }
 
-/* The name of what a server told: of an NTSTATUS, or of the SSPI code that stands in one, as
+/* The name of what a server told: of an NTSTATUS, or of the SSPI code inside one, as
  * CredSSP servers other than those of Windows tell it. Empty where there is none. */
 static void name_code(uint32_t code, char *name, size_t size) {
     size_t length = 0;

@@ -10,7 +10,7 @@
 #include <termios.h>
 #include <unistd.h>
 
-/* One byte at a time: what stands behind the line is not for us. */
+/* One byte at a time: what follows the line is not for us. */
 static enum fault read_line(int fd, char *line, size_t longest) {
     for (size_t used = 0; used <= longest;) {
         ssize_t got = read(fd, line + used, 1);

@@ -58,7 +58,7 @@ static enum fault write_message(struct channel *channel, uint8_t code, uint8_t t
     return channel_write(channel, message, sizeof message);
 }
 
-/* Where the negotiation stands: behind a routing token or cookie, which ends with a line, if
+/* Where the negotiation is: after a routing token or cookie, which ends with a line, if
  * there is one. NULL where there is none. */
 static const uint8_t *negotiation(const uint8_t *body, size_t length) {
     const uint8_t *at = body + X224_BYTES, *end = body + length;

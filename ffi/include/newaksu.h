@@ -89,7 +89,7 @@ uint32_t newaksu_error_name(uint32_t status, uint8_t *out, size_t capacity, size
 /* The name of an NTSTATUS, as "LOGON_FAILURE". NEWAKSU_ABSENT: it has none here. */
 uint32_t newaksu_nstatus_name(uint32_t code, uint8_t *out, size_t capacity, size_t *written);
 
-/* Objects stand behind a handle, one word that is zero where it is empty. Begin with NEWAKSU_EMPTY,
+/* Objects are behind a handle, one word that is zero where it is empty. Begin with NEWAKSU_EMPTY,
  * pass its address, and never copy one: the handle owns its object. A call that makes or decodes an
  * object puts it into the handle and releases what was in it, at NEWAKSU_OK alone. A released
  * handle is empty, so that using or releasing it again only answers NEWAKSU_E_INVALID_HANDLE, as a
@@ -132,7 +132,7 @@ uint32_t newaksu_request_new(newaksu_handle *request, uint32_t version);
 
 /* The request that the bytes begin with; what follows it is ignored. NEWAKSU_UNEXPECTED_EOF: the
  * header is bad, or fewer bytes are there than it announces, or the content ends inside an element.
- * NEWAKSU_INVALID_DATA: an element is not spelled as it must be. NEWAKSU_E_INSUFFICIENT_MEMORY. */
+ * NEWAKSU_INVALID_DATA: an element is not encoded as it must be. NEWAKSU_E_INSUFFICIENT_MEMORY. */
 uint32_t newaksu_request_decode(newaksu_handle *request, const uint8_t *bytes, size_t length);
 
 /* The shortest spelling. The error code is left out below version 3 and at version 5, the nonce
@@ -233,7 +233,7 @@ uint32_t newaksu_init_encode(newaksu_handle *init, uint8_t *out, size_t capacity
 /* NEWAKSU_ABSENT: there are no mechTypes. */
 uint32_t newaksu_init_mech_count(newaksu_handle *init, size_t *count);
 
-/* NEWAKSU_ABSENT: there are no mechTypes, or not so many. */
+/* NEWAKSU_ABSENT: there are no mechTypes, or fewer than that. */
 uint32_t newaksu_init_mech(newaksu_handle *init, size_t index, uint8_t *out, size_t capacity,
                            size_t *written);
 
@@ -385,7 +385,7 @@ uint32_t newaksu_end_state(newaksu_handle *end, uint32_t *state);
  *
  * Over plain NTLM the end steps and opens by itself, and both are empty.
  *
- * What stands in the message is never taken for an envelope or an opened text.
+ * What is in the message is never taken for an envelope or an opened text.
  * NEWAKSU_UNEXPECTED_EOF, NEWAKSU_INVALID_DATA: the message is no request, and the end is as it
  * was. NEWAKSU_E_INVALID_PARAMETER: another `opened_field`, or arguments that this end does not
  * take. Else the end's refusal: it keeps its state, newaksu_end_refusal has the cause, and of a

@@ -33,7 +33,7 @@ typedef struct newaksu_bytes newaksu_bytes;
  * mechanism's status. */
 uint32_t newaksu_bytes_append(newaksu_bytes *bytes, const void *data, size_t length);
 
-/* What stands below an end. Each function gets the pointer that the host was made with. It answers
+/* What is below an end. Each function gets the pointer that the host was made with. It answers
  * NEWAKSU_OK, or the SECURITY_STATUS (winerror.h) of its refusal, as NEWAKSU_E_INVALID_TOKEN,
  * NEWAKSU_E_LOGON_DENIED or NEWAKSU_E_MESSAGE_ALTERED; a number that SSPI does not name as an error
  * counts as NEWAKSU_E_INVALID_TOKEN. What it wrote at a refusal is dropped. The inputs are valid

@@ -12,7 +12,7 @@
 void check(int holds, const char *what, const char *file, int line);
 void check_status(uint32_t given, uint32_t wanted, const char *what, const char *file, int line);
 
-/* The bytes are those of the hex digits, between which blanks may stand. */
+/* The bytes are those of the hex digits, between which there may be blanks. */
 void check_bytes(const void *at, size_t length, const char *digits, const char *file, int line);
 
 /* Writes the bytes of the digits, and answers how many there are; there is room for `capacity`. */

@@ -1,5 +1,5 @@
 /* The codec: requests, credentials, the early result and the tokens of SPNEGO, by vectors that were
- * spelled by hand or came from other implementations, and buffers of every size. */
+ * encoded by hand or came from other implementations, and buffers of every size. */
 #include <stdlib.h>
 #include <string.h>
 
@@ -280,7 +280,7 @@ static void the_longest_request(void) {
     free(out);
 }
 
-/* The user `a`, and the example of MS-CSSP 2.2.1.2 as it is spelled by hand. */
+/* The user `a`, and the example of MS-CSSP 2.2.1.2 encoded by hand. */
 static void credentials(void) {
     static const char *const user_a =
         "3019 a003020101 a112 0410 300e a002 0400 a104 0402 6100 a202 0400";

@@ -1,6 +1,6 @@
 /* Mutated requests, and what the codec of the archive reads of them.
  *
- *     mutated inputs SEED COUNT    writes so many requests, a line of hex each
+ *     mutated inputs SEED COUNT    writes COUNT requests, a line of hex each
  *     mutated answers              reads such lines, and writes a line for each: version,
  * negoTokens, authInfo, pubKeyAuth, code, nonce and the shortest spelling of the request that it
  * begins with, or the fault

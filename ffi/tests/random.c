@@ -1,4 +1,4 @@
-/* Any call with any arguments on any handle, so many times: each gets a status, writes no more than
+/* Any call with any arguments on any handle, a given number of times: each gets a status, writes no more than
  * its capacity, and leaves the handle where it was if it was refused for it.
  *
  *     random [COUNT] */

@@ -28,7 +28,7 @@ static void check_client_refused(const struct exchange *exchange, uint32_t statu
           exchange->refusals[THE_CLIENT].has_nstatus == 0);
 }
 
-/* Whoever stands between two channels has another key on each. */
+/* Whoever is between two channels has another key on each. */
 static void another_key_of_the_channel(void) {
     struct setup setup = usual_setup();
     struct exchange exchange;
@@ -65,7 +65,7 @@ static void flip(void *context, int number, uint8_t *message, size_t *length) {
         message[flip->at] ^= flip->bits;
 }
 
-/* The sealed octets of pubKeyAuth stand behind a3 LL 04 LL, or of authInfo behind a2: the place of
+/* The sealed octets of pubKeyAuth follow a3 LL 04 LL, or of authInfo behind a2: the place of
  * the last of them. */
 static size_t last_of_blob(const uint8_t *message, size_t length, uint8_t tag) {
     for (size_t at = 0; at + 4 < length; at++)

@@ -1,4 +1,4 @@
-/* The tokens of SPNEGO (RFC 4178 4.2), by vectors that were spelled by hand or came from other
+/* The tokens of SPNEGO (RFC 4178 4.2), by vectors that were encoded by hand or came from other
  * implementations. */
 #include <string.h>
 

@@ -1,5 +1,5 @@
 //! The C interface of libnewaksu, as `newaksu.h` has it: what each call does, its errors and what
-//! the caller owes stand there. The crate `newaksu` is the safe one over it.
+//! the caller owes are there. The crate `newaksu` is the safe one over it.
 
 #![no_std]
 #![allow(non_camel_case_types)]
@@ -351,7 +351,7 @@ extern "C" {
     ) -> u32;
     /// NEWAKSU_ABSENT: there are no mechTypes.
     pub fn newaksu_init_mech_count(init: *mut newaksu_handle, count: *mut usize) -> u32;
-    /// NEWAKSU_ABSENT: there are no mechTypes, or not so many.
+    /// NEWAKSU_ABSENT: there are no mechTypes, or fewer than that.
     pub fn newaksu_init_mech(
         init: *mut newaksu_handle,
         index: usize,

@@ -1,4 +1,4 @@
-//! What stands below an end: one mechanism here, and two that are negotiated in `negotiation`.
+//! What is below an end: one mechanism here, and two that are negotiated in `negotiation`.
 
 use crate::mechanism::{Mechanism, Step};
 use crate::request::TsRequest;

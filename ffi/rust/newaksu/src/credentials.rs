@@ -5,7 +5,7 @@ use crate::handle::{written_whole, Handle};
 use crate::secret::Secret;
 use newaksu_sys as sys;
 
-/// The credentials of a password, as they stand inside `authInfo`: three texts in UTF-16, the low
+/// The credentials of a password, as they are inside `authInfo`: three texts in UTF-16, the low
 /// byte first.
 #[derive(Debug)]
 pub struct TsCredentials {

@@ -133,7 +133,7 @@ impl End {
         Ok(made.map_err(|status| self.refuse(below.is_server(), status))?)
     }
 
-    /// Steps and opens what is due in the end's state. What stands in other fields is left sealed.
+    /// Steps and opens what is due in the end's state. Other fields are left sealed.
     fn findings<B: Below>(
         &self,
         below: &mut B,

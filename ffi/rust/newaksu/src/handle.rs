@@ -8,7 +8,7 @@ use std::cell::UnsafeCell;
 /// `Sync`.
 pub(crate) struct Handle(UnsafeCell<sys::newaksu_handle>);
 
-// SAFETY: an object stands on the heap, belongs to its handle alone and to no thread, and shares
+// SAFETY: an object is on the heap, belongs to its handle alone and to no thread, and shares
 // nothing with another.
 unsafe impl Send for Handle {}
 

@@ -48,7 +48,7 @@ impl<N, K> Mechanisms<N, K> {
         (self.ntlm, self.kerberos)
     }
 
-    /// The number that stands for them.
+    /// Their number.
     pub(crate) fn number(&self) -> u32 {
         match (&self.ntlm, &self.kerberos) {
             (Some(_), Some(_)) => sys::NEWAKSU_NTLM_AND_KERBEROS,

@@ -26,7 +26,7 @@ pub struct TsRequest {
 impl TsRequest {
     /// The request that the bytes begin with; what follows it is ignored. [`Error::UnexpectedEof`]
     /// where the header is bad or fewer bytes are there than it announces, or where the content
-    /// ends inside an element; [`Error::InvalidData`] where an element is not spelled as it must
+    /// ends inside an element; [`Error::InvalidData`] where an element is not encoded as it must
     /// be; [`Error::OutOfMemory`].
     pub fn decode(bytes: &[u8]) -> Result<TsRequest, Error> {
         // SAFETY: the handle and the bytes are valid; a slice's pointer is never null.
@@ -119,13 +119,13 @@ fn error_code(handle: &Handle) -> Result<Option<NtStatus>, Error> {
     }
 }
 
-/// The requests that stand one behind the other in the bytes. The last item is the error of what is
+/// The requests that follow one another in the bytes. The last item is the error of what is
 /// not a whole request; there is none where the bytes end with a request.
 pub fn requests(bytes: &[u8]) -> Requests<'_> {
     Requests { left: bytes }
 }
 
-/// An iterator over requests that stand one behind the other.
+/// An iterator over requests that follow one another.
 #[derive(Clone, Debug)]
 pub struct Requests<'a> {
     left: &'a [u8],

@@ -1,4 +1,4 @@
-//! The codec, by vectors that were spelled by hand or came from other implementations.
+//! The codec, by vectors that were encoded by hand or came from other implementations.
 
 mod common;
 

@@ -295,7 +295,7 @@ pub fn usual() -> Setup<'static> {
     }
 }
 
-/// Two ends, what they sent each other, and how each stands.
+/// Two ends, what they sent each other, and the state of each.
 pub struct Exchange {
     pub client: Client<Party>,
     pub server: Server<Party>,
