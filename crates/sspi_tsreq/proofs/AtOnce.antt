@@ -1,4 +1,4 @@
--- A request that one piece has whole.
+-- A request that is whole in one piece.
 use Rattle.std.proofs.Common.{◌≡◌, ◌≤◌, ℕ, List, [], ◌∷◌, ◌++◌, length, Option, None, Some, Result, Ok, Err}
 use Rattle.std.proofs.Common.{inl, inr, refl, sym, ap, ◌∙◌, subst, arith}
 use Rattle.std.proofs.lemmas.List.{append-nil, length-append, take_at}
@@ -24,7 +24,7 @@ use Rattle.sspi_tsreq.specs.Reading.{body_at}
 use Rattle.sspi_tsreq.proofs.BodyMatch.{body_again}
 use Rattle.sspi_tsreq.proofs.Feeding.{last_answer, last_only, never, stage_past, without_parts}
 
--- ---- the reader stands behind it
+-- ---- the reader is after it
 
 whole_header : (bytes : List ℕ) (r : TsRequest) (count : ℕ) (t : IsRequest bytes r count)
     → header_at 0x30 bytes ≡ Ok (length t.body, t.body ++ t.after)

@@ -1,4 +1,4 @@
--- The body's reader and the concatenation of fields say the same.
+-- The body's reader agrees with the concatenation of fields.
 use Rattle.std.proofs.Common.{◌≡◌, ℕ, leb, List, ◌++◌, Option, Ok, refl, sym, ap, ◌∙◌, subst, append_assoc}
 use Rattle.sspi_types.specs.declared.nstatus.NStatusCode.{NStatusCode}
 use Rattle.sspi_ber.specs.Forms.{IsWrapped, IsField}
@@ -86,7 +86,7 @@ body_step =
 
 -- ---- the chain is the concatenation
 
--- what follows a field, told by the texts after it
+-- what follows a field, given the texts after it
 then_tail : (s a b tail w : List ℕ) → s ≡ a ++ b → b ++ tail ≡ w → s ++ tail ≡ a ++ w
 then_tail s a b tail w e f = ap (λ (l : List ℕ). l ++ tail) e ∙ append_assoc a b tail ∙ ap (λ (l : List ℕ). a ++ l) f
 

@@ -13,7 +13,7 @@ use Rattle.sspi_tsreq.specs.Quiet.{IsWithout, Opened}
 use Rattle.sspi_tsreq.proofs.Feeding.{inside, inside_on, without_parts}
 use Rattle.sspi_tsreq.proofs.Walks.{octet_more, text_part}
 
--- octets of a field, with more behind them
+-- octets of a field, with more after them
 pub text_went : (nonce : List ℕ) (left more : ℕ) (octets : List ℕ) (place : Place) (text : Text) (r : TsRequest) (reader : TsReader)
     → length octets ≤ more → place ≡ InText text more → reader.stage ≡ Content left (InText text (more - length octets))
     → reader.request ≡ with_text text r (text_of text r ++ octets) → WentOn nonce place r octets left reader

@@ -15,7 +15,7 @@ pub ruleset bounds = (size_above, size_below)
 pub capped_same : (n : ℕ) → IsCapped n n
 capped_same n = record { same = λ le. refl; past = λ lt. lt }
 
--- an element round a capped content
+-- an element around a capped content
 pub capped_more : (size exact outer : ℕ) → IsCapped size exact → IsCapped outer (element_size size) → IsCapped outer (element_size exact)
 capped_more size exact outer inner more =
     elim (cases_lt max_content exact) [
@@ -92,7 +92,7 @@ nonce_field nonce e =
     (let f = small_size (length nonce) (omega arith) in omega arith) in
     length-element 0xA5 (element 0x04 nonce) ∙ (let f = small_size (length (element 0x04 nonce)) (omega arith) in omega arith)
 
--- ---- what fits where a field fits
+-- ---- what fits when a field fits
 
 pub octets_fit : (tag : ℕ) (octets : List ℕ) → length (element tag (element 0x04 octets)) ≤ max_content
     → (length octets ≤ max_content) × (element_size (length octets) ≤ max_content)
@@ -136,7 +136,7 @@ fields_capped r version nego auth key code nonce v n a k c o =
     (rw (v, c, o) (capped_add _ _ _ _ (capped_add _ _ _ _ (capped_add _ _ _ _
     (capped_add _ _ _ _ (capped_add _ _ _ _ (capped_same lv) n) a) k) (capped_same lc)) (capped_same lo)))
 
--- what fits of fields that fit
+-- the parts that fit when all the fields fit
 pub record Room (r : TsRequest) : Type 0 where
   pub nego : length (nego_field r.nego_tokens) ≤ max_content
   pub later : length (later_fields r) ≤ max_content

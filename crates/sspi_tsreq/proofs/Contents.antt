@@ -13,7 +13,7 @@ use Rattle.sspi_ber.proofs.Rest.{rest_then}
 use Rattle.sspi_tsreq.specs.Filled.{WantsForContent}
 use Rattle.sspi_tsreq.proofs.Blocks.{short, whole}
 
--- so much of the source was copied
+-- this content was copied from the source
 pub record Copied (before now : Option (List ℕ)) (content : List ℕ) : Type 0 where
   pub consumed : Consumes before now content
 
@@ -107,7 +107,7 @@ copied_whole (Some x) (Some y) content size c same =
       drop_at content.items y size same,
     ) (refl, refl)
 
--- ---- memory is taken for bytes that came
+-- ---- memory is allocated only for bytes that arrived
 
 pub copied_wants : (X : Type 0) (before mid after : Option (List ℕ)) (content piece : List ℕ) (n : ℕ) (kind : WireKind) →
     Copied before mid content → 0 < n

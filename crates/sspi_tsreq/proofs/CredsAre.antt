@@ -1,4 +1,4 @@
--- What a text of credentials is answered, by the grammar.
+-- The answer to a text of credentials, by the grammar.
 use Rattle.std.proofs.Common.{◌≡◌, ◌⊎◌, inl, inr, ◌%◌, ℕ, Bool, true, false, cond, eqb, List, [], ◌∷◌, length, Result, Ok, Err, refl}
 use Rattle.std.proofs.Common.{sym, ap, ◌∙◌, subst}
 use Rattle.std.proofs.lemmas.Bool.{cases_eq, ne_eqb}
@@ -290,11 +290,11 @@ form_of text =
 
 -- ---- so each answer has its form
 
--- two refusals of a text are one
+-- two refusals of a text are the same
 one_refusal : (text : List ℕ) (d e : Error) → creds_of text ≡ Err d → creds_of text ≡ Err e → d ≡ e
 one_refusal text d e f g = cc
 
--- so they have one description
+-- so they have the same description
 descriptions : (text : List ℕ) (d e : Error) → creds_of text ≡ Err d → creds_of text ≡ Err e → d.description ≡ e.description
 descriptions text d e f g = ap (λ (x : Error). x.description) (one_refusal text d e f g)
 

@@ -1,4 +1,4 @@
--- Credentials that are written are read back.
+-- Written credentials are read back.
 use Rattle.std.proofs.Common.{◌≡◌, ℕ, ◌≤◌, List, [], ◌∷◌, ◌++◌, true, false, Bool, cond, leb, Result, Ok, Err, length, refl, sym, ap}
 use Rattle.std.proofs.Common.{◌∙◌, subst, arith, lit≤}
 use Rattle.std.proofs.lemmas.List.{append-nil}
@@ -25,7 +25,7 @@ use Rattle.sspi_tsreq.specs.CredsAnswers.{IsOrMemory}
 use Rattle.sspi_tsreq.specs.CredsSizes.{FitTexts, password_fields_size}
 use Rattle.sspi_tsreq.proofs.Room.{length-password_fields, length-creds_body, texts_fit}
 
--- an element behind which nothing stands
+-- an element with nothing after it
 alone : (tag : ℕ) (content : List ℕ) → length content ≤ max_content → element_at tag (element tag content) ≡ Ok (content, [])
 alone tag content le = ap (element_at tag) (sym (append-nil (element tag content))) ∙ short_element_again tag content [] le
 
@@ -120,7 +120,7 @@ buffers_back b text more h e =
     let whole = whole_if_fits body text (leb (length body) max_content) refl e in
     ap (λ t. creds_of (t ++ more)) (sym whole.1) ∙ creds_back b more h whole.0
 
--- what is written of credentials is read back, whatever follows it
+-- written credentials are read back, whatever follows
 pub credentials_back : (c : CredentialsBuffers) (mode : CredSspMode) (text more : List ℕ) → AreCredentials c →
     creds_text c mode ≡ Ok text → creds_of (text ++ more) ≡ Ok (delegated_credentials mode c)
 credentials_back (credentials.AuthIdentity b) mode text more h e = buffers_back (delegated mode b) text more (delegated_buffers mode b h) e

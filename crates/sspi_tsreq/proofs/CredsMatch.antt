@@ -1,4 +1,4 @@
--- Each reader of credentials and its form say the same.
+-- Each reader of credentials agrees with its form.
 use Rattle.std.proofs.Common.{◌≡◌, ℕ, List, ◌++◌, Ok, ap, ◌∙◌, subst}
 use Rattle.sspi_ber.specs.Pieces.{Read, ◌>>=◌, element_at}
 use Rattle.sspi_ber.specs.Forms.{IsElement}

@@ -1,4 +1,4 @@
--- An early user authorization result that is written is read back.
+-- A written early user authorization result is read back.
 use Rattle.std.proofs.Common.{◌≡◌, ℕ, List, ◌++◌, length, Some, Ok, refl, ap}
 use Rattle.sspi_ber.specs.Pieces.{Read, ◌>>=◌, bytes_at}
 use Rattle.sspi_ber.proofs.PiecesMatch.{bytes_match}

@@ -20,7 +20,7 @@ use Rattle.sspi_tsreq.proofs.Numbers.{bytes_short}
 use Rattle.sspi_tsreq.proofs.Steps.{nego_found, auth_found, key_found, code_found, nonce_found}
 use Rattle.sspi_tsreq.proofs.Walks.{nonce_ready}
 
--- ---- what has to come does not
+-- ---- what is required is missing
 
 octets_end : (n : ℕ) → bytes_at (n + 1) [] ≡ Err Ended
 octets_end n = bytes_short (n + 1) [] (omega arith)
@@ -94,7 +94,7 @@ text_from_end text more r = rw (octets_end more) refl
 pub nonce_from_end : (nonce : List ℕ) (have : ℕ) (r : TsRequest) → have < 32 → nonce_from nonce have r [] ≡ Err Ended
 nonce_from_end nonce have r lt = rw (nonce_ready nonce have [] lt, bytes_short (32 - have) [] (omega (arith, lt))) refl
 
--- ---- what may be absent is
+-- ---- what may be absent is absent
 
 field_end : {A : Type 0} (tag : ℕ) (inner : List ℕ → Read A) → field_at tag inner [] ≡ Ok (None, [])
 unfolding field_at tag_or_absent_at

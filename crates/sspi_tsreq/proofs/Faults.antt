@@ -106,7 +106,7 @@ body_stays body more e = fault_is (body_at (body ++ more)) Invalid (body_begun.s
 pub body_settles : (body : List ℕ) → (count : ℕ) × (body_fault (body ++ zeros count) ≡ Some Ended → ⊥)
 body_settles body = let t = body_begun.completes body in (t.0, λ e. t.1 (some_fault (body_at (body ++ zeros t.0)) Ended e))
 
--- the bytes behind the body
+-- the bytes after the body
 abbrev behind : List ℕ → TsRequest × List ℕ → Read TsRequest
 behind after request = Ok (request.0, after)
 

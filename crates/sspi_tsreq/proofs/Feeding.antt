@@ -1,4 +1,4 @@
--- What a piece makes of a reader, and what a reader answers.
+-- The effect of a piece on a reader, and what a reader answers.
 use Rattle.std.proofs.Common.{◌≡◌, ℕ, ◌+◌, ◌-◌, ◌<◌, ◌≤◌, min, true, false, cond, eqb, List, [], ◌∷◌, ◌++◌, length, take, drop, get_or}
 use Rattle.std.proofs.Common.{Option, Result, Ok, Err, refl, sym, ap, ◌∙◌, subst, inl, inr, append_assoc, arith}
 use Rattle.std.proofs.lemmas.Bool.{cases_lt, eq-eqb, ne_eqb}
@@ -80,7 +80,7 @@ outer_steps nonce r bytes part byte (Known n) s h = record {
 }
 outer_steps nonce r bytes part byte Bad s h = h (byte ∷ []) ∙ s []
 
--- so many bytes of the piece, and one more
+-- i bytes of the piece, and one more
 pub one_taken : (bytes piece : List ℕ) (i : ℕ) → i < length piece → (bytes ++ take i piece) ++ get_or piece i 0 ∷
     [] ≡ bytes ++ take (i + 1) piece
 one_taken bytes piece i lt = append_assoc bytes (take i piece) (get_or piece i 0 ∷ []) ∙ ap (λ (l : List ℕ). bytes ++ l)
@@ -130,7 +130,7 @@ inside_on nonce left len place r bytes behind reader s e w = record {
       });
 }
 
--- where nothing of the piece is taken
+-- when nothing of the piece is consumed
 pub inside_still : (nonce : List ℕ) (left : ℕ) (place : Place) (r : TsRequest) (bytes behind : List ℕ) (reader : TsReader) →
     min (length behind) left ≡ 0
     → reader.stage ≡ Content left place → reader.nonce ≡ nonce → reader.request ≡ r → StandsInside nonce left place r bytes →
@@ -159,7 +159,7 @@ same_numbers (InNonce have) r octets = refl
 same_numbers Whole r octets = refl
 same_numbers Faulty r octets = refl
 
--- the octets of the field selected, and a walk behind them
+-- the octets of the current field, and a walk after them
 pub content_on : (nonce : List ℕ) (left : ℕ) (place first : Place) (r : TsRequest) (body octets : List ℕ) (begun walked : Walk)
     (reader : TsReader)
     → octets ≡ take (length octets) body
@@ -275,7 +275,7 @@ only_outcome bytes rest (Ok q) (Err WriteFault) h e r count t = absurd h
 only_outcome bytes rest (Ok q) (Err InsufficientMemory) h e r count t = absurd h
 only_outcome bytes rest (Err fault) result h e r count t = absurd (not_both (request_at bytes) fault _ e (request_again bytes r count t))
 
--- the content of which `left` bytes are to come
+-- the request in a content of n.0 bytes, and the bytes after the content
 abbrev content_of : ℕ × List ℕ → Read TsRequest
 content_of n = bytes_at n.0 n.1 >>= λ body. (body_at body.0 >>= behind_all body.1)
 
@@ -318,7 +318,7 @@ nothing_ended : (bytes : List ℕ) → bytes ≡ [] → header_at 0x30 bytes ≡
 unfolding header_at
 nothing_ended bytes e = rw e refl
 
--- the reader stands where nothing but the end can be told
+-- the reader is where no fault but the end can be reported
 abbrev IsUnended : Stage → Type 0
 IsUnended OuterTag = Unit {0}
 IsUnended (OuterLength part) = Unit {0}

@@ -1,4 +1,4 @@
--- Each reader of a field and its form say the same.
+-- Each reader of a field agrees with its form.
 use Rattle.std.proofs.Common.{◌≡◌, ℕ, ◌%◌, ◌^◌, Bool, true, false, cond, eqb, List, ◌∷◌, ◌++◌, length, None, Err, refl, sym, ap, ◌∙◌, subst}
 use Rattle.std.proofs.lemmas.Bool.{eqb-true, eq-eqb}
 use Rattle.sspi_types.specs.declared.nstatus.NStatusCode.{NStatusCode}

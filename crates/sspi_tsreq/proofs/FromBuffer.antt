@@ -1,4 +1,4 @@
--- What the reader gives is the answer that the grammar and the first fault ask for.
+-- The reader returns the answer that the grammar and the first fault require.
 use Rattle.std.proofs.Common.{◌≡◌, ℕ, List, Result, Ok, Err, sym, ap, ◌∙◌, drop, subst}
 use Rattle.std.specs.Result.{IfErr, IfOk}
 use Rattle.sspi_ber.specs.declared.wire_kind.WireKind.{WireKind}
@@ -14,7 +14,7 @@ use Rattle.sspi_tsreq.specs.Grammar.{IsRequest}
 use Rattle.sspi_tsreq.specs.Reading.{request_at}
 use Rattle.sspi_tsreq.proofs.RequestMatch.{request_takes, request_again}
 
--- nothing was read, and no memory was wanted for that
+-- nothing was read, and no memory was needed for that
 pub refused_answer : {X : Type 0} (view : X → TsRequest) (bytes after : List ℕ) (kind : WireKind) →
     Gives view after (Err kind) (request_at bytes) → NeedsNoMemory {X = X} (Err kind) → IsAnswer bytes (Err kind)
 refused_answer view bytes after UnexpectedEof h m = ap (λ (x : Read TsRequest). fault_of x) h
@@ -30,7 +30,7 @@ kept_answer bytes after r s h same =
     let t = request_takes bytes r after e in
     ((t.0, t.1), ap (λ (x : Read TsRequest). fault_of x) e)
 
--- what was read was copied, or there was no memory for it
+-- what was read was copied, or memory ran out
 pub copied_answer : (copy : Result TsRequest WireKind) (bytes after : List ℕ) (s : TsRequest) → request_at bytes ≡ Ok (s, after)
     → IfOk copy (λ r. r ≡ s) → IfErr copy (λ kind. (kind ≡ InsufficientMemory) × HasOctets s) → IsAnswer bytes copy
 copied_answer (Ok r) bytes after s e same wanting = kept_answer bytes after r s e same

@@ -25,7 +25,7 @@ alone_request bytes r count t = record {
   taken = t.taken;
 }
 
--- what the header of bytes reads as, where they are a SEQUENCE and its content
+-- what the header of bytes reads as, when they are a SEQUENCE and its content
 header_is : (bytes len body after : List ℕ) → IsLength len (length body) → bytes ≡ (0x30 ∷ len) ++ (body ++ after) →
     header_at 0x30 bytes ≡ Ok (length body, body ++ after)
 header_is bytes len body after m e =
@@ -35,7 +35,7 @@ header_is bytes len body after m e =
 whole_length : (len body after : List ℕ) → length ((0x30 ∷ len) ++ (body ++ after)) ≡ length ((0x30 ∷ len) ++ body) + length after
 whole_length len body after = ap length (sym (append_assoc (0x30 ∷ len) body after)) ∙ length-append ((0x30 ∷ len) ++ body) after
 
--- bytes are a SEQUENCE and its content in one way
+-- bytes are a SEQUENCE and its content in only one way
 one_frame : (bytes len body after other content behind : List ℕ) → IsLength len (length body) → bytes ≡ (0x30 ∷ len) ++ (body ++ after)
     → IsLength other (length content) → bytes ≡ (0x30 ∷ other) ++ (content ++ behind) →
     length ((0x30 ∷ len) ++ body) ≡ length ((0x30 ∷ other) ++ content)
@@ -53,7 +53,7 @@ one_frame bytes len body after other content behind m e n f =
       length-append content behind,
     )
 
--- what is cut is no SEQUENCE with its whole content
+-- a request that is cut short is no SEQUENCE with its whole content
 cut_unframed : (bytes : List ℕ) (r : TsRequest) (count j : ℕ) → IsRequest bytes r count → j < count
     → (len body after : List ℕ) → IsLength len (length body) → take j bytes ≡ (0x30 ∷ len) ++ (body ++ after) → ⊥
 cut_unframed bytes r count j t lt len body after m e =

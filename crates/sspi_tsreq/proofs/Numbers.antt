@@ -28,7 +28,7 @@ bytes_there n b le = rw (le-ltb (length b) n le) refl
 pub none_left : (b : List ℕ) → bytes_at 0 b ≡ Ok ([], b)
 none_left b = bytes_there 0 b (omega arith)
 
--- behind a prefix of what is read
+-- after a prefix of what is read
 pub bytes_behind : (front more : List ℕ) (n : ℕ) → bytes_at (length front + n) (front ++ more) ≡ bytes_at n more >>= put_before front
 bytes_behind front more n =
     elim (cases_lt (length more) n) [

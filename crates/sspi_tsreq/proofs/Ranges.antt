@@ -1,4 +1,4 @@
--- What is read has the ranges of a request.
+-- What is read is within the ranges of a request.
 use Rattle.std.proofs.Common.{◌≡◌, ℕ, ◌^◌, ◌<◌, Bool, true, false, leb, List, ◌++◌, length, Option, None, Some, arith}
 use Rattle.std.specs.Prelude.{IfSome}
 use Rattle.sspi_types.specs.declared.nstatus.NStatusCode.{NStatusCode}

@@ -1,4 +1,4 @@
--- What a fault of reading is to a reader of credentials.
+-- What a fault of reading means to a reader of credentials.
 use Rattle.std.proofs.Common.{◌≡◌, inl, inr, ℕ, [], ◌∷◌, Bool, true, false, cond, eqb, List, Option, None, Some, Result, Ok, Err}
 use Rattle.std.proofs.Common.{refl, sym, ap, ◌∙◌, subst, Vec, Global}
 use Rattle.sspi_types.specs.declared.error.Error.{Error}
@@ -28,7 +28,7 @@ use Rattle.sspi_tsreq.proofs.CredsMatch.{whole_again}
 refused_at : {A : Type 0} (read : Read A) (fault : Fault) → read ≡ Err fault → spelled_or_malformed read ≡ Err malformed
 refused_at read fault e = ap spelled_or_malformed e
 
--- over a slice each fault is that of a structure that is malformed
+-- over a slice, each fault is that of a malformed structure
 pub refused : {X A : Type 0} (view : X → A) (after : List ℕ) (kind : WireKind) (read : Read A)
     → Gives view after (Err kind) read → NeedsNoMemory {X = X} (Err kind) → spelled_or_malformed read ≡ Err malformed
 refused view after UnexpectedEof read g m = refused_at read Ended g
@@ -52,7 +52,7 @@ not_element : (text : List ℕ) (fault : Fault) → element_at 0x30 text ≡ Err
 unfolding creds_of
 not_element text fault e = ap (λ r. spelled_or_malformed r and_then creds_in) e
 
--- the header is no header
+-- the header is bad
 header_faulty : (text : List ℕ) (fault : Fault) → header_at 0x30 text ≡ Err fault → creds_of text ≡ Err malformed
 unfolding element_at
 header_faulty text fault e = not_element text fault (ap (λ r. r >>= λ n. bytes_at n.0 n.1) e)
@@ -121,7 +121,7 @@ block_content : (read : Read (List ℕ)) (after : Option (List ℕ)) (body : Vec
 block_content (Ok x) after body h = (x.1, ap (λ b. block_then b x.1) (sym h.0), h.1)
 block_content (Err fault) after body h = absurd h
 
--- the content behind a header is not whole
+-- the content after a header is not whole
 pub content_refused : (before mid after : Option (List ℕ)) (n size : ℕ) (kind : WireKind) (f g : ℕ) → size ≡ n →
     Reads {X = ℕ} (λ k. k) before mid (Ok n) (header_at 0x30)
     → Reads {X = Vec ℕ Global} (λ b. b.items) mid after (Err kind) (bytes_at size) → CopyCause {X = Vec ℕ Global} f g (Err kind) →
@@ -133,7 +133,7 @@ content_refused (Some text) mid after n size kind f g same h r c =
     (subst (λ k. Reads {X = Vec ℕ Global} (λ b. b.items) (Some t.0) after (Err kind) (bytes_at k)) same
     (subst (λ m. Reads {X = Vec ℕ Global} (λ b. b.items) m after (Err kind) (bytes_at size)) t.2 r)) c
 
--- what stands behind the SEQUENCE
+-- what follows the SEQUENCE
 behind_is : (text body rest cred_type credentials : List ℕ) → element_at 0x30 text ≡ Ok (body, rest) →
     (t : IsCreds text cred_type credentials) → t.behind ≡ rest
 behind_is text body rest cred_type credentials e t = (both_are t.content body t.behind rest
@@ -156,7 +156,7 @@ whole_answer text body rest after (Ok (buffered.Keytab identity)) e left h = key
 whole_answer text body rest after (Err error) e left (inl h) = inl (body_read text body rest e ∙ h)
 whole_answer text body rest after (Err error) e left (inr h) = inr (inl h)
 
--- the content behind a header is whole
+-- the content after a header is whole
 pub content_answer : (before mid after : Option (List ℕ)) (n size : ℕ) (body : Vec ℕ Global) (result : Result CredentialsBuffers Error) →
     size ≡ n
     → Reads {X = ℕ} (λ k. k) before mid (Ok n) (header_at 0x30) →

@@ -1,4 +1,4 @@
--- The request's reader and the grammar say the same.
+-- The request's reader agrees with the grammar.
 use Rattle.std.proofs.Common.{◌≡◌, ℕ, List, ◌∷◌, ◌++◌, length, drop, Result, Ok, Err, refl, sym, ap, ◌∙◌, subst, append_assoc}
 use Rattle.std.proofs.lemmas.List.{drop_at}
 use Rattle.sspi_ber.specs.Pieces.{Fault, Read, ◌>>=◌, as_ended, bytes_at, header_at}
@@ -14,7 +14,7 @@ not_ended : {A : Type 0} (r : Result A Fault) (x : A) → as_ended r ≡ Ok x �
 not_ended (Ok y) x e = e
 not_ended (Err fault) x e = absurd cc
 
--- the bytes behind the body
+-- the bytes after the body
 abbrev behind : List ℕ → TsRequest × List ℕ → Read TsRequest
 behind after request = Ok (request.0, after)
 

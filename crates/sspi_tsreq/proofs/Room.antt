@@ -98,7 +98,7 @@ sequence_length domain user password = sym (length-element 0x30 (password_fields
 
 pub ruleset sequence = (sequence_length, length-password_fields)
 
--- what is written behind what was written
+-- what is written after what was written
 pub ruleset writing = (wrote_then, front_then, front_more, wrote_nothing)
 
 pub ruleset sized_writing = (wrote_then, front_then, front_more, wrote_nothing, length-header, length-element)
@@ -126,11 +126,11 @@ module _ (domain user password : List ℕ) (size : ℕ) (capped : IsCapped size 
         lt-leb _ _ (omega (arith, length-creds_body domain user password)) in
         rw long
 
--- all that a sink has which began empty
+-- all that is in a sink that began empty
 pub written_whole : (start now text items : List ℕ) → start ≡ [] → now ≡ start ++ text → items ≡ now → items ≡ text
 written_whole start now text items empty appended same = same ∙ appended ∙ ap (λ front. front ++ text) empty
 
--- ---- what is measured before memory is taken
+-- ---- what is measured before any allocation
 
 pub fits_ok : (domain user password : List ℕ) (size : ℕ) → IsCapped size (body_size (length domain) (length user) (length password)) →
     size ≤ max_content → IsOk (spelled_if_fits (creds_body domain user password))

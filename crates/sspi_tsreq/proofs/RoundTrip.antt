@@ -1,4 +1,4 @@
--- The encoding of a value, with any bytes behind it, is read as that value; and what else the two laws of the grammar give.
+-- An encoding is read as its value, whatever follows; and what else the grammar's two laws give.
 use Rattle.std.proofs.Common.{◌≡◌, ℕ, ◌^◌, ◌<◌, ◌≤◌, Bool, true, false, cond, leb, List, [], ◌∷◌, ◌++◌, length, take, drop, Option}
 use Rattle.std.proofs.Common.{None, Some, refl, sym, ap, ◌∙◌, subst, append_assoc, arith}
 use Rattle.std.specs.Prelude.{IfSome, IsTrue}
@@ -110,7 +110,7 @@ nonce_is false (Some nonce) following absent long le other = absurd (let e = abs
 
 -- ---- the whole body
 
--- what a request must be whose fields are all encoded
+-- a request whose fields are all encoded
 pub record IsCarried (r : TsRequest) : Type 0 where
   pub value : IsRequestValue r
   pub code : leb 3 r.version ≡ false → r.error_code ≡ None
@@ -238,7 +238,7 @@ chosen_twice : {A : Type 0} (b : Bool) (x : Option A) → cond b (cond b x None)
 chosen_twice true x = refl
 chosen_twice false x = refl
 
--- what is written of a request is all that would be written of that
+-- the written part of a request is itself written whole
 pub carried_once : (r : TsRequest) → carried (carried r) ≡ carried r
 carried_once r = rw (chosen_twice (carries_code r.version) r.error_code, chosen_twice (carries_nonce r.version) r.client_nonce) refl
 
@@ -265,7 +265,7 @@ one_request bytes r s k j a b =
     let same = both_are r s (drop k bytes) (drop j bytes) (sym (request_again bytes r k a) ∙ request_again bytes s j b) in
     (same.0, counts_agree bytes r s k j a b same.1)
 
--- no proper prefix of a encoding is read
+-- no proper prefix of an encoding is read
 pub no_front : (r s : TsRequest) (j k : ℕ) → IsRequestValue r → IsTrue (fits r) → j < length (spelled r) →
     IsRequest (take j (spelled r)) s k → ⊥
 no_front r s j k is fit lt t =

@@ -1,4 +1,4 @@
--- What one byte more makes of what is still to come.
+-- The effect of one more byte on what is still to come.
 use Rattle.std.proofs.Common.{◌≡◌, ℕ, ◌%◌, ◌^◌, Bool, true, false, cond, eqb, leb, ◌&&◌, List, ◌∷◌, Option, None, Some, Ok, Err, refl}
 use Rattle.std.proofs.Common.{ap, ◌∙◌}
 use Rattle.std.proofs.lemmas.Bool.{eq-eqb, ne_eqb}
@@ -19,7 +19,7 @@ use Rattle.sspi_tsreq.specs.Places.{behind, sized_low, text_then, version_then, 
 use Rattle.sspi_tsreq.specs.Walks.{inner_tag, from_inner}
 use Rattle.sspi_tsreq.proofs.Numbers.{map_then}
 
--- ---- what has to come
+-- ---- what is required
 
 then_both : {A B C : Type 0} (z : Read A) (j : A × List ℕ → Read B) (k : B × List ℕ → Read C) → ((z >>= j) >>= k) ≡ (z >>= λ x. (j x >>= k))
 then_both (Ok x) j k = refl

@@ -1,4 +1,4 @@
--- What stands behind the last field of a content is not looked at; and what settles a content for good.
+-- What follows the last field of a content is ignored; and what settles a content for good.
 use Rattle.std.proofs.Common.{◌≡◌, ℕ, ◌+◌, ◌≤◌, inl, inr, Bool, true, false, leb, List, [], ◌∷◌, ◌++◌, Option, None, Some, Ok, Err}
 use Rattle.std.proofs.Common.{refl, sym, ap, ◌∙◌, subst, append_assoc, arith, lit<}
 use Rattle.std.proofs.lemmas.List.{replicate-append-replicate}
@@ -34,7 +34,7 @@ still_looked : {A : Type 0} (looked : Bool) (tag byte : ℕ) (Inner : List ℕ �
 still_looked true tag byte Inner text x following more other f = still_field tag byte Inner text x following more other f
 still_looked false tag byte Inner text x following more other f = f
 
--- what is behind a text, told by what is behind the text after it
+-- what follows a text, given what follows the text after it
 behind : (text w m whole : List ℕ) → w ++ m ≡ whole → (text ++ w) ++ m ≡ text ++ whole
 behind text w m whole e = append_assoc text w m ∙ ap (λ (l : List ℕ). text ++ l) e
 
@@ -80,7 +80,7 @@ tail_ignored body r byte more none b =
 
 -- ---- settled for good
 
--- one zero more, and what follows it
+-- one more zero, and what follows it
 zero_more : (body : List ℕ) (count : ℕ) (more : List ℕ) → (body ++ zeros count) ++ 0 ∷ more ≡ (body ++ zeros (count + 1)) ++ more
 zero_more body count more =
     sym (append_assoc (body ++ zeros count) (0 ∷ []) more)

@@ -1,4 +1,4 @@
--- Where memory is not wanted by a reader of credentials.
+-- When a reader of credentials needs no memory.
 use Rattle.std.proofs.Common.{◌≡◌, inl, inr, ℕ, Bool, true, false, cond, eqb, List, ◌∷◌, [], ◌++◌, Option, None, Some, Result, Ok, Err}
 use Rattle.std.proofs.Common.{refl, sym, ap, ◌∙◌, subst}
 use Rattle.std.specs.Option.{IfSome}
@@ -21,9 +21,9 @@ use Rattle.sspi_tsreq.specs.CredsGrammar.{HasPasswords, BeginsSequence, HasBadTe
 use Rattle.sspi_tsreq.proofs.CredsAre.{Form, malformed_form, unknown_form, smart_card_form, bad_text_form, stands_form, form_of}
 use Rattle.sspi_tsreq.proofs.CredsAre.{texts_cases, texts_answer, malformed_refused, unknown_refused, smart_card_refused}
 
--- ---- the refusals that are reached before memory is taken
+-- ---- the refusals that come before any allocation
 
--- a refusal of another type is no out of memory
+-- a refusal of another type is not out of memory
 not_wanted : (refusal error : Error) → (refusal.error_type ≡ memory_error.error_type → ⊥) → refusal ≡ error → error ≡ memory_error → ⊥
 not_wanted refusal error differ same m = differ (ap (λ (x : Error). x.error_type) (same ∙ m))
 
@@ -41,7 +41,7 @@ pub type_unwanted : (content : List ℕ) (error : Error) → password_type conte
 type_unwanted [] error e m = not_wanted unknown_type error (λ f. cc) (cc) m
 type_unwanted (number ∷ rest) error e m = by_number (eqb number 1) (eqb number 2) error e m
 
--- ---- the texts alone are copied
+-- ---- only the texts are copied
 
 late_by : (answer given : Result CredentialsBuffers Error) → answer ≡ given → IsLate given → IsLate answer
 late_by answer given e late = subst IsLate (sym e) late
@@ -60,7 +60,7 @@ pub late_in : (body : List ℕ) (fields : Fields) (passwords : Passwords) → sp
 unfolding creds_in
 late_in body fields passwords e f g = rw (e, f, g) (texts_late passwords)
 
--- ---- all three are judged before one of them is copied
+-- ---- all three are judged before any of them is copied
 
 all_read : (texts : Passwords) (buffers : AuthIdentityBuffers) → AreTextsOf texts buffers → are_texts texts ≡ true
 all_read texts buffers t = rw (t.domain_text, t.user_text, t.password_text) refl
@@ -125,7 +125,7 @@ late_has text late = by_form (form_of text)
     by_form (bad_text_form h) = (h.0, h.1, h.2, h.3)
     by_form (stands_form buffers t) = (t.credentials, t.texts, t.creds_is, t.passwords_is)
 
--- ---- the content is copied once its header was read
+-- ---- the content is copied after its header was read
 
 pub header_unwanted : (X : Type 0) (kind : WireKind) (f g : ℕ) → ReadCause {X = X} f g (Err kind) → refusal_by kind ≡ memory_error → ⊥
 header_unwanted X UnexpectedEof f g cause e = not_wanted (refusal_by UnexpectedEof) memory_error (λ f. cc) e refl

@@ -1,4 +1,4 @@
--- Octets, numbers and the nonce on the way through a piece.
+-- Octets, numbers and the nonce during a walk through a piece.
 use Rattle.std.proofs.Common.{◌≡◌, ℕ, ◌+◌, ◌-◌, ◌*◌, ◌%◌, ◌^◌, ◌<◌, ◌≤◌, List, [], ◌∷◌, ◌++◌, length, take, drop, Ok, Err, refl, sym}
 use Rattle.std.proofs.Common.{ap, ◌∙◌, append_assoc, arith, slice_set}
 use Rattle.std.specs.Prelude.{◌==◌, if◌then◌else◌}
@@ -55,7 +55,7 @@ octets_there text r len rest more le =
     ∙ ap (λ (l : List ℕ). read_of l (drop len (rest ++ more))) (take-append-le len rest more le)
     ∙ ap (λ (l : List ℕ). read_of (take len rest) l) (drop-append-le len rest more le))
 
--- a field's further bytes stand behind those that it has
+-- a field's further bytes come after those that it has
 more_octets : (text : Text) (r : TsRequest) (front : List ℕ) (z : Read (List ℕ))
     → ((z >>= put_before front) >>= text_then text r) ≡ (z >>= λ rest. text_then text (with_text text r front)
     (text_of text (with_text text r front) ++ rest.0, rest.1))
@@ -71,7 +71,7 @@ octets_begun text r len rest more lt =
     ∙ ap (λ (z : Read (List ℕ)). z >>= text_then text r) (bytes_behind rest more (len - length rest - 1 + 1))
     ∙ more_octets text r rest (bytes_at (len - length rest - 1 + 1) more)
 
--- the last bytes of a field, behind those that it has
+-- the last bytes of a field, after those that it has
 pub text_whole : (text : Text) (more : ℕ) (r : TsRequest) (octets rest : List ℕ) → length octets ≡ more + 1
     → text_from text more r (octets ++ rest) ≡ text_then text r (text_of text r ++ octets, rest)
 text_whole text more r octets rest e =

@@ -12,7 +12,7 @@ use Rattle.sspi_tsreq.specs.Quiet.{HasOctets}
 use Rattle.sspi_tsreq.specs.Reading.{fault}
 use Rattle.sspi_tsreq.specs.Spelling.{fits, spelled}
 
--- The answer has its cause. Memory is wanted only for a request that the bytes do begin with, and
+-- The answer has its cause. Memory runs out only for a request that the bytes do begin with, and
 -- only for its OCTET STRINGs.
 abbrev pub IsAnswer : List ℕ → Result TsRequest WireKind → Type 0
 IsAnswer bytes (Ok r) = ((count : ℕ) × IsRequest bytes r count) × (fault bytes ≡ None)
@@ -32,7 +32,7 @@ IsUnlessMemory (Err ReadFault) value = ⊥
 IsUnlessMemory (Err WriteFault) value = ⊥
 IsUnlessMemory (Err InsufficientMemory) value = Unit {0}
 
--- a request is written, or it is too long, which is found before memory is taken
+-- a request is written, or it is too long, which is found before any allocation
 abbrev pub Encodes : TsRequest → Result (Vec ℕ) WireKind → Type 0
 Encodes request (Ok text) = (fits request ≡ true) × (text.items ≡ spelled request)
 Encodes request (Err InvalidData) = fits request ≡ false

@@ -4,8 +4,8 @@
 --     TSPasswordCreds ::= SEQUENCE {
 --         [0] domainName OCTET STRING, [1] userName OCTET STRING, [2] password OCTET STRING }
 --
--- An element is a tag, a length of n and n bytes. What stands inside an element is read inside
--- these n bytes alone; bytes behind what is read there are not looked at.
+-- An element is a tag, a length of n, and n bytes. What is inside an element is read within these
+-- n bytes alone; bytes after what is read there are ignored.
 use Rattle.std.specs.Prelude.{◌++◌, ◌==◌, nat_le, ℕ, List, [], ◌∷◌, length, Result, Ok, Err, None}
 use Rattle.std.specs.Prelude.{if◌then◌else◌}
 use Rattle.sspi_types.specs.declared.error.Error.{Error}
@@ -33,7 +33,7 @@ use Rattle.sspi_tsreq.specs.declared.mode.CredSspMode.TheVariants.{WithCredentia
 abbrev pub malformed : Error
 malformed = record { error_type = InvalidToken; description = TokenForm; nstatus = None }
 
--- a credType without content, or of a number that is none
+-- a credType without content, or with a number that has no meaning
 abbrev pub unknown_type : Error
 unknown_type = record { error_type = InvalidToken; description = CredType; nstatus = None }
 
@@ -81,13 +81,13 @@ passwords_at bytes = do
   password ← octets_in 0xA2 user.1
   Ok (record { domain = domain.0; user = user.0; password = password.0 }, body.1)
 
--- a refusal ends what follows
+-- a refusal skips what follows
 infixl 10 ◌and_then◌
 abbrev pub ◌and_then◌ : {A B : Type 0} → Result A Error → (A → Result B Error) → Result B Error
 (Ok x) and_then next = next x
 (Err error) and_then next = Err error
 
--- the value, where it is encoded
+-- the value that was read, or the refusal of a malformed structure
 abbrev pub spelled_or_malformed : {A : Type 0} → Read A → Result A Error
 spelled_or_malformed (Ok x) = Ok x.0
 spelled_or_malformed (Err fault) = Err malformed
@@ -123,13 +123,13 @@ creds_in body =
     spelled_or_malformed (passwords_at fields.credentials) and_then λ passwords.
     texts_of passwords
 
--- the buffers that a text of TSCredentials stands for, or the first refusal
+-- the buffers that a text of TSCredentials represents, or the first refusal
 unfoldable pub creds_of : List ℕ → Result CredentialsBuffers Error
 creds_of text = spelled_or_malformed (element_at 0x30 text) and_then creds_in
 
 -- ---- writing
 
--- the buffers that are delegated: three empty texts where the client keeps its credentials
+-- the buffers that are delegated: three empty texts if the client keeps its credentials
 abbrev pub delegated : CredSspMode → AuthIdentityBuffers → AuthIdentityBuffers
 delegated WithCredentials buffers = buffers
 delegated CredentialLess buffers = record {
@@ -152,7 +152,7 @@ unfoldable pub password_fields : List ℕ → List ℕ → List ℕ → List ℕ
 password_fields domain user password = wrapped_octets 0xA0 domain ++
     (wrapped_octets 0xA1 user ++ wrapped_octets 0xA2 password)
 
--- the field with the number of passwords
+-- the field with the type number of a password
 unfoldable pub password_type_field : List ℕ
 password_type_field = element 0xA0 (int_short 1)
 
@@ -161,7 +161,7 @@ unfoldable pub creds_body : List ℕ → List ℕ → List ℕ → List ℕ
 creds_body domain user password = password_type_field ++
     wrapped_octets 0xA1 (element 0x30 (password_fields domain user password))
 
--- a content, where it fits
+-- the SEQUENCE of a content, if it fits
 abbrev pub spelled_if_fits : List ℕ → Result (List ℕ) Error
 spelled_if_fits body = if nat_le (length body) max_content then Ok (element 0x30 body)
     else Err too_long

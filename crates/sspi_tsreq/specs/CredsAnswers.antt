@@ -16,13 +16,13 @@ abbrev pub IsOrMemory : {X A : Type 0} → (X → A) → Result X Error → Resu
 IsOrMemory view (Ok x) answer = answer ≡ Ok (view x)
 IsOrMemory view (Err error) answer = (answer ≡ Err error) ⊎ (error ≡ memory_error)
 
--- a keytab is refused before memory is taken
+-- a keytab is refused before any allocation
 abbrev pub RefusesKeytab : {X : Type 0} → CredentialsBuffers → Result X Error → Type 0
 RefusesKeytab (buffered.AuthIdentity buffers) result = Unit {0}
 RefusesKeytab (buffered.Keytab identity) result = result ≡ Err keytab_refused
 
--- Of a source that tells its bytes: the buffers that they stand for, and then exactly what stands
--- behind them is left; or the refusal that they have, out of memory, or a fault of the source.
+-- For a source that exposes its bytes: the buffers that they represent, and then exactly what
+-- follows them is left; or their refusal, out of memory, or a fault of the source.
 abbrev pub ReadsCreds : Option (List ℕ) → Option (List ℕ) → Result CredentialsBuffers Error → Type 0
 ReadsCreds None after result = Unit {0}
 ReadsCreds (Some text) after (Ok (buffered.AuthIdentity buffers)) = (rest : List ℕ) ×
@@ -31,16 +31,15 @@ ReadsCreds (Some text) after (Ok (buffered.Keytab identity)) = ⊥
 ReadsCreds (Some text) after (Err error) = (creds_of text ≡ Err error) ⊎
     ((error ≡ memory_error) ⊎ (error ≡ io_error))
 
--- an internal error has the count of faults rise, and at any other answer it did not move
+-- on an internal error the count of faults rose, and on any other answer it is unchanged
 abbrev pub CredsCause : {X : Type 0} → ℕ → ℕ → Result X Error → Type 0
 CredsCause before now (Ok x) = now ≡ before
 CredsCause before now (Err error) =
     (error.error_type ≡ InternalError → Rose before now) ×
     (error.error_type ≢ InternalError → now ≡ before)
 
--- The refusals that reading may answer: a structure that is not there, a type without meaning, a
--- smart card, a text that is not UTF-16, out of memory, and a fault of the source. None has a
--- status.
+-- The refusals that reading may return: a malformed structure, a type without meaning, a smart
+-- card, a text that is not UTF-16, out of memory, and a fault of the source. None has a status.
 abbrev pub IsCredsRefusal : Error → Type 0
 IsCredsRefusal error =
     (error ≡ malformed) ⊎ (error ≡ unknown_type) ⊎ (error ≡ smart_card) ⊎ (error ≡ bad_text) ⊎

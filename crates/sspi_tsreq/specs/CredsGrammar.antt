@@ -4,7 +4,7 @@
 --     TSPasswordCreds ::= SEQUENCE {
 --         [0] domainName OCTET STRING, [1] userName OCTET STRING, [2] password OCTET STRING }
 --
--- Bytes behind the last piece that an element needs are left, and not looked at.
+-- Bytes after the last piece that an element needs are left, and ignored.
 use Rattle.std.specs.Prelude.{◌≡◌, ◌≢◌, ◌⊎◌, ℕ, List, [], ◌∷◌, ◌++◌, Ok, IsErr}
 use Rattle.sspi_ber.specs.Forms.{IsElement, IsLength}
 use Rattle.sspi_names.specs.Utf16.{decode_le}
@@ -58,12 +58,12 @@ pub record IsCreds (text cred_type credentials : List ℕ) : Type 0 where
   pub type_is : IsIntegerIn 0xA0 number cred_type
   pub credentials_is : IsOctetsIn 0xA1 octets credentials
 
--- TSCredentials of this type, of which the first content byte alone is looked at: 1 is a password,
--- 2 a smart card
+-- TSCredentials of this type, of which the first content byte alone counts: 1 is a password, 2 a
+-- smart card
 abbrev pub IsCredsOfType : ℕ → List ℕ → List ℕ → Type 0
 IsCredsOfType number text credentials = (more : List ℕ) × IsCreds text (number ∷ more) credentials
 
--- no type that has a meaning: no content, or another first byte
+-- a type without meaning: no content, or another first byte
 abbrev pub IsOtherType : List ℕ → Type 0
 IsOtherType [] = Unit {0}
 IsOtherType (number ∷ more) = (number ≢ 1) × (number ≢ 2)
@@ -84,7 +84,7 @@ abbrev pub HasBadText : Passwords → Type 0
 HasBadText texts = IsErr (decode_le texts.domain) ⊎
     (IsErr (decode_le texts.user) ⊎ IsErr (decode_le texts.password))
 
--- The text begins with TSCredentials of a password, which stand for these buffers.
+-- The text begins with TSCredentials of a password, which represent these buffers.
 pub record StandsFor (text : List ℕ) (buffers : AuthIdentityBuffers) : Type 0 where
   pub credentials : List ℕ
   pub texts : Passwords
@@ -96,13 +96,13 @@ pub record StandsFor (text : List ℕ) (buffers : AuthIdentityBuffers) : Type 0 
 abbrev pub IsNoCreds : List ℕ → Type 0
 IsNoCreds text = (cred_type credentials : List ℕ) → ¬ IsCreds text cred_type credentials
 
--- TSCredentials of a password, in which no TSPasswordCreds stand
+-- TSCredentials of a password, without TSPasswordCreds in them
 abbrev pub LacksPasswords : List ℕ → Type 0
 LacksPasswords text = (credentials : List ℕ) × IsCredsOfType 1 text credentials ×
     ((texts : Passwords) → ¬ IsPasswordCreds credentials texts)
 
--- The text begins with TSCredentials of a password that stand for these buffers, and behind their
--- SEQUENCE stands the rest.
+-- The text begins with TSCredentials of a password that represent these buffers, and the rest
+-- follows their SEQUENCE.
 abbrev pub StandsBefore : List ℕ → AuthIdentityBuffers → List ℕ → Type 0
 StandsBefore text buffers rest = (t : StandsFor text buffers) × (t.creds_is.1.behind ≡ rest)
 

@@ -16,13 +16,12 @@ abbrev pub Is : {X A : Type 0} → (X → A) → Result X Error → Result A Err
 Is view (Ok x) answer = answer ≡ Ok (view x)
 Is view (Err error) answer = answer ≡ Err error
 
--- no refusal that is reached before the texts are copied
+-- no refusal that comes before the texts are copied
 abbrev pub IsLate : Result CredentialsBuffers Error → Type 0
 IsLate (Ok buffers) = Unit {0}
 IsLate (Err error) = error ≡ bad_text
 
--- what a fault of reading is to a caller: what is malformed is malformed, all else a fault of the
--- outside
+-- what a caller sees of a fault of reading: a malformed structure, or a fault from outside
 abbrev pub refusal_by : WireKind → Error
 refusal_by UnexpectedEof = malformed
 refusal_by InvalidData = malformed

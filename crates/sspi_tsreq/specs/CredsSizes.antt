@@ -1,4 +1,4 @@
--- How many bytes TSCredentials take whose texts have so many.
+-- How many bytes TSCredentials take, from the sizes of their texts.
 use Rattle.std.specs.Prelude.{ℕ, ◌+◌, ◌≤◌}
 use Rattle.sspi_ber.specs.Forms.{max_content}
 use Rattle.sspi_ber.specs.Short.{element_size}
@@ -13,7 +13,7 @@ abbrev pub body_size : ℕ → ℕ → ℕ → ℕ
 body_size domain user password = 5 + element_size
     (element_size (element_size (password_fields_size domain user password)))
 
--- each element fits into the one round it
+-- each element fits into the one around it
 pub record FitTexts (domain user password : ℕ) : Type 0 where
   pub domain_text : domain ≤ max_content
   pub domain_octets : element_size domain ≤ max_content

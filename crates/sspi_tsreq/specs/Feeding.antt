@@ -1,4 +1,4 @@
--- A reader that is fed with pieces, and the bytes that it stands for.
+-- A reader that is fed pieces, and the bytes that it represents.
 use Rattle.std.specs.Prelude.{◌≡◌, ◌≤◌, ◌⊎◌, ℕ, ◌-◌, List, [], ◌++◌, length, take, Ok, Err}
 use Rattle.sspi_ber.specs.Pieces.{Invalid, header_at}
 use Rattle.sspi_tsreq.specs.declared.place.Place.{Place}
@@ -11,8 +11,8 @@ use Rattle.sspi_tsreq.specs.Reading.{body_at}
 use Rattle.sspi_tsreq.specs.Places.{answered, length_rest, rest_at}
 use Rattle.sspi_tsreq.specs.Quiet.{IsWithout, Opened}
 
--- Inside a content: its header was read, `left` of its bytes are to come, and whatever these are,
--- the fields that were read and the place lead to what the whole content reads as.
+-- Inside a content: its header was read, and `left` of its bytes are still to come. Whatever these
+-- are, the fields that were read and the place lead to what the whole content reads as.
 pub record StandsInside (nonce : List ℕ) (left : ℕ) (place : Place) (r : TsRequest)
     (bytes : List ℕ) : Type 0 where
   pub size : ℕ
@@ -30,7 +30,7 @@ StandsAt nonce (OuterLength part) r bytes = (more : List ℕ) →
 StandsAt nonce (Content left place) r bytes = StandsInside nonce left place r bytes
 StandsAt nonce Refused r bytes = header_at 0x30 bytes ≡ Err Invalid
 
--- the reader was fed with these bytes
+-- the reader was fed these bytes
 pub record Stands (reader : TsReader) (bytes : List ℕ) : Type 0 where
   pub at : StandsAt reader.nonce reader.stage reader.request bytes
 
@@ -41,6 +41,6 @@ pub record IsFramed (bytes : List ℕ) : Type 0 where
   pub header : header_at 0x30 bytes ≡ Ok (size, body)
   pub whole : size ≤ length body
 
--- No more bytes are looked at: the message is whole, or its header is none.
+-- Further bytes are ignored: the message is whole, or its header is bad.
 abbrev pub IsPastReading : List ℕ → Type 0
 IsPastReading bytes = IsFramed bytes ⊎ (header_at 0x30 bytes ≡ Err Invalid)

@@ -7,7 +7,7 @@ use Rattle.sspi_ber.specs.declared.wire_kind.WireKind.TheVariants.{InsufficientM
 use Rattle.sspi_ber.specs.Outside.{Reads}
 use Rattle.sspi_ber.specs.Pieces.{bytes_at}
 
--- `into` has the next `size` bytes of the source, or the first fault came
+-- `into` has the next `size` bytes of the source, or the first fault is reported
 abbrev pub Fills : {X : Type 0} → Option (List ℕ) → Option (List ℕ) → Result X WireKind → List ℕ →
     ℕ → Type 0
 Fills before after (Ok x) into size = Reads {X = List ℕ} (λ bytes. bytes) before after (Ok into)
@@ -15,7 +15,7 @@ Fills before after (Ok x) into size = Reads {X = List ℕ} (λ bytes. bytes) bef
 Fills before after (Err kind) into size = Reads {X = List ℕ} (λ bytes. bytes) before after
     (Err kind) (bytes_at size)
 
--- memory is wanted only for bytes that are there
+-- memory runs out only for bytes that are there
 abbrev pub WantsForContent : {X : Type 0} → Option (List ℕ) → Result X WireKind → Type 0
 WantsForContent None result = Unit {0}
 WantsForContent (Some bytes) (Ok x) = Unit {0}

@@ -7,7 +7,7 @@ use Rattle.sspi_types.specs.declared.nstatus.NStatusCode.{NStatusCode}
 use Rattle.sspi_ber.specs.Forms.{IsLength, IsElement, IsInteger, IsWrapped, IsField}
 use Rattle.sspi_tsreq.specs.declared.request.TsRequest.{TsRequest}
 
--- a request of this version and nothing else
+-- a request with this version and nothing else
 abbrev pub bare : ℕ → TsRequest
 bare v = record {
   version = v;
@@ -49,13 +49,13 @@ IsCode text code = IsLow text code.0
 abbrev pub IsNonce : List ℕ → List ℕ → Type 0
 IsNonce text nonce = IsElement 0x04 text nonce × (length nonce ≡ 32)
 
--- a field that is empty where the version does not look for it
+-- a field that is empty if the version does not look for it
 abbrev pub IsLookedFor : {A : Type 0} → Bool → ℕ → (List ℕ → A → Type 0) → List ℕ → Option A →
     List ℕ → Type 0
 IsLookedFor true tag Inner text x following = IsField tag Inner text x following
 IsLookedFor false tag Inner text x following = (text ≡ []) × (x ≡ None)
 
--- the fields in their order, and a tail that is not looked at
+-- the fields in their order, and a tail that is ignored
 pub record IsBody (body : List ℕ) (r : TsRequest) : Type 0 where
   pub version : List ℕ
   pub nego : List ℕ

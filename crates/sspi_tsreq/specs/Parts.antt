@@ -1,4 +1,4 @@
--- The request that the parts of its bytes stand for.
+-- The request that the parts of its bytes represent.
 use Rattle.std.specs.Option.{option_copied}
 use Rattle.sspi_tsreq.specs.declared.parts.Parts.{Parts}
 use Rattle.sspi_tsreq.specs.declared.request.TsRequest.{TsRequest}

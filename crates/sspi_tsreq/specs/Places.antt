@@ -1,5 +1,5 @@
--- What a reader that is fed with pieces answers from each place of the grammar, if these bytes
--- still come.
+-- What a reader that is fed pieces answers from each place of the grammar, if these bytes still
+-- come.
 use Rattle.std.specs.Prelude.{ℕ, ◌+◌, ◌-◌, ◌*◌, ◌%◌, ◌^◌, nat_lt, nat_le, ◌==◌, List, [], ◌++◌}
 use Rattle.std.specs.Prelude.{take, fold, Option}
 use Rattle.std.specs.Prelude.{None, Some, Result, Ok, Err, if◌then◌else◌}
@@ -26,7 +26,7 @@ use Rattle.sspi_tsreq.specs.Reading.{after_nego, after_version, body_at}
 
 -- ---- numbers, of which some octets were read
 
--- a length, behind octets that stand for this value
+-- a length, after octets with this value
 unfoldable pub limited_from : ℕ → ℕ → List ℕ → Read ℕ
 limited_from value count bytes = do
   octets ← bytes_at count bytes
@@ -39,7 +39,7 @@ length_rest Three bytes = limited_from 0 3 bytes
 length_rest (Two value) bytes = limited_from value 2 bytes
 length_rest (One value) bytes = limited_from value 1 bytes
 
--- the low 32 bits of a number, behind bytes that stand for this value
+-- the low 32 bits of a number, after bytes with this value
 unfoldable pub low_from : ℕ → ℕ → List ℕ → Read ℕ
 low_from value count bytes = do
   content ← bytes_at count bytes
@@ -61,12 +61,12 @@ code_then r low = after_code (record r { error_code = Some (record { 0 = low.0 }
 abbrev pub nonce_then : TsRequest → List ℕ × List ℕ → Read TsRequest
 nonce_then r nonce = Ok (record r { client_nonce = Some nonce.0 }, nonce.1)
 
--- a number of so many bytes
+-- a number of n bytes
 abbrev pub sized_low : ℕ → List ℕ → Read ℕ
 sized_low n bytes = (if is_integer_size n then number_at n bytes else Err Invalid) >>= λ w. Ok
     (w.0 % 2 ^ 32, w.1)
 
--- behind the length n of an element
+-- after the length n of an element
 abbrev pub behind : Element → TsRequest → ℕ → List ℕ → Read TsRequest
 behind (Required Version) r n bytes = low_at bytes >>= version_then
 behind (Required VersionNumber) r n bytes = sized_low n bytes >>= version_then
@@ -113,11 +113,11 @@ text_of NegoTokens r = octets_of r.nego_tokens
 text_of AuthInfo r = octets_of r.auth_info
 text_of PubKeyAuth r = octets_of r.pub_key_auth
 
--- bytes of a field behind those that it has
+-- further bytes of a field, after those that it has
 abbrev pub text_more : Text → TsRequest → List ℕ × List ℕ → Read TsRequest
 text_more text r rest = text_then text r (text_of text r ++ rest.0, rest.1)
 
--- what is left of a nonce of which `have` bytes stand in `nonce`
+-- the whole nonce, of which `have` bytes are already in `nonce`
 abbrev pub nonce_rest : List ℕ → ℕ → List ℕ → Read (List ℕ)
 nonce_rest nonce have bytes = if nat_lt have 32
     then (bytes_at (32 - have) bytes >>= λ rest. Ok (take have nonce ++ rest.0, rest.1)) else

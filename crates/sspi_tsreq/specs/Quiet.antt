@@ -1,4 +1,4 @@
--- Where a reader takes memory: in an OCTET STRING, and nowhere else.
+-- Where a reader allocates: in an OCTET STRING, and nowhere else.
 use Rattle.std.specs.Prelude.{◌⊎◌, ◌≡◌, ℕ, List, [], ◌∷◌}
 use Rattle.std.specs.Option.{IsSome}
 use Rattle.sspi_tsreq.specs.declared.place.Element.{Element}
@@ -12,7 +12,7 @@ use Rattle.sspi_tsreq.specs.declared.place.Place.TheVariants.{AtTag, InLength, I
 use Rattle.sspi_tsreq.specs.declared.place.Place.TheVariants.{InText, InNonce, Whole, Faulty}
 use Rattle.sspi_tsreq.specs.declared.request.TsRequest.{TsRequest}
 
--- the bytes have none of this value
+-- no byte has this value
 abbrev pub IsWithout : ℕ → List ℕ → Type 0
 IsWithout value [] = Unit {0}
 IsWithout value (byte ∷ rest) = (byte ≡ value → ⊥) × IsWithout value rest
@@ -32,7 +32,7 @@ abbrev pub IsOctetsElement : Element → Type 0
 IsOctetsElement (Optional field) = ⊥
 IsOctetsElement (Required inner) = IsOctetsHeader inner
 
--- the identifier octet of an OCTET STRING was read, and not yet all of its bytes
+-- the identifier octet of an OCTET STRING was read, but not yet all of its bytes
 abbrev pub Opened : Place → Type 0
 Opened (AtTag element) = ⊥
 Opened (InLength element part) = IsOctetsElement element
@@ -43,7 +43,7 @@ Opened (InNonce have) = ⊥
 Opened Whole = ⊥
 Opened Faulty = ⊥
 
--- the request has an OCTET STRING that is copied; the nonce is none, since it has its place in the
--- request
+-- the request has an OCTET STRING that is copied; the nonce does not count, since it is stored in
+-- the request itself
 abbrev pub HasOctets : TsRequest → Type 0
 HasOctets r = IsSome r.nego_tokens ⊎ (IsSome r.auth_info ⊎ IsSome r.pub_key_auth)

@@ -67,7 +67,7 @@ after_version r bytes = do
   nego ← field_at 0xA1 token_at bytes
   after_nego (record r { nego_tokens = nego.0 }) nego.1
 
--- what stands inside the SEQUENCE; bytes after the last field are left
+-- what is inside the SEQUENCE; bytes after the last field are left
 unfoldable pub body_at : List ℕ → Read TsRequest
 body_at bytes = do
   version ← version_at bytes

@@ -1,5 +1,5 @@
--- Equality of requests is equality of the values: the proof that the impl of `Eq` cites, which is
--- to stand here.
+-- Equality of requests is equality of the values: the proof that the impl of `Eq` cites, which has
+-- to be here.
 use Rattle.std.proofs.Common.{◌≡◌, ℕ, true, List, Option, None, Some, refl, sym, ap, ◌∙◌, subst}
 use Rattle.std.specs.Bool.{Decides}
 use Rattle.std.specs.Cmp.{IsEquivalence, decided}

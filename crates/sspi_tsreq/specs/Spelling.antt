@@ -6,7 +6,7 @@ use Rattle.sspi_ber.specs.Forms.{max_content}
 use Rattle.sspi_ber.specs.Short.{element, int_short}
 use Rattle.sspi_tsreq.specs.declared.request.TsRequest.{TsRequest}
 
--- The code is written from version 3 on, version 5 excepted.
+-- The code is written from version 3 on, except at version 5.
 abbrev pub carries_code : ℕ → Bool
 carries_code version = nat_le 3 version && not (version == 5)
 
@@ -14,7 +14,7 @@ carries_code version = nat_le 3 version && not (version == 5)
 abbrev pub carries_nonce : ℕ → Bool
 carries_nonce version = nat_le 5 version
 
--- what of a request is written
+-- the part of a request that is written
 abbrev pub carried : TsRequest → TsRequest
 carried r = record r {
   error_code = (if carries_code r.version then r.error_code else None);
@@ -44,11 +44,11 @@ unfoldable pub code_field : Option NStatusCode → List ℕ
 code_field None = []
 code_field (Some code) = element 0xA4 (int_short code.0)
 
--- the fields behind pubKeyAuth
+-- the fields after pubKeyAuth
 unfoldable pub last_fields : TsRequest → List ℕ
 last_fields r = code_field r.error_code ++ octets_field 0xA5 r.client_nonce
 
--- the fields behind negoTokens
+-- the fields after negoTokens
 unfoldable pub later_fields : TsRequest → List ℕ
 later_fields r = octets_field 0xA2 r.auth_info ++
     (octets_field 0xA3 r.pub_key_auth ++ last_fields r)

@@ -1,11 +1,11 @@
--- The refusal that an error code in a request is (MS-CSSP 2.2.1, errorCode).
+-- The refusal that an error code in a request means (MS-CSSP 2.2.1, errorCode).
 use Rattle.std.specs.Prelude.{◌≡◌, ◌≢◌, None, Some, Option, Result, Ok, Err}
 use Rattle.sspi_types.specs.declared.error.Error.{Error}
 use Rattle.sspi_types.specs.declared.error_kind.ErrorKind.TheVariants.{InvalidToken}
 use Rattle.sspi_types.specs.declared.nstatus.NStatusCode.{NStatusCode}
 use Rattle.sspi_types.specs.declared.reason.Reason.TheVariants.{ErrorStatus}
 
--- an invalid token with the status that came
+-- an invalid token with the status that was received
 abbrev pub status_error : NStatusCode → Error
 status_error code = record {
   error_type = InvalidToken;

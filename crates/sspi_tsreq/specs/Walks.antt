@@ -1,4 +1,4 @@
--- A reader on its way through a piece, over the request that it has from the pieces before.
+-- A walk through a piece, over the request that the reader has from earlier pieces.
 use Rattle.std.specs.Prelude.{◌≡◌, ℕ, List, Option, None, Some, Result, ◌<◌, ◌≤◌, ◌++◌, Ok, Err}
 use Rattle.sspi_ber.specs.Pieces.{Fault, Read, Invalid, Ended}
 use Rattle.sspi_ber.specs.Forms.{max_content}
@@ -38,7 +38,7 @@ slot Kept before = before
 slot Absent before = None
 slot (Here octets) before = Some octets.now
 
--- what the walk makes of the request
+-- the request after the walk
 abbrev pub filled : TsRequest → Walk → TsRequest
 filled base walk = record {
   version = walk.version;
@@ -70,7 +70,7 @@ IsInText (InNonce have) = ⊥
 IsInText Whole = ⊥
 IsInText Faulty = ⊥
 
--- ---- what takes no memory
+-- ---- what allocates nothing
 
 abbrev pub IsHere : Slot → Type 0
 IsHere Kept = ⊥
@@ -84,7 +84,7 @@ IsQuiet walk = (Opened walk.place → ⊥) × ((IsHere walk.nego_tokens → ⊥)
 
 -- ---- one byte
 
--- what is read from a byte on is what this makes of the bytes behind it
+-- what is read from a byte on is what this step reads from the bytes after it
 abbrev pub LeadsTo : Read TsRequest → List ℕ → TsRequest → List ℕ → Next → Type 0
 LeadsTo read nonce r more (next.At place) = read ≡ rest_at nonce place r more
 LeadsTo read nonce r more (next.Version low) = read ≡ version_then (low, more)
@@ -104,19 +104,19 @@ LengthSteps read (Part part) more = read ≡ length_rest part more
 LengthSteps read (Known n) more = read ≡ Ok (n, more)
 LengthSteps read Bad more = read ≡ Err Invalid
 
--- what the limit makes of a length of several octets
+-- the effect of the limit on a length of several octets
 abbrev pub LengthLasts : LengthStep → ℕ → Type 0
 LengthLasts (Part part) len = ⊥
 LengthLasts (Known n) len = (n ≡ len) × (len ≤ max_content)
 LengthLasts Bad len = max_content < len
 
--- the request with this for the field's bytes
+-- the request with these bytes in the field
 abbrev pub with_text : Text → TsRequest → List ℕ → TsRequest
 with_text NegoTokens r octets = record r { nego_tokens = Some octets }
 with_text AuthInfo r octets = record r { auth_info = Some octets }
 with_text PubKeyAuth r octets = record r { pub_key_auth = Some octets }
 
--- the identifier octet of what has to come
+-- the identifier octet of a required element
 abbrev pub inner_tag : Inner → ℕ
 inner_tag Version = 0xA0
 inner_tag VersionNumber = 0x02
@@ -134,7 +134,7 @@ IsOuter (OuterLength part) = Unit {0}
 IsOuter (Content left place) = ⊥
 IsOuter Refused = Unit {0}
 
--- the field in which the reader stands, with these bytes more
+-- the request with these bytes appended to the reader's current field
 abbrev pub lengthened : Place → TsRequest → List ℕ → TsRequest
 lengthened (AtTag element) r octets = r
 lengthened (InLength element part) r octets = r
@@ -153,7 +153,7 @@ numbered r base = record base {
   client_nonce = r.client_nonce;
 }
 
--- what a list reads as, told as a result
+-- the result that reports what a list reads as
 abbrev pub EndsAs : Result TsRequest Fault → Result TsRequest WireKind → Type 0
 EndsAs answer (Ok r) = answer ≡ Ok r
 EndsAs answer (Err UnexpectedEof) = answer ≡ Err Ended
@@ -162,7 +162,7 @@ EndsAs answer (Err ReadFault) = ⊥
 EndsAs answer (Err WriteFault) = ⊥
 EndsAs answer (Err InsufficientMemory) = ⊥
 
--- what a step of its length makes of the outer header
+-- the stage of the outer header after a step of its length
 abbrev pub stage_of : LengthStep → Stage
 stage_of (Part part) = OuterLength part
 stage_of (Known size) = Content size (AtTag (Required Version))
@@ -174,8 +174,8 @@ IsPast (OuterLength part) = ⊥
 IsPast (Content left place) = left ≡ 0
 IsPast Refused = Unit {0}
 
--- the reader went on through these bytes of the content, from a place over a request, and so many
--- are left
+-- the reader went on through these bytes of the content, from a place over a request, and `left`
+-- more are still to come
 pub record WentOn (nonce : List ℕ) (place : Place) (r : TsRequest) (body : List ℕ) (left : ℕ)
     (reader : TsReader) : Type 0 where
   pub now : Place

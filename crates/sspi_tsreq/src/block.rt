@@ -1,4 +1,4 @@
-//! Reads a content in blocks, so that memory is taken only for bytes that came.
+//! Reads a content in blocks, so that memory is allocated only for bytes that arrived.
 
 ghost use Rattle.std.specs.Prelude.{◌<◌, ◌≤◌, ◌+◌, length};
 ghost use Rattle.sspi_ber.specs.Outside.{CopyCause, LeavesRest, ReadCause, Reads};
@@ -8,11 +8,11 @@ ghost use Rattle.sspi_tsreq.specs.Filled.{Fills, WantsForContent};
 use sspi_ber::{Source, WireKind};
 use std::alloc::Global;
 
-/// So many bytes are read before memory is taken for them.
+/// At most this many bytes are read before memory is allocated for them.
 const PIECE_LENGTH: usize = 1024;
 
-/// Fills `into` with the next bytes of the source, in as many reads as it needs. `UnexpectedEof`
-/// where fewer are left.
+/// Fills `into` with the next bytes of the source, in as many reads as needed. `UnexpectedEof` if
+/// fewer are left.
 pub(crate) fn read_block<S: Source>(source: &mut S, into: &mut [u8]) -> Result<(), WireKind>
     ensures read { Fills (S.left source.old) (S.left source.new) result into.new (length into.old) }
     ensures cause { ReadCause (S.faults source.old) (S.faults source.new) result }
@@ -29,9 +29,9 @@ pub(crate) fn read_block<S: Source>(source: &mut S, into: &mut [u8]) -> Result<(
     Ok(())
 }
 
-/// The next `len` bytes of the source, in memory of their own. `UnexpectedEof` where fewer are
-/// left. Memory is taken piece by piece, for bytes that came: a source that has fewer than it
-/// announces costs no more than these.
+/// The next `len` bytes of the source, in memory of their own. `UnexpectedEof` if fewer are left.
+/// Memory is allocated piece by piece, for bytes that arrived: a source with fewer bytes than it
+/// announces costs no more memory than the bytes it has.
 pub(crate) fn read_content<S: Source>(
     alloc: Global,
     source: &mut S,
@@ -53,7 +53,7 @@ pub(crate) fn read_content<S: Source>(
     Ok(content)
 }
 
-/// How many bytes the next piece has, where so many of the whole were read.
+/// How many bytes the next piece has, when `read` bytes of the whole were read.
 fn piece_length(read: usize, whole: usize) -> usize
     requires { read < whole }
     ensures some { 0 < result }

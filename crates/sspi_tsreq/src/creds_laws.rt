@@ -15,7 +15,7 @@ ghost use Rattle.sspi_tsreq.specs.CredsGrammar.{HasBadText, IsCreds, IsCredsOfTy
 ghost use Rattle.sspi_tsreq.specs.CredsGrammar.{IsOtherType, IsPasswordCreds};
 ghost use Rattle.sspi_tsreq.specs.CredsGrammar.{LacksPasswords, StandsFor};
 
-/// Buffers are read exactly where the grammar has TSCredentials of a password that stand for them;
+/// Buffers are read exactly when the text begins with password TSCredentials that represent them;
 /// a keytab is never read.
 pub fn password_is_grammar()
     ensures password { (text : List ℕ) (buffers : AuthIdentityBuffers)
@@ -24,29 +24,27 @@ pub fn password_is_grammar()
         ¬ (creds_of text ≡ Ok (buffered.Keytab keytab)) }
 {}
 
-/// A smart card is refused exactly where the grammar has TSCredentials of type 2, whatever the
-/// credentials are.
+/// A smart card is refused exactly when there are TSCredentials of type 2, with any credentials.
 pub fn smart_card_is_grammar()
     ensures { (text : List ℕ) → (creds_of text ≡ Err smart_card) ↔
         ((credentials : List ℕ) × IsCredsOfType 2 text credentials) }
 {}
 
-/// A type is refused as unknown exactly where the grammar has TSCredentials of a type without
-/// meaning.
+/// A type is refused as unknown exactly when there are TSCredentials of a type without meaning.
 pub fn unknown_type_is_grammar()
     ensures { (text : List ℕ) → (creds_of text ≡ Err unknown_type)
         ↔ ((cred_type credentials : List ℕ) × IsCreds text cred_type credentials ×
         IsOtherType cred_type) }
 {}
 
-/// A structure is refused as malformed exactly where there are no TSCredentials, or some of a
-/// password without TSPasswordCreds.
+/// A structure is refused as malformed exactly when there are no TSCredentials, or password
+/// TSCredentials without TSPasswordCreds.
 pub fn malformed_is_grammar()
     ensures { (text : List ℕ) → (creds_of text ≡ Err malformed) ↔
         (IsNoCreds text ⊎ LacksPasswords text) }
 {}
 
-/// A text is refused exactly where both structures are there and one of the three texts is not
+/// A text is refused exactly when both structures are present and one of the three texts is not
 /// UTF-16.
 pub fn bad_text_is_grammar()
     ensures { (text : List ℕ) → (creds_of text ≡ Err bad_text)
@@ -55,13 +53,13 @@ pub fn bad_text_is_grammar()
         HasBadText texts) }
 {}
 
-/// Nothing else is answered.
+/// There is no other refusal.
 pub fn no_other_refusal()
     ensures { (text : List ℕ) (error : Error) → creds_of text ≡ Err error
         → (error ≡ malformed) ⊎ (error ≡ unknown_type) ⊎ (error ≡ smart_card) ⊎ (error ≡ bad_text) }
 {}
 
-/// Bytes begin with at most one TSCredentials, with at most one TSPasswordCreds, and stand for at
+/// Bytes begin with at most one TSCredentials, with at most one TSPasswordCreds, and represent at
 /// most one identity.
 pub fn creds_are_known_by_bytes()
     ensures creds { (text cred_type credentials other_type other : List ℕ) →
@@ -75,8 +73,8 @@ pub fn creds_are_known_by_bytes()
         → buffers ≡ other }
 {}
 
-/// What is written of credentials is read back as the same buffers, or as empty ones where the
-/// client keeps its credentials, whatever follows it.
+/// Written credentials are read back as the same buffers, or as empty ones if the client keeps its
+/// credentials, whatever follows.
 #[tactic(auto, using(crate::proofs::CredsBack::credentials_back, crate::proofs::CredsBack::credentials_back_alone))]
 pub fn written_credentials_are_read()
     ensures read { (c : CredentialsBuffers) (mode : CredSspMode) (text : List ℕ) →

@@ -18,14 +18,14 @@ use sspi_names::{AuthIdentityBuffers, CredentialsBuffers, Utf16Text};
 use sspi_types::{Error, ErrorKind, Reason, Secret};
 use std::alloc::Global;
 
-/// Reads TSCredentials (MS-CSSP 2.2.1.2) with a password. Bytes behind them stay in the source.
+/// Reads TSCredentials (MS-CSSP 2.2.1.2) with a password. Bytes after them stay in the source.
 ///
-/// `InvalidToken` comes for a structure that is malformed and for a credType without content; then,
-/// by its first content byte, `UnsupportedFunction` for a smart card (2) and `InvalidToken` for
-/// another type than a password (1); then `InvalidToken` for password credentials that are
-/// malformed; and `InvalidParameter` for a text with an odd number of bytes or an unpaired
-/// surrogate. `InternalError` comes only where the source failed. The content is read into memory
-/// once its header was read, so out of memory may come in place of any refusal but that of the
+/// `InvalidToken` comes for a malformed structure and for a credType without content. Next, the
+/// first content byte of credType decides: `UnsupportedFunction` for a smart card (2), and
+/// `InvalidToken` for any type other than a password (1). Then `InvalidToken` comes for malformed
+/// password credentials, and `InvalidParameter` for a text with an odd number of bytes or an
+/// unpaired surrogate. `InternalError` comes only if the source failed. The content is read into
+/// memory after its header, so out of memory may come in place of any refusal but that of the
 /// header.
 #[tactic(auto, using(crate::proofs::Unwanted::header_unwanted, crate::proofs::Unwanted::header_begins))]
 pub fn read_ts_credentials<S: Source>(
@@ -52,9 +52,9 @@ pub fn read_ts_credentials<S: Source>(
     }
 }
 
-/// The same of bytes in memory, which are read where they stand. Memory is taken for the texts
-/// alone, once all of them are known to be texts. So out of memory comes only where the bytes stand
-/// for credentials, and never in place of another refusal.
+/// The same for bytes in memory, which are read in place. Memory is allocated for the texts alone,
+/// once all three are known to be UTF-16. So out of memory comes only when the bytes represent
+/// credentials, and never in place of another refusal.
 #[tactic(auto, using(crate::proofs::Unwanted::late_has), unfolding(crate::specs::Creds::creds_of))]
 pub fn read_ts_credentials_from_slice(
     alloc: Global,
@@ -176,7 +176,7 @@ fn read_octets<'a>(source: &mut SliceSource<'a>, tag: u8) -> Result<&'a [u8], Wi
     read_element(&mut field, OCTET_STRING)
 }
 
-/// Refuses another type than a password, by the first content byte.
+/// Refuses any type other than a password, by the first content byte.
 fn expect_password(cred_type: &[u8]) -> Result<(), Error>
     ensures { Is (λ _. tt) result (password_type cred_type.now) }
 {
@@ -187,7 +187,7 @@ fn expect_password(cred_type: &[u8]) -> Result<(), Error>
     }
 }
 
-/// Whether each is a text. Takes no memory.
+/// Whether each text is UTF-16. Allocates nothing.
 fn are_texts(passwords: &Passwords<'_>) -> bool
     ensures { result ≡ are_texts
         (record {
@@ -238,8 +238,8 @@ fn read_text(alloc: Global, bytes: &[u8]) -> Result<Utf16Text, Error>
     }
 }
 
-/// What a fault of reading is to a caller: a failed source is `InternalError`, all else a malformed
-/// structure.
+/// What a caller sees of a fault of reading: `InternalError` for a failed source, out of memory as
+/// such, and a malformed structure otherwise.
 fn refusal_of(kind: WireKind) -> Error
     ensures { result ≡ refusal_by kind }
 {

@@ -33,13 +33,13 @@ struct Texts<'a> {
     password: &'a [u8],
 }
 
-/// Writes TSCredentials (MS-CSSP 2.2.1.2) with a password, in their shortest encoding; without the
-/// credentials, in `CredentialLess`, with three empty texts.
+/// Writes TSCredentials (MS-CSSP 2.2.1.2) with a password, in their shortest encoding. In the mode
+/// `CredentialLess`, the three texts are empty.
 ///
-/// `UnsupportedPreAuth` comes exactly for a keytab, in both modes, and then no memory is taken;
-/// `InternalError` exactly where the content passes `sspi_ber::MAX_CONTENT`, 1048576 octets, which
-/// is measured before the texts are encoded. So out of memory comes only where there is a text to
-/// be written.
+/// `UnsupportedPreAuth` comes exactly for a keytab, in both modes, and then nothing is allocated;
+/// `InternalError` exactly when the content exceeds `sspi_ber::MAX_CONTENT`, 1048576 octets, which
+/// is measured before the texts are encoded. So out of memory comes only when there is an encoding
+/// to write.
 pub fn write_ts_credentials(
     alloc: Global,
     credentials: &CredentialsBuffers,
@@ -96,7 +96,7 @@ fn write_buffers(alloc: Global, buffers: &AuthIdentityBuffers) -> Result<Vec<u8>
     )
 }
 
-/// TSCredentials with these texts, where their content fits.
+/// TSCredentials with these texts, if their content fits.
 #[tactic(auto, using(crate::proofs::Room::fits_ok, crate::proofs::Room::long_unwanted))]
 fn write_texts(alloc: Global, texts: &Texts<'_>) -> Result<Vec<u8>, Error>
     ensures text { IsOrMemory (λ text. text.items) result
@@ -123,7 +123,7 @@ fn too_long() -> Error
     Error::new(ErrorKind::InternalError, Reason::TooLong)
 }
 
-/// How many bytes the content of TSPasswordCreds takes whose texts have so many, or a number past
+/// How many bytes the content of TSPasswordCreds takes with texts of these sizes, or a number past
 /// the limit.
 #[tactic(auto, using(crate::proofs::Room::fields_capped))]
 fn capped_fields(domain: usize, user: usize, password: usize) -> usize
@@ -136,8 +136,8 @@ fn capped_fields(domain: usize, user: usize, password: usize) -> usize
     domain + (user + password)
 }
 
-/// How many bytes the content of TSCredentials takes whose texts have so many, or a number past the
-/// limit.
+/// How many bytes the content of TSCredentials takes with texts of these sizes, or a number past
+/// the limit.
 #[tactic(auto, using(crate::proofs::Room::body_capped))]
 fn capped_body(domain: usize, user: usize, password: usize) -> usize
     ensures { IsCapped result (body_size domain user password) }
@@ -155,7 +155,7 @@ fn write_creds<W: Sink>(sink: &mut W, texts: &Texts<'_>, size: usize) -> Result<
     requires size { size ≡ length (creds_body texts.now.domain.now texts.now.user.now
         texts.now.password.now) }
     requires small { size ≤ max_content }
-    // What was written, and why not all.
+    // What was written, and why not all of it.
     ensures wrote { Writes (W.written sink.old) (W.written sink.new) result
         (element 0x30 (creds_body texts.now.domain.now texts.now.user.now texts.now.password.now)) }
     ensures cause { WriteCause (W.faults sink.old) (W.faults sink.new) result }
@@ -200,7 +200,7 @@ fn write_credentials_field<W: Sink>(sink: &mut W, texts: &Texts<'_>) -> Result<(
     write_octets(sink, texts)
 }
 
-/// The OCTET STRING in which the credentials stand.
+/// The OCTET STRING that holds the credentials.
 #[tactic(auto, using(sspi_ber::proofs::Written::writing), unfolding(sspi_ber::specs::Short::element))]
 fn write_octets<W: Sink>(sink: &mut W, texts: &Texts<'_>) -> Result<(), WireKind>
     requires { FitTexts (length texts.now.domain.now) (length texts.now.user.now)

@@ -9,7 +9,7 @@ use sspi_ber::{Sink, Source, WireKind, write_all};
 /// How many bytes an Early User Authorization Result PDU has.
 pub const EARLY_USER_AUTH_RESULT_PDU_SIZE: usize = 4;
 
-/// Whether the user may log on, which a server that supports HYBRID_EX says behind CredSSP
+/// Whether the user may log on, which a server that supports HYBRID_EX sends after CredSSP
 /// (MS-RDPBCGR 2.2.10.2).
 #[derive(Clone, Copy, Debug, PartialEq, Eq)]
 pub enum EarlyUserAuthResult {
@@ -23,7 +23,7 @@ impl EarlyUserAuthResult {
     ghost use Rattle.sspi_tsreq.specs.Early.{number_of, result_of, early_result_at};
     ghost use Rattle.sspi_tsreq.specs.Early.{early_result_text};
 
-    /// The result of this number, 0 or 5; none for another.
+    /// The result with this number, 0 or 5; `None` for any other.
     pub fn from_u32(value: u32) -> Option<EarlyUserAuthResult>
         ensures { result ≡ result_of value }
     {
@@ -34,7 +34,7 @@ impl EarlyUserAuthResult {
         }
     }
 
-    /// The number: 0 for success, 5 where access is denied.
+    /// The number: 0 for success, 5 for access denied.
     pub fn to_u32(self) -> u32
         ensures { result ≡ number_of self }
     {
@@ -44,8 +44,8 @@ impl EarlyUserAuthResult {
         }
     }
 
-    /// Reads a result, four bytes with the low one first. `UnexpectedEof` where fewer are left,
-    /// `InvalidData` for a number that is no result, `ReadFault` only where the source failed.
+    /// Reads a result, four bytes with the low one first. `UnexpectedEof` if fewer are left,
+    /// `InvalidData` for a number that is no result, `ReadFault` only if the source failed.
     #[tactic(auto, unfolding(crate::specs::Early::early_result_at))]
     pub fn from_buffer<S: Source>(source: &mut S) -> Result<EarlyUserAuthResult, WireKind>
         ensures read { Reads (λ result. result) (S.left source.old) (S.left source.new) result
@@ -61,8 +61,8 @@ impl EarlyUserAuthResult {
         }
     }
 
-    /// Writes the four bytes. `WriteFault` only where the sink failed; after it, and when out of
-    /// memory, at most three of them were written, from the first on.
+    /// Writes the four bytes. `WriteFault` only if the sink failed; after it, and when out of
+    /// memory, at most the first three of them were written.
     pub fn to_buffer<W: Sink>(self, sink: &mut W) -> Result<(), WireKind>
         ensures wrote { Writes (W.written sink.old) (W.written sink.new) result
             (early_result_text self) }

@@ -4,8 +4,8 @@ ghost use Rattle.std.specs.Prelude.{◌≡◌, ◌++◌, ℕ, List, Some, Ok};
 ghost use Rattle.sspi_tsreq.specs.declared.early.EarlyUserAuthResult.{EarlyUserAuthResult};
 ghost use Rattle.sspi_tsreq.specs.Early.{early_result_at, early_result_text, number_of, result_of};
 
-/// A result that is written is read back, and exactly its four bytes are taken; its number stands
-/// for it alone.
+/// A written result is read back, and exactly its four bytes are consumed; no other result has its
+/// number.
 #[tactic(auto, using(crate::proofs::EarlyBack::read_back, crate::proofs::EarlyBack::number_back))]
 pub fn written_result_is_read()
     ensures read { (r : EarlyUserAuthResult) (more : List ℕ) →

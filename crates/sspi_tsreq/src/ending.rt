@@ -1,4 +1,4 @@
-//! What a content is that ends where a reader stands.
+//! The result when a content ends at the reader's position.
 
 ghost use Rattle.std.specs.Prelude.{◌≡◌, ℕ, List, [], Ok, Err};
 ghost use Rattle.sspi_ber.specs.Outside.{NeedsNoMemory};
@@ -10,7 +10,7 @@ use crate::place::{Element, Field, Inner, Place};
 use crate::request::TsRequest;
 use sspi_ber::WireKind;
 
-/// The request without the fields from this one on.
+/// The request without this field and those after it.
 fn without(field: Field, request: TsRequest) -> TsRequest
     ensures { answered (from_field field request []) ≡ Ok result }
 {
@@ -43,7 +43,7 @@ fn without(field: Field, request: TsRequest) -> TsRequest
     request
 }
 
-/// What a content is that ends where this element may stand.
+/// The result when a content ends where this element may begin.
 fn tag_ended(element: Element, request: TsRequest) -> Result<TsRequest, WireKind>
     ensures ends { EndsAs (answered (from_tag element request [])) result }
     ensures memory { NeedsNoMemory result }
@@ -62,7 +62,7 @@ fn missing(inner: Inner) -> Result<TsRequest, WireKind>
     Err(WireKind::UnexpectedEof)
 }
 
-/// What is wrong with a nonce that ends here.
+/// The fault of a nonce that ends here.
 fn nonce_fault(have: u32) -> WireKind
     ensures ends { (nonce : List ℕ) (r : TsRequest) →
         EndsAs (answered (nonce_from nonce have r [])) (Err result) }
@@ -75,7 +75,7 @@ fn nonce_fault(have: u32) -> WireKind
     }
 }
 
-/// What a content is that ends here.
+/// The result when a content ends at this place.
 pub(crate) fn ended(place: Place, request: TsRequest) -> Result<TsRequest, WireKind>
     ensures ends { (nonce : List ℕ) → EndsAs (answered (rest_at nonce place request [])) result }
     ensures memory { NeedsNoMemory result }

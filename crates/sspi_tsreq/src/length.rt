@@ -8,7 +8,7 @@ ghost use Rattle.sspi_tsreq.specs.Walks.{LengthLasts, LengthSteps};
 use crate::place::{LengthPart, LengthStep};
 use sspi_ber::MAX_CONTENT;
 
-/// What this byte makes of a length.
+/// The length after this byte.
 pub(crate) fn next_length(part: LengthPart, byte: u8) -> LengthStep
     ensures { (more : List ℕ) → LengthSteps (length_rest part (byte ∷ more)) result more }
 {
@@ -39,7 +39,7 @@ fn first_octet(byte: u8) -> LengthStep
     }
 }
 
-/// A length of several octets that stand for this number.
+/// A length of several octets whose value is `len`.
 fn last_octet(len: u32) -> LengthStep
     ensures { LengthLasts result len }
 {
@@ -49,7 +49,7 @@ fn last_octet(len: u32) -> LengthStep
     LengthStep::Known(len)
 }
 
-/// Whether an INTEGER's content may have so many bytes.
+/// Whether an INTEGER's content may have this many bytes.
 pub(crate) fn is_integer_size(size: u32) -> bool
     ensures { result ≡ is_integer_size size }
 {

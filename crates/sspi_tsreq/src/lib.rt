@@ -1,24 +1,24 @@
 //! The messages of CredSSP (MS-CSSP 2.2), TSRequest and TSCredentials, and the early user
-//! authorization result that a server may send behind them (MS-RDPBCGR 2.2.10.2).
+//! authorization result that a server may send after them (MS-RDPBCGR 2.2.10.2).
 //!
-//! `TsRequest::from_buffer` reads exactly the grammar of `specs/Grammar.antt`: it answers the
+//! `TsRequest::from_buffer` reads exactly the grammar of `specs/Grammar.antt`: it returns the
 //! request that the bytes begin with, or their first fault from the left. `encode_ts_request`
 //! writes exactly the shortest encoding of what the version carries, or refuses what is too long
-//! before a byte is written. `laws.rt` says what both give together: what was written is read again
-//! whatever follows, no proper prefix of it is read, and what the two faults mean.
-//! `write_ts_credentials` and `read_ts_credentials` do the same for the credentials that are
-//! delegated (`specs/CredsGrammar.antt`, `specs/Creds.antt`, `creds_laws.rt`), and
-//! `EarlyUserAuthResult` is the server's four bytes.
+//! before a byte is written. `laws.rt` relates the two: what was written is read back, whatever
+//! follows; no proper prefix of it is read; and it says what the two faults mean.
+//! `write_ts_credentials` and `read_ts_credentials` do the same for delegated credentials
+//! (`specs/CredsGrammar.antt`, `specs/Creds.antt`, `creds_laws.rt`), and `EarlyUserAuthResult` is
+//! the server's four bytes.
 //!
-//! `TsReader` (`reader.rt`) reads the same from pieces, as a stream gives them, and `from_buffer`
-//! is one piece. A request that the first piece has whole is read at once (`reading.rt`), and else
-//! `walk.rt` goes byte by byte, over the places of `place.rt`. A piece of one byte changes the
-//! reader where it stands (`one_byte.rt`, and `next.rt` for the place), and `ending.rt` says what a
-//! content is that ends. `specs/Feeding.antt` says which bytes a reader stands for.
+//! `TsReader` (`reader.rt`) reads the same from pieces, as a stream delivers them; `from_buffer`
+//! reads a single piece. A request that is whole in the first piece is read at once (`reading.rt`);
+//! otherwise `walk.rt` goes byte by byte, over the places of `place.rt`. A piece of one byte
+//! updates the reader in place (`one_byte.rt`, and `next.rt` for the place). `ending.rt` gives the
+//! result when a content ends. `specs/Feeding.antt` says which bytes a reader represents.
 //!
-//! `request.rt` has the message with its calls, `reading.rt` and `writing.rt` what stands behind
-//! them, one function for each field and for what follows it. What is in one piece is read without
-//! memory; `parts.rt` copies what was found whole. `specs/Reading.antt` has the same chain on
+//! `request.rt` has the message and its calls. `reading.rt` and `writing.rt` implement them, with
+//! one function for each field and for what follows it. What is in one piece is read without
+//! allocating; `parts.rt` copies what was found whole. `specs/Reading.antt` has the same chain on
 //! lists, and `specs/Spelling.antt` the encoding.
 #![tactic(auto)]
 

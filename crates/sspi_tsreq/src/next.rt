@@ -1,4 +1,4 @@
-//! What one byte makes of a place.
+//! The effect of one byte at a place.
 
 ghost use Rattle.std.specs.Prelude.{◌≡◌, ℕ, List, ◌∷◌};
 ghost use Rattle.sspi_tsreq.specs.declared.request.TsRequest.{TsRequest};
@@ -10,7 +10,7 @@ use crate::length::next_length;
 use crate::place::{Element, Inner, LengthPart, LengthStep, Next, Place, Text};
 use crate::walk::{after_text, code_place, inside, nonce_place, push_low, tag_of, version_place};
 
-/// What this byte makes of the place.
+/// The effect of this byte at the place.
 pub(crate) fn next_place(place: Place, byte: u8) -> Next
     ensures goes { (nonce more : List ℕ) (r : TsRequest) →
         LeadsTo (rest_at nonce place r (byte ∷ more)) nonce r more result }
@@ -79,7 +79,7 @@ fn length_next(element: Element, part: LengthPart, byte: u8) -> Next
     }
 }
 
-/// What stands behind a length.
+/// What follows a length.
 fn content_next(element: Element, len: u32) -> Next
     ensures goes { (nonce more : List ℕ) (r : TsRequest) →
         LeadsTo (behind element r len more) nonce r more result }
@@ -108,7 +108,7 @@ fn inner_next(inner: Inner, len: u32) -> Next
     })
 }
 
-/// The place in a field of which so many bytes are to come, behind those that it has.
+/// The place in a field of which `more` bytes are still to come, after those that it has.
 pub(crate) fn text_place(text: Text, more: u32) -> Place
     ensures { (nonce rest octets : List ℕ) (r : TsRequest) →
         text_left text more (with_text text r octets) rest ≡

@@ -1,4 +1,4 @@
-//! One byte of a request's content, which changes the reader where it stands.
+//! Reads one byte of a request's content, which updates the reader in place.
 
 ghost use Rattle.std.specs.Prelude.{◌≡◌, ◌<◌, [], ◌∷◌, ◌++◌, Some, IsOk, OnOk, OnErr};
 ghost use Rattle.sspi_tsreq.specs.Walks.{WentOn, with_text};
@@ -14,7 +14,7 @@ use crate::walk::put_byte;
 use sspi_types::{Bytes, NStatusCode};
 use std::alloc::{AllocError, Global};
 
-/// One byte behind those that the field has; where there is no memory the field stays as it was.
+/// Appends one byte to the field; when out of memory, the field stays as it was.
 fn push_octet(alloc: Global, field: &mut Option<Bytes>, byte: u8) -> Result<(), AllocError>
     ensures ok { OnOk result (field.new ≡ Some (octets_of field.old ++ byte ∷ [])) }
     ensures err { OnErr result (field.new ≡ field.old) }
@@ -29,7 +29,7 @@ fn push_octet(alloc: Global, field: &mut Option<Bytes>, byte: u8) -> Result<(), 
 }
 
 impl TsReader {
-    /// One byte of the content, behind which `left` are to come.
+    /// Reads one byte of the content; `left` more are still to come.
     pub(crate) fn read_byte(&mut self, left: u32, place: Place, byte: u8) -> Result<(), AllocError>
         ensures ok { OnOk result (WentOn self.old.nonce place self.old.request (byte ∷ []) left
             self.new) }
@@ -77,7 +77,7 @@ impl TsReader {
         }
     }
 
-    /// One byte that is none of a field's content, or the last of its number.
+    /// Reads one byte that is content neither of a text field nor of the nonce.
     fn step_byte(&mut self, left: u32, place: Place, byte: u8) -> Result<(), AllocError>
         ensures ok { OnOk result (WentOn self.old.nonce place self.old.request (byte ∷ []) left
             self.new) }
@@ -100,7 +100,7 @@ impl TsReader {
         Ok(())
     }
 
-    /// The version is known, and no field yet.
+    /// The version is known, but no field yet.
     fn begin(&mut self, left: u32, version: u32)
         ensures { self.new ≡ record self.old {
           stage = Stage.Content left (Place.AtTag (Element.Optional Field.Nego));
@@ -111,7 +111,7 @@ impl TsReader {
         self.stage = Stage::Content(left, Place::AtTag(Element::Optional(Field::Nego)));
     }
 
-    /// The field is there, and has no bytes yet.
+    /// The field is present, but has no bytes yet.
     fn begin_text(&mut self, text: Text)
         ensures { self.new ≡ record self.old { request = with_text text self.old.request [] } }
     {

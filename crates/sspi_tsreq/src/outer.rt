@@ -1,4 +1,4 @@
-//! The outer header of a request, as far as a piece has it.
+//! The outer header of a request, or as much of it as a piece has.
 
 ghost use Rattle.std.specs.Prelude.{◌≡◌, ◌≤◌, ℕ, List, [], ◌∷◌, ◌++◌, length, take, MatchBool};
 ghost use Rattle.sspi_tsreq.specs.declared.request.TsRequest.{TsRequest};
@@ -8,7 +8,7 @@ ghost use Rattle.sspi_tsreq.specs.Walks.{IsOuter, IsPast, stage_of};
 use crate::length::next_length;
 use crate::place::{Element, Inner, LengthPart, LengthStep, Place, Stage};
 
-/// What one byte makes of the outer header.
+/// The stage after one more byte of the outer header.
 fn outer_step(stage: Stage, byte: u8) -> Stage
     requires { IsOuter stage }
     ensures stands { (nonce bytes : List ℕ) (r : TsRequest) → StandsAt nonce stage r bytes →
@@ -52,7 +52,7 @@ fn is_outer(stage: Stage) -> bool
     }
 }
 
-/// The outer header, as far as the piece has it, and how many of its bytes were read.
+/// Reads what the piece has of the outer header; returns the stage and how many bytes were read.
 pub(crate) fn read_outer(stage: Stage, piece: &[u8]) -> (Stage, usize)
     ensures stands { (nonce bytes : List ℕ) (r : TsRequest) → StandsAt nonce stage r bytes →
         StandsAt nonce result.0 r (bytes ++ take result.1 piece.now) }

@@ -1,4 +1,4 @@
-//! A request where it stands in its bytes, and the copy that is made of it.
+//! A request in place, in its bytes, and the copy that is made of it.
 
 ghost use Rattle.std.specs.Prelude.{◌≡◌, IfOk, IfErr};
 ghost use Rattle.std.specs.Option.{IsSome, option_copied};
@@ -10,7 +10,7 @@ use sspi_ber::WireKind;
 use sspi_types::{Bytes, NStatusCode};
 use std::alloc::{AllocError, Global};
 
-/// The fields of a request, each OCTET STRING and the nonce where they stand in the bytes.
+/// The fields of a request, with the OCTET STRINGs and the nonce in place, in the bytes.
 #[derive(Clone, Copy)]
 pub(crate) struct Parts<'a> {
     pub version: u32,
@@ -21,7 +21,7 @@ pub(crate) struct Parts<'a> {
     pub client_nonce: Option<&'a [u8; 32]>,
 }
 
-/// A copy, which takes memory exactly where there is something to copy.
+/// A copy, which allocates only if there is something to copy.
 fn copy_octets(alloc: Global, octets: Option<&[u8]>) -> Result<Option<Bytes>, AllocError>
     ensures ok { IfOk result (λ copy. copy ≡ option_copied octets.entry) }
     ensures memory { IfErr result (λ _. IsSome (option_copied octets.entry)) }
@@ -32,7 +32,7 @@ fn copy_octets(alloc: Global, octets: Option<&[u8]>) -> Result<Option<Bytes>, Al
     }
 }
 
-/// The request of these parts. Memory is taken only where there is an OCTET STRING to copy.
+/// The request with these parts. Allocates only if there is an OCTET STRING to copy.
 pub(crate) fn copy_request(alloc: Global, parts: &Parts<'_>) -> Result<TsRequest, WireKind>
     ensures ok { IfOk result (λ request. request ≡ seen parts.now) }
     ensures memory { IfErr result (λ kind. (kind ≡ WireKind.InsufficientMemory) ×

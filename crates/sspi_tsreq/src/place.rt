@@ -1,21 +1,21 @@
-//! Where a reader that is fed with pieces stands in the grammar of a request.
+//! The position, in the grammar of a request, of a reader that is fed pieces.
 
-/// What is still to come of a length.
+/// The part of a length that is still to come.
 #[derive(Clone, Copy)]
 pub(crate) enum LengthPart {
     /// All of it.
     First,
     /// Three octets.
     Three,
-    /// Two octets, behind this one.
+    /// Two octets, after this one.
     Two(u8),
-    /// One octet, behind octets that stand for this number.
+    /// One octet, after octets with this value.
     One(u16),
 }
 
-/// What one byte more makes of a length.
+/// A length after one more byte.
 pub(crate) enum LengthStep {
-    /// This much is still to come.
+    /// This part is still to come.
     Part(LengthPart),
     /// The length is whole.
     Known(u32),
@@ -31,7 +31,7 @@ pub(crate) enum Text {
     PubKeyAuth,
 }
 
-/// The fields behind the version, which may be absent.
+/// The fields after the version, which may be absent.
 #[derive(Clone, Copy)]
 pub(crate) enum Field {
     Nego,
@@ -41,7 +41,7 @@ pub(crate) enum Field {
     Nonce,
 }
 
-/// What has to come where it stands in the grammar.
+/// The elements that are required at their position in the grammar.
 #[derive(Clone, Copy)]
 pub(crate) enum Inner {
     Version,
@@ -61,50 +61,50 @@ pub(crate) enum Element {
     Required(Inner),
 }
 
-/// What comes next of a request's content.
+/// What comes next in a request's content.
 #[derive(Clone, Copy)]
 pub(crate) enum Place {
-    /// The identifier octet of this element, or of one behind it.
+    /// The identifier octet of this element, or of a later one.
     AtTag(Element),
     /// The length of this element.
     InLength(Element, LengthPart),
-    /// One byte of the version and so many more, behind bytes with this low half.
+    /// One byte of the version and this many more, after bytes with these low 32 bits.
     InVersion(u32, u32),
-    /// One byte of the code and so many more, behind bytes with this low half.
+    /// One byte of the code and this many more, after bytes with these low 32 bits.
     InCode(u32, u32),
-    /// One byte of this field and so many more.
+    /// One byte of this field and this many more.
     InText(Text, u32),
-    /// The nonce, of which so many bytes were read.
+    /// The nonce, of which this many bytes were read.
     InNonce(u32),
-    /// Nothing that is looked at.
+    /// Only bytes that are ignored.
     Whole,
-    /// Nothing that mends the first fault.
+    /// Nothing that undoes the first fault.
     Faulty,
 }
 
-/// What one byte makes of a place.
+/// The effect of one byte at a place.
 pub(crate) enum Next {
-    /// This place, and nothing of the fields.
+    /// This place; the fields stay as they are.
     At(Place),
-    /// The version is whole, with this low half.
+    /// The version is complete, with these low 32 bits.
     Version(u32),
-    /// The code is whole, with this low half.
+    /// The code is complete, with these low 32 bits.
     Code(u32),
-    /// This field begins, with so many bytes.
+    /// This field begins, with this many bytes.
     Begins(Text, u32),
-    /// A walk has to tell.
+    /// A walk has to decide.
     Walked,
 }
 
-/// What comes next of a message.
+/// What comes next in a message.
 #[derive(Clone, Copy)]
 pub(crate) enum Stage {
     /// The identifier octet of the outer header.
     OuterTag,
     /// The length in the outer header.
     OuterLength(LengthPart),
-    /// So many bytes of the content, from this place on.
+    /// This many bytes of the content, from this place on.
     Content(u32, Place),
-    /// Nothing that mends the outer header.
+    /// Nothing that makes the outer header valid.
     Refused,
 }

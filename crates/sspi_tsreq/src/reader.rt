@@ -1,4 +1,4 @@
-//! A request that is read from pieces, as a stream gives them.
+//! Reads a request from pieces, as a stream delivers them.
 
 ghost use Rattle.std.specs.Prelude.{◌≡◌, ◌≤◌, ℕ, List, [], ◌∷◌, ◌++◌, length, take, drop, None};
 ghost use Rattle.std.specs.Prelude.{Some, Ok, Err, IfOk, IfErr, IsOk};
@@ -22,8 +22,8 @@ use sspi_ber::WireKind;
 use sspi_types::Bytes;
 use std::alloc::{AllocError, Global};
 
-/// A reader of one request, which is fed with pieces of any size and keeps the fields that it read,
-/// not the bytes. It is told nothing of how long the request is, and keeps no more than came.
+/// A reader of one request, which is fed pieces of any size and keeps the fields that it read, not
+/// the bytes. It is not told how long the request is, and keeps no more than it was fed.
 #[derive(Drop)]
 pub struct TsReader {
     pub(crate) alloc: Global,
@@ -32,7 +32,7 @@ pub struct TsReader {
     pub(crate) request: TsRequest,
 }
 
-/// A copy of what stands in the piece.
+/// A copy of what is in the piece.
 fn copied(alloc: Global, octets: Slot<'_>) -> Result<Option<Bytes>, AllocError>
     ensures ok { IfOk result (λ copy. copy ≡ slot octets.entry None) }
     ensures memory { IfErr result (λ _. IsHere octets.entry) }
@@ -56,7 +56,7 @@ fn settle(field: &mut Option<Bytes>, octets: Slot<'_>, copy: Option<Bytes>)
     }
 }
 
-/// The bytes behind those that the field has; where there is no memory the field stays as it was.
+/// Appends the bytes to the field; when out of memory, the field stays as it was.
 fn lengthen(alloc: Global, field: &mut Option<Bytes>, octets: &[u8]) -> Result<(), AllocError>
     ensures ok { OnOk result (field.new ≡ Some (octets_of field.old ++ octets.now)) }
     ensures err { OnErr result (field.new ≡ field.old) }
@@ -70,8 +70,7 @@ fn lengthen(alloc: Global, field: &mut Option<Bytes>, octets: &[u8]) -> Result<(
     }
 }
 
-/// The bytes of the piece that belong to the field in which the reader stands, and the place behind
-/// them.
+/// The bytes of the piece that belong to the reader's current field, and the place after them.
 fn first_octets<'a>(place: Place, body: &'a [u8]) -> (&'a [u8], Place)
     // Which bytes these are.
     ensures front { result.0.now ≡ take (length result.0.now) body.now }
@@ -114,7 +113,7 @@ fn octets_of_field<'a>(text: Text, more: u32, body: &'a [u8]) -> (&'a [u8], Plac
 }
 
 impl TsReader {
-    /// An empty reader. Takes no memory.
+    /// An empty reader. Allocates nothing.
     pub fn new(alloc: Global) -> TsReader
         ensures { Stands result [] }
     {
@@ -126,11 +125,11 @@ impl TsReader {
         }
     }
 
-    /// Reads on, with `piece` behind what was fed before. `InsufficientMemory` is the only refusal;
-    /// it leaves the reader as it was, so the same piece may be fed again. Memory is taken for the
-    /// octets of fields alone: none while no byte was 0x04, the identifier octet of an OCTET
-    /// STRING, and none once the message is whole or its header is none. What stands behind the
-    /// request is dropped. Faults are told by `finish`.
+    /// Reads on, with `piece` after what was fed before. `InsufficientMemory` is the only refusal;
+    /// it leaves the reader as it was, so the same piece may be fed again. Memory is allocated for
+    /// the octets of fields alone: none until a byte is 0x04, the identifier octet of an OCTET
+    /// STRING, and none once the message is whole or its header is bad. Bytes after the request
+    /// are dropped. `finish` reports the faults.
     pub fn feed(&mut self, piece: &[u8]) -> Result<(), WireKind>
         // What `Ok` holds.
         ensures ok { (bytes : List ℕ) → Stands self.old bytes →
@@ -138,7 +137,7 @@ impl TsReader {
         // What a refusal says, and what it leaves.
         ensures err { OnErr result (self.new ≡ self.old) }
         ensures kind { IfErr result (λ kind. kind ≡ WireKind.InsufficientMemory) }
-        // Where no refusal comes.
+        // When there is no refusal.
         ensures free { (bytes : List ℕ) → Stands self.old bytes →
             IsWithout 0x04 (bytes ++ piece.now) → IsOk result }
         ensures past { (bytes : List ℕ) → Stands self.old bytes → IsPastReading bytes →
@@ -164,7 +163,7 @@ impl TsReader {
         // What a refusal says, and what it leaves.
         ensures err { OnErr result (self.new ≡ self.old) }
         ensures kind { IfErr result (λ kind. kind ≡ WireKind.InsufficientMemory) }
-        // Where no refusal comes.
+        // When there is no refusal.
         ensures free { (bytes : List ℕ) → Stands self.old bytes →
             IsWithout 0x04 (bytes ++ piece.now) → IsOk result }
         ensures past { (bytes : List ℕ) → Stands self.old bytes → IsPastReading bytes →
@@ -177,7 +176,7 @@ impl TsReader {
         }
     }
 
-    /// The request that `piece` has whole, with nothing before it.
+    /// Reads the request, if `piece` has all of it and nothing came before.
     #[inline(always)]
     fn read_whole(&mut self, piece: &[u8]) -> Result<(), WireKind>
         ensures ok { OnOk result (Stands self.new piece.now) }
@@ -198,7 +197,7 @@ impl TsReader {
         // What a refusal says, and what it leaves.
         ensures err { OnErr result (self.new ≡ self.old) }
         ensures kind { IfErr result (λ kind. kind ≡ WireKind.InsufficientMemory) }
-        // Where no refusal comes.
+        // When there is no refusal.
         ensures free { (bytes : List ℕ) → Stands self.old bytes →
             IsWithout 0x04 (bytes ++ byte ∷ []) → IsOk result }
         ensures past { (bytes : List ℕ) → Stands self.old bytes → IsPastReading bytes →
@@ -213,7 +212,7 @@ impl TsReader {
         self.feed_on(&[byte])
     }
 
-    /// Field by field, from where the reader stands.
+    /// Reads field by field, from the reader's position.
     #[inline(never)]
     fn feed_on(&mut self, piece: &[u8]) -> Result<(), WireKind>
         // What `Ok` holds.
@@ -222,7 +221,7 @@ impl TsReader {
         // What a refusal says, and what it leaves.
         ensures err { OnErr result (self.new ≡ self.old) }
         ensures kind { IfErr result (λ kind. kind ≡ WireKind.InsufficientMemory) }
-        // Where no refusal comes.
+        // When there is no refusal.
         ensures free { (bytes : List ℕ) → Stands self.old bytes →
             IsWithout 0x04 (bytes ++ piece.now) → IsOk result }
         ensures past { (bytes : List ℕ) → Stands self.old bytes → IsPastReading bytes →
@@ -237,9 +236,9 @@ impl TsReader {
         }
     }
 
-    /// What `from_buffer` answers on all that was fed: the request that it begins with, or its
-    /// first fault. A fault of the content is told only where the content is whole, and else
-    /// `UnexpectedEof`. Takes no memory.
+    /// What `from_buffer` returns for all that was fed: the request that it begins with, or its
+    /// first fault. A fault of the content is reported only if the content is whole; otherwise the
+    /// fault is `UnexpectedEof`. Allocates nothing.
     pub fn finish(self) -> Result<TsRequest, WireKind>
         ensures answer { (bytes : List ℕ) → Stands self bytes → IsAnswer bytes result }
         ensures only { (bytes : List ℕ) → Stands self bytes → (r : TsRequest) (count : ℕ) →
@@ -273,7 +272,7 @@ impl TsReader {
         }
     }
 
-    /// The header is not whole, or is none.
+    /// The header is not whole, or is bad.
     fn stay(&mut self, stage: Stage) -> Result<(), WireKind>
         ensures stage { self.new ≡ record self.old { stage = stage } }
         ensures ok { IsOk result }
@@ -282,7 +281,7 @@ impl TsReader {
         Ok(())
     }
 
-    /// As many bytes of the content as are still to come.
+    /// Reads at most as many bytes as are still to come of the content.
     fn feed_content(&mut self, left: u32, place: Place, behind: &[u8]) -> Result<(), WireKind>
         // What `Ok` holds.
         ensures ok { (bytes : List ℕ) → StandsInside self.old.nonce left place self.old.request
@@ -291,7 +290,7 @@ impl TsReader {
         // What a refusal says, and what it leaves.
         ensures err { OnErr result (self.new ≡ self.old) }
         ensures kind { IfErr result (λ kind. kind ≡ WireKind.InsufficientMemory) }
-        // Where no refusal comes.
+        // When there is no refusal.
         ensures free { (Opened place → ⊥) → IsWithout 0x04 behind.now → IsOk result }
         ensures past { left ≡ 0 → IsOk result }
     {
@@ -304,7 +303,7 @@ impl TsReader {
         Ok(())
     }
 
-    /// These bytes of the content, behind which `left` are to come.
+    /// Reads these bytes of the content; `left` more are still to come.
     pub(crate) fn read_content(
         &mut self,
         left: u32,
@@ -326,7 +325,7 @@ impl TsReader {
         self.read_fields(left, place, body)
     }
 
-    /// The same where more than octets of one field may come.
+    /// The same when the bytes may be more than octets of one field.
     fn read_fields(&mut self, left: u32, place: Place, body: &[u8]) -> Result<(), AllocError>
         ensures ok { OnOk result (WentOn self.old.nonce place self.old.request body.now left
             self.new) }

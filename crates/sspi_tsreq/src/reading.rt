@@ -1,5 +1,4 @@
-//! A request read where it stands, without memory. So every refusal is reached before memory is
-//! taken.
+//! A request read in place, without allocating. So every refusal comes before any allocation.
 
 ghost use Rattle.std.specs.Prelude.{◌≡◌};
 ghost use Rattle.std.specs.Option.{option_copied};
@@ -208,7 +207,7 @@ fn read_body<'a>(source: &mut SliceSource<'a>) -> Result<Parts<'a>, WireKind>
     Ok(parts)
 }
 
-/// The parts of a request of this version and nothing else.
+/// The parts of a request with this version and nothing else.
 fn bare_parts<'a>(version: u32) -> Parts<'a>
     ensures { seen result ≡ bare version }
 {

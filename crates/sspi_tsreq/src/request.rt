@@ -47,7 +47,7 @@ impl Default for TsRequest {
     }
 }
 
-/// Two requests are equal where their values are.
+/// Two requests are equal exactly when their values are.
 impl PartialEq for TsRequest {
     ghost use Rattle.std.specs.Prelude.{◌≡◌, ◌↔◌, IsTrue};
     ghost use Rattle.std.specs.Cmp.{partial_equiv_from_equiv};
@@ -79,7 +79,7 @@ impl Eq for TsRequest {
 }
 
 impl TsRequest {
-    /// A request of this version and nothing else.
+    /// A request with this version and nothing else.
     pub(crate) fn bare(version: u32) -> TsRequest
         ensures { result ≡ bare version }
     {
@@ -96,11 +96,11 @@ impl TsRequest {
     /// The request that `buffer` begins with; bytes after it are ignored, and so are bytes after
     /// its last field.
     ///
-    /// `UnexpectedEof` where the outer header is bad, the buffer is shorter than header and
-    /// content, or the content ends inside an element; `InvalidData` where the first element that
-    /// is malformed is refused for another reason. Lengths of tags are judged by their form alone.
-    /// Out of memory is told only for the OCTET STRINGs of a request that was found whole, so it
-    /// never comes in place of a fault, nor for a request that has none.
+    /// `UnexpectedEof` if the outer header is bad, the buffer is shorter than header and content,
+    /// or the content ends inside an element; `InvalidData` if the first malformed element is
+    /// refused for another reason. Lengths of tags are judged by their form alone. Out of memory
+    /// is reported only for the OCTET STRINGs of a request that was found whole. So it never
+    /// replaces a fault, and never comes for a request without OCTET STRINGs.
     pub fn from_buffer(alloc: Global, buffer: &[u8]) -> Result<TsRequest, WireKind>
         ensures answer { IsAnswer buffer.now result }
         ensures only { (r : TsRequest) (count : ℕ) → IsRequest buffer.now r count →
@@ -110,9 +110,8 @@ impl TsRequest {
         copy_request(alloc, &parts)
     }
 
-    /// How many bytes the request takes that the source begins with: those of its header, which are
-    /// read, and those of the content. Each fault of the header is `UnexpectedEof`. Takes no
-    /// memory.
+    /// The size in bytes of the request that the source begins with: its header, which is read,
+    /// and its content. Each fault of the header is `UnexpectedEof`. Allocates nothing.
     #[tactic(auto, unfolding(crate::specs::Header::request_size_at))]
     pub fn read_length<S: Source>(source: &mut S) -> Result<usize, WireKind>
         ensures read { Reads (λ size. size) (S.left source.old) (S.left source.new) result
@@ -129,8 +128,8 @@ impl TsRequest {
     }
 
     /// Writes the request. The code is left out below version 3 and at version 5, the nonce below
-    /// version 5. `InvalidData` exactly where the content passes the limit, and then nothing is
-    /// written; after a `WriteFault` or out of memory a proper prefix of the encoding was written,
+    /// version 5. `InvalidData` exactly when the content exceeds the limit, and then nothing is
+    /// written. After `WriteFault` or out of memory, a proper prefix of the encoding was written,
     /// never all of it.
     #[tactic(auto, using(crate::proofs::Capped::capped_fits, crate::proofs::Capped::capped_past))]
     pub fn encode_ts_request<W: Sink>(&self, sink: &mut W) -> Result<(), WireKind>
@@ -145,8 +144,8 @@ impl TsRequest {
         write_request(sink, self, size)
     }
 
-    /// The bytes that `encode_ts_request` writes, in memory that is taken once. `InvalidData`
-    /// exactly where the content passes the limit, and then no memory is taken; else the only
+    /// The bytes that `encode_ts_request` writes, in a single allocation. `InvalidData` exactly
+    /// when the content exceeds the limit, and then nothing is allocated; otherwise the only
     /// refusal is `InsufficientMemory`.
     #[tactic(auto, using(crate::proofs::Capped::capped_fits, crate::proofs::Capped::capped_past))]
     pub fn encode(&self, alloc: Global) -> Result<Vec<u8>, WireKind>
@@ -161,8 +160,8 @@ impl TsRequest {
         Ok(sink.into_inner())
     }
 
-    /// How many bytes encoding writes. `InvalidData` exactly where the content passes the limit.
-    /// Takes no memory.
+    /// How many bytes encoding writes. `InvalidData` exactly when the content exceeds the limit.
+    /// Allocates nothing.
     #[tactic(auto, using(crate::proofs::Capped::capped_fits, crate::proofs::Capped::capped_past, crate::proofs::Capped::spelled_size))]
     pub fn buffer_len(&self) -> Result<u32, WireKind>
         ensures { IsSizeIf (fits self.now) result (length (spelled self.now)) }
@@ -174,8 +173,8 @@ impl TsRequest {
         Ok(size_of_element(size) as u32)
     }
 
-    /// `InvalidToken`, with the code as its status, exactly where the request has a code other than
-    /// `SUCCESS`. Takes no memory.
+    /// `InvalidToken`, with the code as its status, exactly when the request has a code other than
+    /// `SUCCESS`. Allocates nothing.
     pub fn check_error(&self) -> Result<(), Error>
         ensures { ChecksCode self.now.error_code result }
     {

@@ -36,7 +36,7 @@ fn octets_field_size(field: &Option<Bytes>) -> usize
     }
 }
 
-/// The same of the field of the token.
+/// The same for the field of the token.
 #[tactic(auto, unfolding(crate::specs::Spelling::nego_field))]
 fn nego_field_size(field: &Option<Bytes>) -> usize
     ensures capped { IsCapped result (length (nego_field field.now)) }
@@ -95,7 +95,7 @@ pub(crate) fn carried_nonce(request: &TsRequest) -> Option<&[u8; 32]>
     }
 }
 
-/// How many bytes the fields take that are written, or a number past the limit.
+/// How many bytes the written fields take, or a number past the limit.
 #[inline(always)]
 pub(crate) fn fields_size(request: &TsRequest) -> usize
     ensures { IsCapped result (length (fields (carried request.now))) }

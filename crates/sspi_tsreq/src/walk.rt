@@ -1,4 +1,4 @@
-//! A reader on its way through a piece of a request's content, byte by byte.
+//! Walks through a piece of a request's content, byte by byte.
 
 ghost use Rattle.std.specs.Prelude.{◌≡◌, ℕ, ◌+◌, ◌*◌, ◌%◌, ◌^◌, ◌<◌, ◌≤◌, nat_le, ◌&&◌, ◌==◌, List};
 ghost use Rattle.std.specs.Prelude.{[], ◌∷◌, ◌++◌, length, slice_set};
@@ -17,18 +17,18 @@ use crate::length::{is_integer_size, next_length};
 use crate::place::{Element, Field, Inner, LengthPart, LengthStep, Place, Text};
 use sspi_types::NStatusCode;
 
-/// What a piece makes of a field that is an OCTET STRING.
+/// What a piece does to a field that is an OCTET STRING.
 #[derive(Clone, Copy)]
 pub(crate) enum Slot<'a> {
     /// Nothing.
     Kept,
     /// The field is absent.
     Absent,
-    /// These bytes are the field's so far.
+    /// These are the field's bytes so far.
     Here(&'a [u8]),
 }
 
-/// Where a reader stands in a content, and what it read of it. A walk takes no memory.
+/// The reader's position in a content, and what it read of it. A walk allocates nothing.
 #[derive(Clone, Copy)]
 pub(crate) struct Walk<'a> {
     pub place: Place,
@@ -41,7 +41,7 @@ pub(crate) struct Walk<'a> {
     pub client_nonce: Option<[u8; 32]>,
 }
 
-/// The identifier octet of what has to come.
+/// The identifier octet of a required element.
 pub(crate) fn tag_of(inner: Inner) -> u8
     ensures { result ≡ inner_tag inner }
 {
@@ -73,7 +73,7 @@ fn begins(version: u32, least: u32, byte: u8, tag: u8) -> bool
     version >= least && byte == tag
 }
 
-/// Puts this byte in this place of the nonce.
+/// Puts this byte at this index of the nonce.
 pub(crate) fn put_byte(nonce: &mut [u8; 32], at: usize, byte: u8)
     requires { at < 32 }
     ensures put { nonce.new ≡ slice_set nonce.old at byte }
@@ -82,7 +82,7 @@ pub(crate) fn put_byte(nonce: &mut [u8; 32], at: usize, byte: u8)
     nonce[at] = byte;
 }
 
-/// The low 32 bits of a number, with one byte more.
+/// The low 32 bits of a number, extended by one byte.
 pub(crate) fn push_low(value: u32, byte: u8) -> u32
     ensures { result ≡ (value * 256 + byte) % 2 ^ 32 }
 {
@@ -160,7 +160,7 @@ impl<'a> Walk<'a> {
         }
     }
 
-    /// This field or one behind it, or what is not looked at.
+    /// This field or a later one, or bytes that are ignored.
     fn at_field(&mut self, field: Field, byte: u8)
         ensures goes { (base : TsRequest) (more : List ℕ) → answered
             (from_field field (filled base self.old) (byte ∷ more)) ≡ goes_on self.new base more }
@@ -189,7 +189,7 @@ impl<'a> Walk<'a> {
         }
     }
 
-    /// The version is known, and no field yet.
+    /// The version is known, but no field yet.
     fn begin(&mut self, version: u32)
         ensures goes { (base : TsRequest) (more : List ℕ) →
             answered (after_version (bare version) more) ≡ goes_on self.new base more }
@@ -268,7 +268,7 @@ impl<'a> Walk<'a> {
         }
     }
 
-    /// The field's `len` bytes, as far as they are there; the answer is what is behind them.
+    /// Reads the field's `len` bytes, or as many as there are; returns what follows them.
     fn octets(&mut self, text: Text, len: usize, rest: &'a [u8]) -> &'a [u8]
         requires { len < 2 ^ 32 }
         ensures goes { (base : TsRequest) (more : List ℕ) → answered
@@ -290,7 +290,7 @@ impl<'a> Walk<'a> {
         }
     }
 
-    /// What stands behind the length of an element.
+    /// What follows the length of an element.
     fn behind(&mut self, element: Element, len: u32, rest: &'a [u8]) -> &'a [u8]
         ensures goes { (base : TsRequest) (more : List ℕ) → answered
             (behind element (filled base self.old) len (rest.now ++ more)) ≡ goes_on self.new base
@@ -331,7 +331,7 @@ impl<'a> Walk<'a> {
         rest
     }
 
-    /// The nonce, at once where it is whole in the piece.
+    /// Reads the nonce, at once if it is whole in the piece.
     fn nonce_octets(&mut self, len: u32, rest: &'a [u8]) -> &'a [u8]
         // Where reading goes on.
         ensures goes { (base : TsRequest) (more : List ℕ) → answered
@@ -383,7 +383,7 @@ impl<'a> Walk<'a> {
         }
     }
 
-    /// One byte, and as many of `rest` as it settles; the answer is what is behind them.
+    /// Reads one byte, and as many of `rest` as it settles; returns what follows them.
     fn step(&mut self, byte: u8, rest: &'a [u8]) -> &'a [u8]
         // What must hold before.
         requires { IsInText self.old.place → ⊥ }
@@ -410,7 +410,7 @@ impl<'a> Walk<'a> {
         rest
     }
 
-    /// The whole piece. The walk stands in no OCTET STRING, unless the piece is empty.
+    /// Walks through the whole piece. The walk is in no OCTET STRING, unless the piece is empty.
     pub(crate) fn advance(&mut self, piece: &'a [u8])
         requires { IsInText self.old.place → piece.now ≡ [] }
         ensures goes { (base : TsRequest) (more : List ℕ) →
@@ -424,7 +424,7 @@ impl<'a> Walk<'a> {
     }
 }
 
-/// What stands inside a field.
+/// What is inside a field.
 pub(crate) fn inside(field: Field) -> Inner
     ensures { (r : TsRequest) (len : ℕ) (more : List ℕ) →
         behind (Element.Optional field) r len more ≡ from_inner result r more }
@@ -438,7 +438,7 @@ pub(crate) fn inside(field: Field) -> Inner
     }
 }
 
-/// The field behind this one.
+/// The field after this one.
 pub(crate) fn after_text(text: Text) -> Field
     ensures { (r : TsRequest) (octets more : List ℕ) →
         text_then text r (octets, more) ≡ from_field result (with_text text r octets) more }

@@ -169,7 +169,7 @@ fn write_fields<W: Sink>(sink: &mut W, request: &TsRequest) -> Result<(), WireKi
     write_later_fields(sink, request)
 }
 
-/// The whole request, where it fits; `size` is how many bytes its fields take.
+/// Writes the whole request, which must fit; `size` is how many bytes its fields take.
 #[tactic(auto, using(sspi_ber::proofs::Written::writing), unfolding(crate::specs::Spelling::spelled, sspi_ber::specs::Short::element))]
 #[inline(always)]
 pub(crate) fn write_request<W: Sink>(
