@@ -1,4 +1,4 @@
--- UTF-16: characters, code units and bytes, forth and back.
+-- UTF-16: characters, code units and bytes, back and forth.
 use Rattle.std.proofs.Common.{◌≡◌, ◌⊎◌, inl, inr, ℕ, suc, ◌+◌, ◌-◌, ◌*◌, ◌/◌, ◌%◌, ◌^◌, ◌<◌, ◌≤◌, List, []}
 use Rattle.std.proofs.Common.{◌∷◌, ◌++◌, Bool, true, false, ◌&&◌, not, cond, Option, Some, Result, Ok, Err}
 use Rattle.std.proofs.Common.{length, get_or, take, drop, map, unwrap_or, refl, sym, ap, ◌∙◌, subst, arith}
@@ -24,7 +24,7 @@ use Rattle.sspi_names.specs.Utf16.{units_of, text_of, IsUtf16, bytes_le, units_l
 abbrev pub IsSmall : ℕ → Type 0
 IsSmall u = u < 2 ^ 16
 
--- a surrogate that has no partner shows as no character
+-- a surrogate without a partner decodes to no character
 abbrev lacks : Option ℕ → Bool
 lacks o = not (is_some o)
 
@@ -98,7 +98,7 @@ spelled_small (c ∷ cs) s =
 
 -- code units to characters to code units
 
--- the characters c are what the units encode
+-- the characters cs are what the units encode
 abbrev Spells : List ℕ → List ℕ → Type 0
 Spells units cs = (all_scalars cs ≡ true) × (flat_map encode_utf16 cs ≡ units)
 
@@ -230,7 +230,7 @@ pub unpaired : (u : ℕ) (us : List ℕ) → 0xD800 ≤ u → u < 0xE000 → ¬ 
 unpaired u us from until apart = ap (list_any lacks) (utf16_chars_lone u us apart
     ∙ ap (λ o. o ∷ utf16_chars us) (lone_unit_char_surrogate u from until))
 
--- two bytes off the prefix
+-- the first two bytes are the first code unit
 pub units_le-front : (bytes : List ℕ) → 2 ≤ length bytes
     → units_le bytes ≡ (get_or bytes 0 0 + 256 * get_or bytes 1 0) ∷ units_le (take (length bytes - 2) (drop 2 bytes))
 unfolding units_le
@@ -245,7 +245,7 @@ units_le-end [] few = refl
 units_le-end (b ∷ []) few = refl
 units_le-end (low ∷ high ∷ bytes) few = absurd (omega arith)
 
--- the code unit that two bytes off the prefix are
+-- the first two bytes are the partner of the unit u
 pub front_pair : (u v : ℕ) (others : List ℕ) → 2 ≤ length others → v ≡ get_or others 0 0 + get_or others 1 0 * 256 → IsPair u v
     → has_unpaired_surrogate (u ∷ units_le others) ≡ has_unpaired_surrogate (units_le (take (length others - 2) (drop 2 others)))
 front_pair u v others some is p =
@@ -264,7 +264,7 @@ pub alone : (u : ℕ) (others : List ℕ) → length others < 2 → 0xD800 ≤ u
 alone u others few from until =
     ap (λ us. has_unpaired_surrogate (u ∷ us)) (units_le-end others few) ∙ unpaired u [] from until (λ p. omega (arith, p.2))
 
--- a character is taken off the prefix of the bytes
+-- the first two bytes are the unit u
 pub taken : (rest : List ℕ) (u : ℕ) (b : Bool) → 2 ≤ length rest → u ≡ get_or rest 0 0 + get_or rest 1 0 * 256
     → has_unpaired_surrogate (u ∷ units_le (take (length rest - 2) (drop 2 rest))) ≡ b → has_unpaired_surrogate (units_le rest) ≡ b
 taken rest u b some is e =

@@ -1,4 +1,4 @@
--- How often a byte below 128 stands in a text: as often as in its UTF-16, and that tells where a name mixes its forms.
+-- A byte below 128 occurs as often in a text as in its UTF-16; the counts show if forms are mixed.
 use Rattle.std.proofs.Common.{◌≡◌, inl, inr, ℕ, suc, ◌+◌, ◌-◌, ◌/◌, ◌%◌, ◌<◌, ◌≤◌, List, [], ◌∷◌, ◌++◌, Bool, true, false, ◌&&◌, ◌||◌}
 use Rattle.std.proofs.Common.{cond, if◌then◌else◌, nat_lt, nat_eq, count_by, Some, None, length, drop, refl, sym, ap, ◌∙◌, arith}
 use Rattle.std.specs.Prelude.{is_none}
@@ -31,7 +31,7 @@ joined k xs ys = sum_by-append (λ y. one (is k y)) xs ys
 zero_plus : (n : ℕ) → n ≡ 0 + n
 zero_plus n = omega arith
 
--- it stands there where it is counted once at least, and behind its first place where it is counted twice
+-- it occurs if it is counted at least once, and again after that if it is counted at least twice
 any_step : (b rest : Bool) (n : ℕ) → rest ≡ nat_lt 0 n → (b || rest) ≡ nat_lt 0 (one b + n)
 any_step true rest n e = sym (lt-ltb 0 (1 + n) (omega arith))
 any_step false rest n e = e ∙ ap (nat_lt 0) (zero_plus n)
@@ -61,7 +61,7 @@ twice_counted k [] = refl
 twice_counted k (x ∷ xs) =
     twice_step k x xs (is k x) refl (twice_counted k xs) ∙ ap (nat_lt 1) (sym (counted k x xs))
 
--- a character stands in UTF-8 as often as in UTF-16
+-- an ASCII character occurs as often in UTF-8 as in UTF-16
 apart : (k x : ℕ) (xs : List ℕ) (n : ℕ) → k < 128 → 128 ≤ x → count_by (is k) xs ≡ n → count_by (is k) (x ∷ xs) ≡ n
 apart k x xs n ascii high e = counted k x xs ∙ ap (λ b. one b + count_by (is k) xs) (ne_eqb x k (omega arith)) ∙ sym (zero_plus (count_by (is k) xs)) ∙ e
 
@@ -71,7 +71,7 @@ two_high k x y ascii a b = apart k x (y ∷ []) 0 ascii a (apart k y [] 0 ascii 
 three_high : (k x y z : ℕ) → k < 128 → 128 ≤ x → 128 ≤ y → 128 ≤ z → count_by (is k) (x ∷ y ∷ z ∷ []) ≡ 0
 three_high k x y z ascii a b c = apart k x (y ∷ z ∷ []) 0 ascii a (two_high k y z ascii b c)
 
--- a byte that goes on with a character
+-- a continuation byte of UTF-8
 on_high : (n : ℕ) → 128 ≤ 128 + n % 64
 on_high n = omega arith
 
@@ -184,7 +184,7 @@ mixed_not n units h is none =
     let second : nat_lt 0 (slashes units) ≡ false = le-ltb 0 _ (omega arith) in
     le-ltb 0 n none ∙ sym (mixed_by units h ∙ rw (first, second) refl)
 
--- a domain that is empty as code units is so as a text, and no other
+-- a domain is empty as code units exactly when it is empty as a text
 
 no_text : text_of [] ≡ []
 unfolding text_of

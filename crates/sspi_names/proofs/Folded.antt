@@ -1,4 +1,4 @@
--- What it means that two names are equal but for case.
+-- What it means that two names are equal ignoring case.
 use Rattle.std.proofs.Common.{◌≡◌, true, false, refl, sym, ap, ◌∙◌}
 use Rattle.std.proofs.lemmas.Bool.{and_parts, and_from, false≢true}
 use Rattle.std.proofs.lemmas.Slice.Eq.{bytes_eq-Decides}

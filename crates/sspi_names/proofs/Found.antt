@@ -1,4 +1,4 @@
--- What the searches of std say of a byte below 128.
+-- What the searches of std say about a byte below 128.
 use Rattle.std.proofs.Common.{◌≡◌, ◌≢◌, ℕ, ◌<◌, ◌≤◌, List, Bool, true, false, Option, Some}
 use Rattle.std.proofs.Common.{None, MatchOption, MatchBool, length, get_or, refl, arith}
 use Rattle.std.specs.List.{list_any}

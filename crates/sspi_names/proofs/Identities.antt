@@ -1,4 +1,4 @@
--- An identity and its buffers: each gives the other.
+-- An identity and its buffers: the buffers convert back to the identity.
 use Rattle.std.proofs.Common.{◌≡◌, ℕ, ◌<◌, List, [], ◌∷◌, ◌++◌, Some, refl, sym, ap, ◌∙◌, subst, arith}
 use Rattle.std.specs.Str.{IsUtf8}
 use Rattle.std.proofs.lemmas.Str.{IsUtf8-append, IsUtf8-from_ascii, IsUtf8-nil}
@@ -55,7 +55,7 @@ identity_by i user domain password h u d p =
     let password_is : text_of password ≡ i.password.value = ap text_of p ∙ text_of-units_of _ h.password_text in
     rw (user_is, domain_is, password_is, parts_of n.format n refl h.name)
 
--- the buffers of an identity give it back
+-- the buffers of an identity convert back to it
 pub buffers_back : (i : AuthIdentity) → IsIdentity i → identity_of (buffers_of i) ≡ Some i
 unfolding buffers_of
 buffers_back i h = identity_by i _ _ _ h refl refl refl

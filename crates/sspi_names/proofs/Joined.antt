@@ -1,4 +1,4 @@
--- A name and the text that shows it: each gives the other.
+-- A name and the text that shows it: each determines the other.
 use Rattle.std.proofs.Common.{◌≡◌, ◌≢◌, ℕ, suc, ◌+◌, ◌-◌, ◌<◌, List, [], ◌∷◌, ◌++◌, false, Some}
 use Rattle.std.proofs.Common.{length, get_or, take, drop, refl, sym, ap, ◌∙◌, subst, arith}
 use Rattle.std.specs.List.{list_any}
@@ -85,7 +85,7 @@ pub inner_back : (n : Name) → IsName n → parse_name (inner_of n) ≡ Some n
 unfolding inner_of
 inner_back n h = shown_back n.format n.account n.domain h.allowed
 
--- a down-level name whose parts are given apart
+-- a down-level name whose parts are given separately
 pub parts_back : (account domain : List ℕ) → has_separator account ≡ false → has_separator domain ≡ false →
     new_name account domain ≡ Some (down_level account domain)
 unfolding new_name

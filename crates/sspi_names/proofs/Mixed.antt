@@ -1,4 +1,4 @@
--- `parse_name` gives no name exactly of the texts that mix the forms.
+-- `parse_name` gives no name exactly for the texts that mix the forms.
 use Rattle.std.proofs.Common.{◌≡◌, ◌⊎◌, inl, inr, ℕ, List, Bool, true, false, if◌then◌else◌, Some, None, refl}
 use Rattle.std.specs.List.{after_first}
 use Rattle.std.proofs.lemmas.Bool.{cases_Bool}
@@ -6,7 +6,7 @@ use Rattle.sspi_names.specs.Name.{Name, parse_name, backslash, has_at_sign, has_
 use Rattle.sspi_names.specs.Grammar.{IsMixed}
 use Rattle.sspi_names.proofs.Parse.{mixed, none-drop}
 
--- what stands behind the first `\` has one only where there is a first
+-- the text after the first `\` has another only if there is a first
 pub behind_first : (text : List ℕ) → has_backslash (after_first is_backslash text) ≡ true → has_backslash text ≡ true
 behind_first text twice = elim (cases_Bool (has_backslash text)) [
   | inl some ↦ some

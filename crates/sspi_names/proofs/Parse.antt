@@ -1,4 +1,4 @@
--- What `parse_name` gives, from where the separators stand.
+-- What `parse_name` gives, from where the separators are.
 use Rattle.std.proofs.Common.{◌≡◌, ◌≢◌, ℕ, ◌+◌, ◌<◌, List, [], true, false, Some, None}
 use Rattle.std.proofs.Common.{length, get_or, take, drop, refl, sym, ap, ◌∙◌, subst, arith}
 use Rattle.std.specs.List.{list_any}
@@ -48,7 +48,7 @@ module _ (t : List ℕ) where
       let parts = first_at backslash k t p.0 p.1 p.2 in
       rw (at, first_any backslash k p, parts.1, bs)
 
-  -- a part of a text without a byte is without it
+  -- if a byte does not occur in a text, it does not occur in a part of it
   pub none-take : (c k : ℕ) → list_any (is c) t ≡ false → list_any (is c) (take k t) ≡ false
   none-take c k e = nowhere-any c (take k t) (λ i h.
       let within : i < k = omega (arith, h, length-take k t) in
@@ -102,7 +102,7 @@ module _ (t : List ℕ) where
       held = record { placed = (some, p.0, p.1); name = qualified_name_at k p at bs };
     }
 
-    -- a text that begins with the `\` has an empty domain
+    -- a text that begins with its `\` has an empty domain
     pub account_split : (k : ℕ) → k ≡ 0 → IsFirst backslash t k → has_at_sign t ≡ false → has_backslash (drop (k + 1) t) ≡ false →
         IsSplit t (drop (k + 1) t) Bare
     account_split k none p at bs = record {

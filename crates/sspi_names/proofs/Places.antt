@@ -1,4 +1,4 @@
--- Where a byte stands in a list: the first place, the last, or none.
+-- Where a byte occurs in a list: the first place, the last, or none.
 use Rattle.std.proofs.Common.{◌≡◌, ◌≢◌, inl, inr, ℕ, zero, suc, ◌+◌, ◌-◌, ◌<◌, List, [], ◌∷◌, Bool, true, false}
 use Rattle.std.proofs.Common.{◌||◌, not, eqb, length, get_or, take, drop, refl, sym, ap, ◌∙◌, subst, arith}
 use Rattle.sspi_names.specs.Places.{IsNowhere, IsLast, IsFirst}
@@ -21,7 +21,7 @@ any-nowhere c [] e i h = absurd (omega arith)
 any-nowhere c (x ∷ t) e zero h = eqb-false x c (or_parts _ _ e).0
 any-nowhere c (x ∷ t) e (suc i) h = any-nowhere c t (or_parts _ _ e).1 i (omega arith)
 
--- c stands at k and nowhere after it
+-- c is at k and nowhere after it
 pub last_at : (c k : ℕ) (t : List ℕ) → k < length t → get_or t k 0 ≡ c → ((i : ℕ) → k < i → i < length t → get_or t i 0 ≢ c)
     → (before_last (is c) t ≡ take k t) × (after_last (is c) t ≡ drop (k + 1) t)
 last_at c k t within here later =
@@ -33,7 +33,7 @@ last_at c k t within here later =
       ap (λ n. drop n t) {x = length t - suffix_len (λ b. not (eqb b c)) t} {y = k + 1} (omega arith),
     )
 
--- c stands at k and nowhere before it
+-- c is at k and nowhere before it
 pub first_at : (c k : ℕ) (t : List ℕ) → k < length t → get_or t k 0 ≡ c → ((i : ℕ) → i < k → get_or t i 0 ≢ c)
     → (before_first (is c) t ≡ take k t) × (after_first (is c) t ≡ drop (k + 1) t)
 first_at c k t within here earlier =
@@ -62,7 +62,7 @@ first-cons c x k t apart p = (omega arith, p.1, none)
     none zero above = apart
     none (suc i) above = p.2 i (omega arith)
 
--- there is a last place, where there is any
+-- there is a last place if there is any
 pub last_place : (c : ℕ) (t : List ℕ) → list_any (is c) t ≡ true → (k : ℕ) × IsLast c t k
 last_place c [] any = absurd (false≢true any)
 last_place c (x ∷ t) any =
@@ -71,7 +71,7 @@ last_place c (x ∷ t) any =
       | inr e ↦ (0, last-head c x t (eqb-true x c (sym (or-false _) ∙ ap (λ b. eqb x c || b) (sym e) ∙ any)) (any-nowhere c t e))
     ]
 
--- there is a first place, where there is any
+-- there is a first place if there is any
 pub first_place : (c : ℕ) (t : List ℕ) → list_any (is c) t ≡ true → (k : ℕ) × IsFirst c t k
 first_place c [] any = absurd (false≢true any)
 first_place c (x ∷ t) any =

@@ -1,4 +1,4 @@
--- The equalities of names, identities and credentials are those of the values.
+-- Equality of names, identities and credentials is equality of their values.
 use Rattle.std.proofs.Common.{◌≡◌, ℕ, List, Bool, true, ◌&&◌, refl, ap, sym, ◌∙◌, subst}
 use Rattle.std.proofs.lemmas.Bool.{and_parts, and_from, false≢true}
 use Rattle.std.specs.Cmp.Lexicographic.{bytes_decides}
@@ -17,7 +17,7 @@ use Rattle.sspi_names.specs.contracts.credentials.CredentialsPartialEq.TheImpl a
 use Rattle.sspi_names.specs.contracts.credentials.CredentialsBuffersPartialEq.TheImpl as buffers_impl
 use Rattle.sspi_names.proofs.Folded.{equal_names}
 
--- an equality that says no more than the values' and holds of each value with itself
+-- an equality that implies equality of the values, and holds of each value with itself
 decides : {K : Type 0} (same : K → K → Bool) → ((a b : K) → same a b ≡ true → a ≡ b) → ((a : K) → same a a ≡ true) → ComparesValues same
 decides {K} same is itself a b = (is a b, λ e. subst (λ (z : K). same a z ≡ true) e (itself a))
 

@@ -1,4 +1,4 @@
--- The text that shows a name, from where its separator stands.
+-- The text that shows a name, from where its separator is.
 use Rattle.std.proofs.Common.{◌≡◌, ℕ, ◌+◌, ◌<◌, List, [], ◌∷◌, ◌++◌, length, get_or, take}
 use Rattle.std.proofs.Common.{drop, refl, sym, ap, ◌∙◌, Option, Some, None, arith}
 use Rattle.std.proofs.lemmas.List.{take-append-drop, drop_more, length-take-le}

@@ -15,7 +15,7 @@ use Rattle.sspi_names.proofs.Parse.{none-drop, none-before, none-after, principa
 use Rattle.sspi_names.proofs.Shown.{around}
 use Rattle.sspi_names.proofs.Joined.{principal_back, qualified_back}
 
--- a text is no name, or is encoded as the name that is read
+-- a text is not a name, or is by the grammar the name that is read
 abbrev Outcome : List ℕ → Type 0
 Outcome t = (parse_name t ≡ None) ⊎ ((n : Name) × (parse_name t ≡ Some n) × IsSpelled t n × (IsUtf8 t → IsName n))
 

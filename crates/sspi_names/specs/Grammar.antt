@@ -18,13 +18,13 @@ pub record IsSpelled (text : List ℕ) (n : Name) : Type 0 where
   pub form : IsForm n.format n.account n.domain text
   pub allowed : IsAllowed n.format n.account n.domain
 
--- the text has both separators, or a `\` behind its first one
+-- the text has both separators, or a `\` after its first one
 abbrev pub IsMixed : List ℕ → Type 0
 IsMixed text =
     ((has_at_sign text ≡ true) × (has_backslash text ≡ true)) ⊎
     (has_backslash (after_first is_backslash text) ≡ true)
 
--- the names are equal but for the case of ASCII letters
+-- the names are equal, ignoring the case of ASCII letters
 pub record IsSameName (a b : Name) : Type 0 where
   pub format : a.format ≡ b.format
   pub account : folded a.account ≡ folded b.account

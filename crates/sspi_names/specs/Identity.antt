@@ -31,7 +31,7 @@ buffers_of i = record {
   password = record { value = units_of i.password.value };
 }
 
--- the identity of buffers, or none where user and domain mix the forms of a name
+-- the identity in the buffers, or none if user and domain mix the forms of a name
 unfoldable pub identity_of : AuthIdentityBuffers → Option AuthIdentity
 identity_of b =
     option_map (λ name. record {
@@ -40,8 +40,8 @@ identity_of b =
     })
     (new_name (text_of b.user) (text_of b.domain))
 
--- exactly that identity; the name's refusal exactly where there is none; memory is asked for only
--- where there is one
+-- exactly that identity; the name's refusal exactly when there is none; allocates only
+-- if there is one
 abbrev pub IsIdentified : Result AuthIdentity Error → Option AuthIdentity → Type 0
 IsIdentified (Ok identity) found = found ≡ Some identity
 IsIdentified (Err e) None = e ≡ bad_name

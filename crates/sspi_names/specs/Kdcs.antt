@@ -1,4 +1,4 @@
--- The look-up of a realm in a table of KDCs, and the equality of tables.
+-- The lookup of a realm in a table of KDCs, and the equality of tables.
 use Rattle.std.specs.Prelude.{◌==◌, ◌&&◌, ℕ, Bool, List, length, Option, None, find, option_map}
 use Rattle.std.specs.Prelude.{if◌then◌else◌}
 use Rattle.std.specs.Cmp.Lexicographic.{pointwise}
@@ -6,7 +6,7 @@ use Rattle.std.specs.Str.{bytes_eq}
 use Rattle.sspi_names.specs.Name.{same_text}
 use Rattle.sspi_names.specs.declared.kdc_table.KdcEntry.{KdcEntry}
 
--- the first entry whose realm is equal but for the case of ASCII letters
+-- the first entry whose realm is equal, ignoring the case of ASCII letters
 abbrev pub first_entry : List KdcEntry → List ℕ → Option KdcEntry
 first_entry table realm = find (λ entry. same_text entry.realm realm) table
 

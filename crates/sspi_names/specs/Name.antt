@@ -20,7 +20,7 @@ use Rattle.sspi_names.specs.declared.format.UserNameFormat.{UserNameFormat}
 use Rattle.sspi_names.specs.declared.format.UserNameFormat.TheVariants.{UserPrincipalName}
 use Rattle.sspi_names.specs.declared.format.UserNameFormat.TheVariants.{DownLevelLogonName}
 
--- a user name, its texts as UTF-8
+-- a user name, with its texts in UTF-8
 pub record Name : Type 0 where
   pub format : UserNameFormat
   pub account : List ℕ
@@ -49,7 +49,7 @@ is_at_sign b = b == at_sign
 abbrev pub is_backslash : ℕ → Bool
 is_backslash b = b == backslash
 
--- whether a text has a `@`, a `\`, or either
+-- whether a text contains `@`, `\`, or either
 abbrev pub has_at_sign : List ℕ → Bool
 has_at_sign text = list_any is_at_sign text
 
@@ -59,7 +59,7 @@ has_backslash text = list_any is_backslash text
 abbrev pub has_separator : List ℕ → Bool
 has_separator text = has_at_sign text || has_backslash text
 
--- the name that a text is, or none where the text mixes the forms
+-- the name that a text is, or none if the text mixes the forms
 unfoldable pub parse_name : List ℕ → Option Name
 parse_name text =
     if has_at_sign text
@@ -71,7 +71,7 @@ parse_name text =
     else Some (down_level (after_first is_backslash text) (before_first is_backslash text)))
     else Some (down_level text [])
 
--- the name of an account and a domain that are given apart; an empty domain is none
+-- the name of an account and a domain given separately; an empty domain counts as none
 unfoldable pub new_name : List ℕ → List ℕ → Option Name
 new_name account [] = parse_name account
 new_name account (b ∷ domain) =
@@ -109,21 +109,21 @@ pub record IsName (n : Name) : Type 0 where
   pub account_text : IsUtf8 n.account
   pub domain_text : IsUtf8 n.domain
 
--- a text without the case of its ASCII letters
+-- a text with its ASCII letters in lower case
 abbrev pub folded : List ℕ → List ℕ
 folded text = map to_ascii_lowercase text
 
 abbrev pub same_text : List ℕ → List ℕ → Bool
 same_text a b = bytes_eq (folded a) (folded b)
 
--- the equality of the two forms of a name
+-- whether two forms of a name are the same
 abbrev pub same_format : UserNameFormat → UserNameFormat → Bool
 same_format UserPrincipalName UserPrincipalName = true
 same_format UserPrincipalName DownLevelLogonName = false
 same_format DownLevelLogonName UserPrincipalName = false
 same_format DownLevelLogonName DownLevelLogonName = true
 
--- whether two names have one form, and their texts are the same
+-- whether two names have the same form, and texts that the given test finds the same
 abbrev pub by_parts : (List ℕ → List ℕ → Bool) → Name → Name → Bool
 by_parts same a b = same_format a.format b.format &&
     (same a.account b.account && same a.domain b.domain)
@@ -132,7 +132,7 @@ by_parts same a b = same_format a.format b.format &&
 unfoldable pub name_eq : Name → Name → Bool
 name_eq = by_parts bytes_eq
 
--- whether two names are equal but for the case of ASCII letters
+-- whether two names are equal, ignoring the case of ASCII letters
 unfoldable pub equals_ignoring_case : Name → Name → Bool
 equals_ignoring_case = by_parts same_text
 
@@ -141,7 +141,7 @@ equals_ignoring_case = by_parts same_text
 abbrev pub mixed_format : Error
 mixed_format = record { error_type = UnknownCredentials; description = UserName; nstatus = None }
 
--- a name of mixed format in credentials that were delegated
+-- a name of mixed format in the buffers of an identity
 abbrev pub bad_name : Error
 bad_name = record { error_type = InvalidParameter; description = UserName; nstatus = None }
 

@@ -1,5 +1,5 @@
--- Equality that is equality of the values, and the tables of KDCs as an instance: the proofs that
--- the impls of `Eq` cite, which are to stand here.
+-- Equality that is equality of the values, with the tables of KDCs as an instance: the proofs that
+-- the impls of `Eq` cite, which belong here.
 use Rattle.std.proofs.Common.{◌≡◌, ℕ, List, Bool, true, refl, sym, ◌∙◌, subst}
 use Rattle.std.proofs.lemmas.Bool.{and_parts, and_from}
 use Rattle.std.specs.Bool.{Decides}
@@ -8,7 +8,7 @@ use Rattle.std.specs.Cmp.Lexicographic.{bytes_decides, pointwise_decides}
 use Rattle.sspi_names.specs.Kdcs.{same_entry, same_table}
 use Rattle.sspi_names.specs.declared.kdc_table.KdcEntry.{KdcEntry}
 
--- an equality holds exactly of equal values
+-- an equality holds exactly for equal values
 abbrev pub ComparesValues : {K : Type 0} → (K → K → Bool) → Type 0
 ComparesValues {K} same = (a b : K) → Decides (same a b) (a ≡ b)
 

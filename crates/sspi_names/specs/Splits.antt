@@ -1,4 +1,4 @@
--- How a name is parted, and put together again.
+-- How a name is split, and put together again.
 use Rattle.std.specs.Prelude.{◌≡◌, List, ℕ, Option, Some, None, Result, Ok, Err}
 use Rattle.sspi_types.specs.declared.error.Error.{Error}
 use Rattle.sspi_types.specs.Errors.{memory_error}
@@ -12,7 +12,7 @@ IsNameOfParts (Ok name) found = found ≡ Some name
 IsNameOfParts (Err e) None = e ≡ bad_name
 IsNameOfParts (Err e) (Some name) = e ≡ memory_error
 
--- that text shows the name which `value` is
+-- the text `inner` shows the name in `value`
 pub record IsSplit (value inner : List ℕ) (shape : Shape) : Type 0 where
   pub named : parse_name value ≡ Some (name_at inner shape)
   pub held : IsHeld inner shape

@@ -14,7 +14,7 @@ use Rattle.sspi_names.specs.declared.error.Utf16Error.{Utf16Error}
 use Rattle.sspi_names.specs.declared.error.Utf16Error.TheVariants.{OddLength, UnpairedSurrogate}
 use Rattle.sspi_names.specs.declared.error.Utf16Error.TheVariants.{InsufficientMemory}
 
--- the code units of a text, which is given in UTF-8
+-- the code units of a text in UTF-8
 unfoldable pub units_of : List ℕ → List ℕ
 units_of text = flat_map encode_utf16 (chars text)
 
@@ -35,13 +35,13 @@ unit_bytes u = (u % 256) ∷ (u / 256) ∷ []
 unfoldable pub bytes_le : List ℕ → List ℕ
 bytes_le units = flat_map unit_bytes units
 
--- the code units of bytes; a last byte alone is none
+-- the code units of bytes; a single last byte is dropped
 unfoldable pub units_le : List ℕ → List ℕ
 units_le [] = []
 units_le (b ∷ []) = []
 units_le (low ∷ high ∷ bytes) = (low + 256 * high) ∷ units_le bytes
 
--- the text that bytes are, or the refusal: an odd length before an unpaired surrogate
+-- the code units that bytes encode, or the refusal: an odd length before an unpaired surrogate
 unfoldable pub decode_le : List ℕ → Result (List ℕ) Utf16Error
 decode_le bytes =
     if length bytes % 2 == 0
@@ -49,7 +49,7 @@ decode_le bytes =
     else Ok (units_le bytes))
     else Err OddLength
 
--- exactly that text or that refusal; memory is asked for only where there is a text
+-- exactly that text or that refusal; allocates only if there is a text
 abbrev pub IsDecoded : Result (List ℕ) Utf16Error → Result (List ℕ) Utf16Error → Type 0
 IsDecoded (Ok units) decoded = decoded ≡ Ok units
 IsDecoded (Err OddLength) decoded = decoded ≡ Err OddLength

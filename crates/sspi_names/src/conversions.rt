@@ -22,8 +22,8 @@ const AT_SIGN: u16 = 0x40;
 const BACKSLASH: u16 = 0x5c;
 
 impl AuthIdentity {
-    /// The identity as UTF-16. A user principal name is the user, as `inner` shows it, with an
-    /// empty domain; a down-level name is its account and its domain.
+    /// The identity as UTF-16. A user principal name becomes the user, as `inner` shows it, with an
+    /// empty domain. A down-level name becomes its account and its domain.
     #[tactic(auto, unfolding(crate::specs::Identity::buffers_of))]
     pub fn to_buffers(&self, alloc: Global) -> Result<AuthIdentityBuffers, AllocError>
         ensures buffers { IfOk result (λ buffers. buffers ≡ buffers_of self.now) }
@@ -39,8 +39,8 @@ impl AuthIdentity {
         })
     }
 
-    /// The identity of buffers: `Username::new` of the user and the domain. InvalidParameter
-    /// exactly where they mix the forms of a name; memory is taken only where they do not.
+    /// The identity in the buffers, named by `Username::new` of the user and the domain.
+    /// InvalidParameter exactly when they mix the forms of a name; allocates only if they do not.
     #[tactic(auto, unfolding(crate::specs::Identity::identity_of))]
     pub fn from_buffers(alloc: Global, buffers: &AuthIdentityBuffers) -> Result<AuthIdentity, Error>
         ensures { IsIdentified result (identity_of buffers.now) }
@@ -62,8 +62,8 @@ impl AuthIdentity {
 }
 
 impl AuthIdentityBuffers {
-    /// The name of these buffers: `Username::new` of the user and the domain. `MixedFormat` exactly
-    /// where they mix the forms of a name; memory is taken only where they do not.
+    /// The name in these buffers: `Username::new` of the user and the domain. `MixedFormat`
+    /// exactly when they mix the forms of a name; allocates only if they do not.
     pub fn username(&self, alloc: Global) -> Result<Username, UsernameError>
         ensures { IsNamed result (new_name (text_of self.now.user) (text_of self.now.domain)) }
     {
@@ -76,7 +76,7 @@ impl AuthIdentityBuffers {
     }
 }
 
-/// The text that goes as the user.
+/// The text that goes into the user buffer.
 fn user_part(name: &Username) -> &str
     ensures text { result.now ≡ user_text name.now.format name.now }
     ensures name { IsName name.now }
@@ -87,7 +87,7 @@ fn user_part(name: &Username) -> &str
     }
 }
 
-/// The text that goes as the domain.
+/// The text that goes into the domain buffer.
 fn domain_part(name: &Username) -> &str
     ensures { result.now ≡ domain_text name.now.format name.now }
 {
@@ -97,7 +97,7 @@ fn domain_part(name: &Username) -> &str
     }
 }
 
-/// Whether a user and a domain mix the forms of a name. Takes no memory.
+/// Whether a user and a domain mix the forms of a name. Allocates nothing.
 fn mix_forms(user: &Utf16Text, domain: &Utf16Text) -> bool
     ensures { result ≡ is_none (new_name (text_of user.now) (text_of domain.now)) }
 {
@@ -108,7 +108,7 @@ fn mix_forms(user: &Utf16Text, domain: &Utf16Text) -> bool
     }
 }
 
-/// The same of a user alone.
+/// Whether a user alone mixes the forms of a name.
 fn mixes_forms(user: &Utf16Text) -> bool
     ensures { result ≡ is_none (parse_name (text_of user.now)) }
 {
@@ -116,14 +116,14 @@ fn mixes_forms(user: &Utf16Text) -> bool
     1 < backslashes || (0 < backslashes && 0 < user.count_of(AT_SIGN))
 }
 
-/// Whether a `@` or a `\` stands in the text.
+/// Whether the text contains `@` or `\`.
 fn has_separator(text: &Utf16Text) -> bool
     ensures { result ≡ has_separator (text_of text.now) }
 {
     0 < text.count_of(AT_SIGN) || 0 < text.count_of(BACKSLASH)
 }
 
-/// A name whose user and domain mix the forms is InvalidParameter.
+/// `Username::new` of a user and a domain; InvalidParameter if they mix the forms of a name.
 fn name_of_parts(alloc: Global, user: &str, domain: &str) -> Result<Username, Error>
     ensures { IsNameOfParts result (new_name user.now domain.now) }
 {

@@ -1,11 +1,11 @@
-//! What a client authenticates by: a password or a key table.
+//! What a client authenticates with: a password or a keytab.
 
 ghost use Rattle.std.specs.Prelude.{◌≡◌, IfOk, option_copied};
 
 use crate::identity::{AuthIdentity, AuthIdentityBuffers, KeytabIdentity};
 use std::alloc::{AllocError, Global};
 
-/// What a client authenticates by.
+/// What a client authenticates with.
 #[derive(Drop, PartialEq, Eq)]
 pub enum Credentials {
     /// A user name and its password.
@@ -14,7 +14,7 @@ pub enum Credentials {
     Keytab(KeytabIdentity),
 }
 
-/// `Credentials` with the texts as UTF-16.
+/// `Credentials` with a name and a password as UTF-16.
 #[derive(Drop, PartialEq, Eq)]
 pub enum CredentialsBuffers {
     /// A user name, its domain and its password, as UTF-16.
@@ -38,7 +38,7 @@ impl Credentials {
     ghost use Rattle.sspi_names.specs.Identity.{AreCredentials, credentials_buffers_of};
     ghost use Rattle.sspi_names.specs.Identity.{password_identity};
 
-    /// The credentials with the texts as UTF-16. A keytab stays as it is.
+    /// The credentials with a name and a password as UTF-16. A keytab identity is copied unchanged.
     pub fn to_buffers(&self, alloc: Global) -> Result<CredentialsBuffers, AllocError>
         ensures buffers { IfOk result (λ buffers. buffers ≡ credentials_buffers_of self.now) }
         ensures well_formed { IfOk result (λ buffers. AreCredentials buffers) }
@@ -51,7 +51,7 @@ impl Credentials {
         }
     }
 
-    /// The identity with a password; none exactly for a keytab.
+    /// The identity with a password; `None` exactly for a keytab.
     pub fn auth_identity(&self) -> Option<&AuthIdentity>
         ensures { option_copied result ≡ password_identity self.now }
     {
@@ -77,7 +77,7 @@ impl Credentials {
 impl CredentialsBuffers {
     ghost use Rattle.sspi_names.specs.Identity.{password_buffers};
 
-    /// The buffers of a name and a password; none exactly for a keytab.
+    /// The buffers of a name and a password; `None` exactly for a keytab.
     pub fn as_auth_identity(&self) -> Option<&AuthIdentityBuffers>
         ensures { option_copied result ≡ password_buffers self.now }
     {
@@ -87,8 +87,7 @@ impl CredentialsBuffers {
         }
     }
 
-    /// The buffers of a name and a password, which are moved and not copied; none exactly for a
-    /// keytab.
+    /// The buffers of a name and a password, moved and not copied; `None` exactly for a keytab.
     pub fn into_auth_identity(self) -> Option<AuthIdentityBuffers>
         ensures { result ≡ password_buffers self }
     {

@@ -1,23 +1,23 @@
-//! Why a text is no user name, or bytes are no UTF-16.
+//! Why a text is not a user name, or bytes are not UTF-16.
 
 use sspi_types::{Error, ErrorKind, Reason};
 use std::alloc::{AllocError, AllocFailed};
 
-/// Why a text is no user name.
+/// Why a text is not a user name.
 #[derive(Clone, Copy, Debug, PartialEq, Eq)]
 pub enum UsernameError {
-    /// Both `@` and `\` stand in the text, or `\` more than once.
+    /// The text contains both `@` and `\`, or more than one `\`.
     MixedFormat,
     /// Memory ran out.
     InsufficientMemory,
 }
 
-/// Why bytes are no UTF-16 text.
+/// Why bytes are not a UTF-16 text.
 #[derive(Clone, Copy, Debug, PartialEq, Eq)]
 pub enum Utf16Error {
-    /// The last code unit has one byte alone.
+    /// The last code unit has only one byte.
     OddLength,
-    /// A surrogate stands without its partner.
+    /// A surrogate lacks its partner.
     UnpairedSurrogate,
     /// Memory ran out.
     InsufficientMemory,
@@ -56,7 +56,7 @@ impl<T: Drop> From<AllocFailed<T>> for Utf16Error {
     }
 }
 
-/// `MixedFormat` is UnknownCredentials.
+/// `MixedFormat` becomes UnknownCredentials.
 impl From<UsernameError> for Error {
     ghost use Rattle.std.specs.Prelude.{◌≡◌};
     ghost use Rattle.sspi_names.specs.Name.{username_refusal};
@@ -77,7 +77,7 @@ impl From<UsernameError> for Error {
     }
 }
 
-/// An odd length and an unpaired surrogate are InvalidParameter.
+/// An odd length and an unpaired surrogate become InvalidParameter.
 impl From<Utf16Error> for Error {
     ghost use Rattle.std.specs.Prelude.{◌≡◌};
     ghost use Rattle.sspi_names.specs.Utf16.{utf16_refusal};

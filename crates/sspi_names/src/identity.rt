@@ -19,7 +19,7 @@ pub struct AuthIdentity {
 /// A user name, its domain and its password as UTF-16 (SEC_WINNT_AUTH_IDENTITY).
 #[derive(Drop, PartialEq, Eq)]
 pub struct AuthIdentityBuffers {
-    /// The user's name; a user principal name stands here whole.
+    /// The user's name; a user principal name is kept here whole.
     pub user: Utf16Text,
     /// The user's domain; empty for a user principal name.
     pub domain: Utf16Text,

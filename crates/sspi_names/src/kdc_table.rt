@@ -77,7 +77,7 @@ impl KdcTable {
         }
     }
 
-    /// Adds an entry behind the others, or leaves the table as it was where there is no memory.
+    /// Adds an entry after the others. If memory runs out, the table stays as it was.
     pub fn push(&mut self, realm: &str, url: &str) -> Result<(), Error>
         ensures ok { OnOk result (self.new ≡ self.old ++
             record { realm = realm.now; url = url.now } ∷ []) }
@@ -91,7 +91,7 @@ impl KdcTable {
         Ok(())
     }
 
-    /// The URL of the first entry whose realm equals this one but for the case of ASCII letters.
+    /// The URL of the first entry whose realm equals this one, ignoring the case of ASCII letters.
     /// An empty realm has none.
     #[tactic(auto, unfolding(crate::specs::Kdcs::url_of))]
     pub fn find(&self, realm: &str) -> Option<&str>
@@ -120,7 +120,7 @@ impl KdcTable {
     }
 }
 
-/// The first entry of a realm that is equal but for the case of ASCII letters.
+/// The first entry whose realm equals this one, ignoring the case of ASCII letters.
 fn first_of_realm<'a>(entries: &'a [KdcEntry], realm: &str) -> Option<&'a KdcEntry>
     ensures { option_copied result ≡ first_entry entries.now realm.now }
 {

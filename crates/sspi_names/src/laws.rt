@@ -23,20 +23,20 @@ use crate::network::NetworkRequest;
 use crate::username::Username;
 use crate::utf16::Utf16Text;
 
-/// A text is read as a name exactly where the grammar has it as that name.
+/// A text is read as a name exactly when it is that name by the grammar.
 pub fn names_are_read_by_the_grammar()
     ensures read { (text : List ℕ) (n : Name) → parse_name text ≡ Some n → IsSpelled text n }
     ensures again { (text : List ℕ) (n : Name) → IsSpelled text n → parse_name text ≡ Some n }
 {}
 
-/// A text is no name exactly where it mixes the forms.
+/// A text is refused as a name exactly when it mixes the forms.
 #[tactic(auto, using(crate::proofs::Mixed::mixed_is_none, crate::proofs::Mixed::none_is_mixed))]
 pub fn mixed_forms_are_refused()
     ensures refused { (text : List ℕ) → IsMixed text → parse_name text ≡ None }
     ensures only { (text : List ℕ) → parse_name text ≡ None → IsMixed text }
 {}
 
-/// Each name that is made of texts is one that the grammar allows.
+/// Each name that is made from texts is one that the grammar allows.
 pub fn made_names_are_allowed()
     ensures parsed { (text : List ℕ) (n : Name) → parse_name text ≡ Some n → IsUtf8 text →
         IsName n }
@@ -50,8 +50,8 @@ pub fn shown_name_is_read()
     ensures text { (n : Name) → IsName n → IsUtf8 (inner_of n) }
 {}
 
-/// Equality but for case is an equivalence, and says that the forms are one and the texts differ in
-/// the case of ASCII letters alone. A user principal name never equals a down-level name.
+/// Equality ignoring case is an equivalence: the same form, and texts that differ at most in the
+/// case of ASCII letters. A user principal name never equals a down-level name.
 pub fn ignoring_case_is_an_equivalence()
     ensures equivalence { IsEquivalence equals_ignoring_case }
     ensures same { (a b : Name) → equals_ignoring_case a b ≡ true → IsSameName a b }
@@ -60,16 +60,16 @@ pub fn ignoring_case_is_an_equivalence()
         equals_ignoring_case a b ≡ false }
 {}
 
-/// `==` at names says that they are the same.
+/// `==` on names holds exactly when they are the same.
 pub fn equality_is_of_the_parts()
     ensures same { (a b : Name) → name_eq a b ≡ true → a ≡ b }
     ensures equal { (a b : Name) → a ≡ b → name_eq a b ≡ true }
 {}
 
-/// `==` at each type of texts, names and identities says that the values are the same.
+/// `==` on each type of texts, names and identities holds exactly when the values are the same.
 #[tactic(auto, using(crate::proofs::SameValues::name_decided))]
 pub fn equality_is_of_values()
-    // Of names.
+    // Of texts and names.
     ensures texts { ComparesValues ⟦<Utf16Text as PartialEq>⟧.eq }
     ensures names { ComparesValues ⟦<Username as PartialEq>⟧.eq }
     ensures context_names { ComparesValues ⟦<ContextNames as PartialEq>⟧.eq }
@@ -78,26 +78,26 @@ pub fn equality_is_of_values()
     ensures buffers { ComparesValues ⟦<AuthIdentityBuffers as PartialEq>⟧.eq }
 {}
 
-/// So it does at each type of credentials, and at the requests and tables of a KDC.
+/// `==` on credentials, KDC requests and KDC tables holds exactly when the values are the same.
 #[tactic(auto, using(crate::proofs::SameValues::name_decided, crate::specs::Same::table_decided))]
 pub fn equality_of_credentials_is_of_values()
     // Of credentials.
     ensures keytabs { ComparesValues ⟦<KeytabIdentity as PartialEq>⟧.eq }
     ensures credentials { ComparesValues ⟦<Credentials as PartialEq>⟧.eq }
     ensures credentials_buffers { ComparesValues ⟦<CredentialsBuffers as PartialEq>⟧.eq }
-    // Of what the KDC is asked.
+    // Of KDC requests and tables.
     ensures requests { ComparesValues ⟦<NetworkRequest as PartialEq>⟧.eq }
     ensures tables { ComparesValues ⟦<KdcTable as PartialEq>⟧.eq }
 {}
 
-/// The buffers of an identity give it back.
+/// The buffers of an identity convert back to it.
 pub fn buffers_give_the_identity_back()
     ensures identity { (i : AuthIdentity) → IsIdentity i → identity_of (buffers_of i) ≡ Some i }
     ensures buffers { (i : AuthIdentity) → IsIdentity i → AreBuffers (buffers_of i) }
 {}
 
-/// A text has well-formed code units, which are that text; well-formed code units have a text,
-/// which has these code units.
+/// The code units of a text are well-formed and convert back to it. The text of well-formed code
+/// units is UTF-8 and converts back to them.
 pub fn texts_and_code_units()
     ensures units { (text : List ℕ) → IsUtf8 text → IsUtf16 (units_of text) ×
         (text_of (units_of text) ≡ text) }
@@ -105,7 +105,7 @@ pub fn texts_and_code_units()
         (units_of (text_of units) ≡ units) }
 {}
 
-/// Code units of 16 bits are well-formed exactly where each surrogate has its partner.
+/// Code units of 16 bits are well-formed exactly when each surrogate has its partner.
 pub fn well_formed_is_paired()
     ensures paired { (units : List ℕ) → IsUtf16 units → has_unpaired_surrogate units ≡ false }
     ensures small { (units : List ℕ) → IsUtf16 units → All (λ u. u < 2 ^ 16) units }
@@ -113,8 +113,8 @@ pub fn well_formed_is_paired()
         has_unpaired_surrogate units ≡ false → IsUtf16 units }
 {}
 
-/// The bytes of well-formed code units are read as these; what is read is well-formed, and has
-/// these bytes.
+/// The bytes of well-formed code units are read back as those units. Code units read from bytes are
+/// well-formed and convert back to those bytes.
 pub fn code_units_and_bytes()
     ensures read { (units : List ℕ) → IsUtf16 units → decode_le (bytes_le units) ≡ Ok units }
     ensures bytes { (bytes units : List ℕ) → ((i : ℕ) → slice_index bytes i < 256) →

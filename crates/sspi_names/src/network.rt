@@ -5,7 +5,7 @@ ghost use Rattle.std.specs.Prelude.{◌≡◌, IfOk};
 use sspi_types::{Bytes, Text};
 use std::alloc::{AllocError, Global};
 
-/// The transport by which a KDC is asked.
+/// The transport by which a KDC is reached.
 #[derive(Clone, Copy, Debug, PartialEq, Eq)]
 pub enum NetworkProtocol {
     /// A TCP connection.
@@ -21,7 +21,7 @@ pub enum NetworkProtocol {
 /// What a suspended step asks of a KDC.
 #[derive(Drop, PartialEq, Eq)]
 pub struct NetworkRequest {
-    /// How the KDC is asked.
+    /// How the KDC is reached.
     pub protocol: NetworkProtocol,
     /// Where the KDC is.
     pub url: Text,

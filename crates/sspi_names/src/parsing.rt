@@ -11,9 +11,9 @@ use crate::username::Username;
 use std::alloc::Global;
 
 impl Username {
-    /// The name that the text is. With a `@` it is a user principal name, split at the last one;
-    /// with a `\` it is a down-level name, whose domain comes first; any other text is an account
-    /// alone. `MixedFormat` comes exactly where both stand in the text, or `\` more than once.
+    /// Reads a name. A text with `@` is a user principal name, split at the last one. A text with
+    /// `\` is a down-level name, whose domain comes first. Any other text is an account alone.
+    /// `MixedFormat` exactly when the text contains both, or more than one `\`.
     pub fn parse(alloc: Global, value: &str) -> Result<Username, UsernameError>
         ensures { IsNamed result (parse_name value.now) }
     {
@@ -23,9 +23,9 @@ impl Username {
         Ok(Username::held(alloc, inner, shape)?)
     }
 
-    /// The name of an account and a domain: a down-level name where the domain is not empty, else
-    /// what `parse` makes of the account. `MixedFormat` comes exactly where `@` or `\` stands in
-    /// the account or the domain of a down-level name, and where `parse` answers it.
+    /// The name of an account and a domain: a down-level name if the domain is not empty, else what
+    /// `parse` makes of the account. `MixedFormat` exactly when the account or the domain of a
+    /// down-level name contains `@` or `\`, or when `parse` answers it.
     pub fn new(
         alloc: Global,
         account_name: &str,

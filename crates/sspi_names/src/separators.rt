@@ -6,7 +6,7 @@ ghost use Rattle.sspi_names.specs.Places.{IsFirst, IsLast};
 ghost use Rattle.sspi_names.specs.Name.{at_sign, backslash, has_at_sign, has_backslash};
 ghost use Rattle.sspi_names.specs.Name.{has_separator};
 
-/// Where the last `@` stands.
+/// The position of the last `@`.
 #[tactic(auto, using(crate::proofs::Found::last_at_sign_found))]
 pub fn last_at_sign(text: &str) -> Option<usize>
     ensures { MatchOption result (has_at_sign text.now ≡ false) (λ at. IsLast at_sign text.now at) }
@@ -14,7 +14,7 @@ pub fn last_at_sign(text: &str) -> Option<usize>
     text.rfind('@')
 }
 
-/// Where the first `\` stands.
+/// The position of the first `\`.
 #[tactic(auto, using(crate::proofs::Found::first_backslash_found))]
 pub fn first_backslash(text: &str) -> Option<usize>
     ensures { MatchOption result (has_backslash text.now ≡ false)
@@ -23,7 +23,7 @@ pub fn first_backslash(text: &str) -> Option<usize>
     text.find('\\')
 }
 
-/// Whether a `@` stands in the text.
+/// Whether the text contains `@`.
 #[tactic(auto, using(crate::proofs::Found::contained))]
 fn contains_at_sign(text: &str) -> bool
     ensures { result ≡ has_at_sign text.now }
@@ -31,7 +31,7 @@ fn contains_at_sign(text: &str) -> bool
     text.contains('@')
 }
 
-/// Whether a `\` stands in the text.
+/// Whether the text contains `\`.
 #[tactic(auto, using(crate::proofs::Found::contained))]
 pub fn contains_backslash(text: &str) -> bool
     ensures { result ≡ has_backslash text.now }
@@ -39,14 +39,14 @@ pub fn contains_backslash(text: &str) -> bool
     text.contains('\\')
 }
 
-/// Whether a `@` or a `\` stands in the text.
+/// Whether the text contains `@` or `\`.
 pub fn contains_separator(text: &str) -> bool
     ensures { result ≡ has_separator text.now }
 {
     contains_at_sign(text) || contains_backslash(text)
 }
 
-/// What stands before the ASCII character at `at`.
+/// The text before the ASCII character at `at`.
 pub fn before(text: &str, at: usize) -> &str
     requires within { at < length text.now }
     requires ascii { slice_index text.now at < 128 }
@@ -55,7 +55,7 @@ pub fn before(text: &str, at: usize) -> &str
     &text[..at]
 }
 
-/// What stands after the ASCII character at `at`.
+/// The text after the ASCII character at `at`.
 pub fn after(text: &str, at: usize) -> &str
     requires within { at < length text.now }
     requires ascii { slice_index text.now at < 128 }

@@ -4,7 +4,7 @@ ghost use Rattle.std.specs.Prelude.{◌≡◌, ◌<◌, false, None, Some, Match
 
 use crate::separators::{after, contains_backslash, first_backslash, last_at_sign};
 
-/// Where the separator stands in the text that shows a name.
+/// Where the separator is in the text that shows a name.
 #[derive(Clone, Copy)]
 pub(crate) enum Shape {
     /// `account@domain`, with the `@` at this place.
@@ -20,8 +20,7 @@ impl Shape {
     ghost use Rattle.sspi_names.specs.Splits.{IsSplit};
     ghost use Rattle.sspi_names.specs.Places.{IsFirst};
 
-    /// The text that shows the name which `value` is, and its shape; none where the forms are
-    /// mixed.
+    /// The text that shows the name in `value`, and its shape; `None` if the forms are mixed.
     pub(crate) fn split(value: &str) -> Option<(&str, Shape)>
         ensures { MatchOption result (parse_name value.now ≡ None)
             (λ kept. IsSplit value.now kept.0.now kept.1) }
@@ -34,7 +33,7 @@ impl Shape {
         }
     }
 
-    /// The same for a text without `@` whose first `\` stands at `at`.
+    /// The same for a text without `@` whose first `\` is at `at`.
     fn split_domain(value: &str, at: usize) -> Option<(&str, Shape)>
         requires first { IsFirst backslash value.now at }
         requires unmixed { has_at_sign value.now ≡ false }

@@ -56,7 +56,7 @@ impl Username {
     ghost use Rattle.sspi_names.specs.Name.{has_separator, IsName};
     ghost use Rattle.sspi_names.specs.Username.{name_at, IsHeld};
 
-    /// The name whose text and shape these are.
+    /// The name with this text and shape.
     pub(crate) fn held(alloc: Global, inner: &str, shape: Shape) -> Result<Username, AllocError>
         requires { IsHeld inner.now shape }
         ensures { IfOk result (λ name. name ≡ name_at inner.now shape) }
@@ -67,7 +67,7 @@ impl Username {
         })
     }
 
-    /// The down-level name of these two texts.
+    /// The down-level name with this account and domain.
     pub(crate) fn joined(alloc: Global, account: &str, domain: &str) -> Result<Username, AllocError>
         requires some { 0 < length domain.now }
         requires account { has_separator account.now ≡ false }
@@ -84,8 +84,8 @@ impl Username {
         })
     }
 
-    /// The text that shows the name: of a UPN `account@domain`, of a down-level name
-    /// `domain\account` (or, where it has no domain, just the account).
+    /// The text that shows the name: `account@domain` for a UPN, `domain\account` for a down-level
+    /// name (just the account if it has no domain).
     pub fn inner(&self) -> &str
         ensures text { result.now ≡ inner_of self.now }
         ensures name { IsName self.now }
@@ -106,7 +106,7 @@ impl Username {
         }
     }
 
-    /// The domain; none exactly where a down-level name has an empty one.
+    /// The domain; `None` exactly when a down-level name has an empty one.
     pub fn domain_name(&self) -> Option<&str>
         ensures { option_copied result ≡ domain_of self.now }
     {
@@ -118,7 +118,7 @@ impl Username {
         }
     }
 
-    /// The domain, as an empty text where there is none.
+    /// The domain, or an empty text if there is none.
     pub(crate) fn domain_text(&self) -> &str
         ensures { result.now ≡ self.now.domain }
     {
@@ -140,8 +140,7 @@ impl Username {
         }
     }
 
-    /// Whether the names have the same form, and the same account and domain but for the case of
-    /// ASCII letters.
+    /// Whether form, account and domain are the same, ignoring the case of ASCII letters.
     #[tactic(auto, unfolding(crate::specs::Name::equals_ignoring_case))]
     pub fn eq_ignore_ascii_case(&self, other: &Username) -> bool
         ensures { result ≡ equals_ignoring_case self.now other.now }

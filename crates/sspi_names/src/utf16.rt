@@ -1,4 +1,4 @@
-//! Well-formed texts of UTF-16.
+//! Well-formed UTF-16 texts.
 
 ghost use Rattle.std.specs.Prelude.{◌≡◌, ◌==◌, ◌≤◌, ◌∷◌, count_by, length, true, not, IfOk, IfSome};
 ghost use Rattle.std.specs.Prelude.{MatchOption, string_bytes};
@@ -10,7 +10,7 @@ use crate::error::Utf16Error;
 use std::alloc::{AllocError, Global};
 use std::marker::Model;
 
-/// A text as code units of UTF-16. The units are well-formed: each surrogate has its partner.
+/// A text as UTF-16 code units. The units are well-formed: each surrogate has its partner.
 /// Contracts see it as the list of its code units.
 #[derive(Drop)]
 pub struct Utf16Text {
@@ -63,9 +63,9 @@ impl Utf16Text {
         Ok(Utf16Text { units })
     }
 
-    /// The text that the bytes are, each code unit as two bytes with the low one first. `OddLength`
-    /// comes for an odd number of bytes, else `UnpairedSurrogate` where the code units are not
-    /// well-formed. Memory is asked for only where the bytes are a text.
+    /// The text that the bytes encode, with two bytes per code unit, the low one first. `OddLength`
+    /// for an odd number of bytes, else `UnpairedSurrogate` if the code units are not well-formed.
+    /// Allocates only if the bytes are a text.
     pub fn from_bytes_le(alloc: Global, bytes: &[u8]) -> Result<Utf16Text, Utf16Error>
         ensures { IsDecoded result (decode_le bytes.now) }
     {
@@ -80,7 +80,7 @@ impl Utf16Text {
         })
     }
 
-    /// Whether `from_bytes_le` takes the bytes as a text. Takes no memory.
+    /// Whether `from_bytes_le` accepts the bytes as a text. Allocates nothing.
     #[tactic(auto, using(crate::proofs::CodeUnits::decoded_ok))]
     pub fn is_text_le(bytes: &[u8]) -> bool
         ensures { result ≡ is_ok (decode_le bytes.now) }
@@ -92,7 +92,7 @@ impl Utf16Text {
         }
     }
 
-    /// How many bytes `to_bytes_le` makes.
+    /// The number of bytes that `to_bytes_le` returns.
     #[tactic(auto, using(crate::proofs::CodeUnits::length_bytes_le))]
     pub fn byte_len(&self) -> usize
         ensures { result ≡ length (bytes_le self.now) }
@@ -121,7 +121,7 @@ impl Utf16Text {
         String::from_utf16_lossy(alloc, &self.units)
     }
 
-    /// How often the text has this code unit.
+    /// How often this code unit occurs in the text.
     pub(crate) fn count_of(&self, unit: u16) -> usize
         ensures count { result ≡ count_by (λ u. u == unit) self.now }
         ensures well_formed { IsUtf16 self.now }
@@ -135,7 +135,7 @@ impl Utf16Text {
         count
     }
 
-    /// Whether there is no code unit.
+    /// Whether there are no code units.
     pub(crate) fn is_empty(&self) -> bool
         ensures empty { result ≡ (length self.now == 0) }
         ensures well_formed { IsUtf16 self.now }
@@ -180,7 +180,7 @@ fn is_well_formed(bytes: &[u8]) -> bool
     true
 }
 
-/// What follows the character that begins with this unit; none where the unit is a surrogate
+/// The bytes after the character that begins with this unit; `None` if the unit is a surrogate
 /// without its partner.
 fn after_char(unit: u16, others: &[u8]) -> Option<&[u8]>
     ensures shorter { IfSome result (λ after. length after.now ≤ length others.now) }
