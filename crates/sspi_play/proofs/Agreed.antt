@@ -103,7 +103,7 @@ module _ {C : Type 0} (c : Meaning ContextSetting C) (client : ClientEnd C) (ser
   proven_nonce t past version each was noted old =
       nonce_length (nat_lt version 5) t.delivered.client_nonce old (proven_at c server past t version each was noted).nonce
 
-  -- a client that seals has opened the proof that the server owes
+  -- a client that seals has opened the proof that the server must give
   sealing_opens : (t : Turn) (past : List Turn) (version : ℕ) → EachClientTurn c client (t ∷ past) → t.acts.sealed ≡ true →
       client_noted client.settings.least (t ∷ past) ≡ Some version →
       OpensIn c client.context (opened_in past) t.delivered.pub_key_auth
@@ -164,7 +164,7 @@ module _ {C : Type 0} (c : Meaning ContextSetting C) (client : ClientEnd C) (ser
             (subst (λ (n : ℕ). nat_lt n 5 ≡ false) (some_one version s.version (sym noted_is ∙ server_seen)) (le-ltb version 5 high));
       }
 
-  -- of a client that sealed in one of its turns
+  -- for a client that sealed in one of its turns
   pub agreed : (turns later past : List Turn) (t : Turn) → turns ≡ later ++ (t ∷ past) → t.end ≡ Client → t.acts.sealed ≡ true →
       AllTurns c client server turns → NoCollision client server turns → NoEcho client server →
       length client.settings.nonce ≡ 32 →

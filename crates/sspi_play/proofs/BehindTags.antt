@@ -1,5 +1,5 @@
--- Where each of two mechanisms opens a blob to what stands behind its tag, so does a context over both; and what such a context has opened
--- is what its turns show.
+-- If two mechanisms open a blob to what follows its tag, so does a context over both; and what such
+-- a context has opened is what its turns show.
 use Rattle.std.proofs.Common.{◌≡◌, ℕ, Bool, true, false, List, [], ◌∷◌, drop, Option, None, Some, refl, ◌∙◌, ap}
 use Rattle.sspi_mech.specs.Kerberos.{kerberos_meaning}
 use Rattle.sspi_mech.specs.Meaning.{Meaning}

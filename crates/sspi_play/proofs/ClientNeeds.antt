@@ -1,5 +1,5 @@
--- A client's steps keep the need of MICs: past its first step, and from one that asks for them on, they stay needed but where a guest
--- takes NTLM; and a step that ends the authentication ends the negotiation.
+-- A client's steps keep the need for MICs, past the first step and from one that asks for them on,
+-- except for a guest. A step that ends the authentication ends the negotiation.
 use Rattle.std.proofs.Common.{◌≡◌, ◌≢◌, not, Bool, true, false, refl, sym, ◌∙◌, ap}
 use Rattle.std.proofs.lemmas.Bool.{false≢true}
 use Rattle.sspi_types.specs.declared.error_kind.ErrorKind.TheVariants.{OutOfSequence}
@@ -18,11 +18,11 @@ use Rattle.sspi_negotiate.proofs.ClientLeads.{StepCases, ClientCases, client_lea
 use Rattle.sspi_negotiate.proofs.Leads.{Leads, by_itself, bad_order, stops, either}
 use Rattle.sspi_negotiate.proofs.Shown.{over_is_closed, open_is_before}
 
--- MICs are needed, but of a guest
+-- MICs are needed, except for a guest
 abbrev pub NeedsBy : Bool → Values → Type 0
 NeedsBy guest v = guest ≡ false → v.need ≡ true
 
--- what a step leaves that is not refused
+-- what a step that is not refused leaves
 abbrev pub Secures : {M : Type 0} → Bool → M → Answer → Values → Type 0
 Secures guest m (Done step) v = NeedsBy guest v × (step.status ≡ statuses.Ok → v.state ≡ states.Ok)
 Secures guest m (Ask request) v = NeedsBy guest v × (v.state ≢ states.Ok)

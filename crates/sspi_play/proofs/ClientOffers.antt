@@ -1,4 +1,4 @@
--- A client's context, after its turns: once it has made or taken a MIC, it keeps the list that it offered in one of them.
+-- A client's context, after its turns: with a MIC made or verified, it keeps the list it offered.
 use Rattle.std.proofs.Common.{◌≡◌, ◌≢◌, ℕ, ◌⊎◌, inl, inr, Bool, true, false, List, [], ◌∷◌, Option, None, Some, Result, Ok, Err}
 use Rattle.std.proofs.Common.{refl, sym, ◌∙◌, ap, subst, arith}
 use Rattle.std.proofs.lemmas.Bool.{false≢true}
@@ -65,14 +65,14 @@ offered_by t turns list (inl was) = offered_more t turns list was
 offered_by t turns list (inr offer) = record { at = record { later = []; turn = t; before = turns; parts = refl }; offer = offer }
 
 module _ {N K : Type 0} (n : Meaning Setting N) (k : Meaning Setting K) where
-  -- once a negotiation is past its first step, or has made or taken a MIC, its list is one of those
+  -- once a negotiation is past its first step, or made or verified a MIC, its list is one of those
   pub record OffersBy (Has : List (List ℕ) → Type 0) (s : Negotiation (NegotiatedProtocol N K)) : Type 0 where
     pub role : s.role ≡ roles.Client
     pub begun : s.state ≢ states.Initial → Has s.list
     pub answering : is_answering s.branch ≡ true → Has s.list
     pub marked : is_marked ((hand n k).counts s.mech) ≡ true → Has s.list
 
-  -- what holds of it also once a turn was refused
+  -- what holds of it even after a turn was refused
   pub record ShowsOffer (Has : List (List ℕ) → Type 0) (s : Negotiation (NegotiatedProtocol N K)) : Type 0 where
     pub marked : is_marked ((hand n k).counts s.mech) ≡ true → Has s.list
 
@@ -158,7 +158,7 @@ module _ {N K : Type 0} (r q : ℕ) (n : Meaning Setting N) (k : Meaning Setting
       first_next (Ask request) at f shown marks h = still_next (f.0 ∙ h.role) (f.2 at) marks h
       first_next (Refused error) at f shown marks h = shown
 
-    -- a refusal left the list alone, also one when out of memory
+    -- a refusal left the list alone, even one because memory ran out
     refusal_shows : s2.list ≡ s.list → (is_marked ((hand n k).counts s2.mech) ≡ true → Has s.list) → ShowsOffer n k Has s2
     refusal_shows same has = record { marked = λ marked. subst Has (sym same) (has marked) }
 
@@ -300,7 +300,7 @@ module _ {N K : Type 0} (r q : ℕ) (n : Meaning Setting N) (k : Meaning Setting
     stepped_next past stage next token x (Some m) h asked walked =
         walks_next (λ (list : List (List ℕ)). HasOffered past list) _ next.handle token 0 asked x m refl h walked
 
-    -- what a turn leaves, by how it came out
+    -- what a turn leaves, by its outcome
     abbrev Leaves : Outcome → List Turn → Option (SspiContext N K) → Type 0
     Leaves (outcome.Reply reply) turns context = Offers n k turns context
     Leaves (outcome.Final reply) turns context = Offers n k turns context

@@ -96,7 +96,7 @@ module _ {C : Type 0} (c : Meaning ContextSetting C) (e : ClientEnd C) where
 
   -- ---- the turns before one that checked, or that sealed
 
-  -- before a client has ended it has opened nothing
+  -- before a client has ended, it has opened nothing
   pub nothing_opened : (past : List Turn) → EachClientTurn c e past → AllGoOn past → any_ended past ≡ false → NoneOpened past
   nothing_opened [] each went un = tt
   nothing_opened (t ∷ past) each went un =
@@ -105,7 +105,7 @@ module _ {C : Type 0} (c : Meaning ContextSetting C) (e : ClientEnd C) where
       let nego = went_nego f t t.outcome each.0.shown.reply went.0 s.0 in
       (unchecked f t each.0.shown.acts nego, each.0.shown.acts.opened, nothing_opened past each.1 went.1 s.1)
 
-  -- before it has proved it has sealed nothing
+  -- before it has proved, it has sealed nothing
   nothing_sealed : (past : List Turn) → EachClientTurn c e past → AllGoOn past → any_ended past ≡ false → any_proved past ≡ false →
       client_sealed e past ≡ []
   nothing_sealed [] each went un unproved = refl
@@ -147,7 +147,7 @@ module _ {C : Type 0} (c : Meaning ContextSetting C) (e : ClientEnd C) where
       let s = state_nego (any_ended past) (any_proved past) (proved_nego (client_frame_at e past t) t each.0.shown.acts was) in
       nothing_made past each.1 went s.0 s.1
 
-  -- before it has ended it has sealed its proof at most
+  -- before it has ended, it has sealed at most its proof
   one_more : (t : Turn) (past : List Turn) (proved : Bool) → (proved ≡ true → client_sealed e past ≡ []) →
       length (client_sealed e past) ≤ 1 →
       length (where_done proved

@@ -1,4 +1,4 @@
--- A client's context, after its turns: once one of them proved, a negotiation is over, and has verified a MIC but of a guest.
+-- Once a client's turn proved, its negotiation is over, and has verified a MIC except for a guest.
 use Rattle.std.proofs.Common.{◌≡◌, ◌≢◌, ◌≤◌, ◌+◌, ℕ, Bool, true, false, List, [], ◌∷◌, ◌++◌, Option, None, Some, IsSome}
 use Rattle.std.proofs.Common.{refl, sym, ◌∙◌, ap, subst, arith, ◌&&◌, ◌||◌, ◌⊎◌, inl, inr, if◌then◌else◌}
 use Rattle.std.proofs.lemmas.Bool.{false≢true, or_cases}
@@ -146,7 +146,7 @@ module _ {N K : Type 0} (n : Meaning Setting N) (k : Meaning Setting K) where
   Next guest (Ask request) s = NeedsBy guest (values_of s) × (s.state ≢ states.Ok)
   Next guest (Refused error) s = Unit {0}
 
-  -- what holds of it between two turns, none of which was refused
+  -- what holds of it between two turns, while no turn was refused
   pub record Guards (guest : Bool) (proved : Type 0) (s : Negotiation (NegotiatedProtocol N K)) : Type 0 where
     pub needs : s.state ≢ states.Initial → NeedsBy guest (values_of s)
     pub over : proved → s.state ≡ states.Ok
@@ -274,12 +274,12 @@ module _ {N K : Type 0} (r q : ℕ) (n : Meaning Setting N) (k : Meaning Setting
 
   -- ---- the context between two turns
 
-  -- before there is a context no turn has proved
+  -- before there is a context, no turn has proved
   abbrev GuardsIn : Bool → List Turn → Option (SspiContext N K) → Type 0
   GuardsIn guest turns None = SomeProved turns → ⊥
   GuardsIn guest turns (Some m) = OnNegotiation n k (Guards n k guest (SomeProved turns)) m
 
-  -- where it is a negotiation, it has verified a MIC
+  -- if it negotiates, it has verified a MIC
   abbrev pub VerifiedIn : Option (SspiContext N K) → Type 0
   VerifiedIn None = ⊥
   VerifiedIn (Some m) = OnNegotiation n k (VerifiedOne n k) m
@@ -399,7 +399,7 @@ module _ {N K : Type 0} (r q : ℕ) (n : Meaning Setting N) (k : Meaning Setting
     abbrev pub Claims : List Turn → ClientStage (SspiContext N K) D → Type 0
     Claims turns stage = SomeProved turns → is_guest stage.handle ≡ false → VerifiedIn stage.context
 
-    -- what a turn leaves, by how it came out
+    -- what a turn leaves, by its outcome
     pub record LeavesBy (came : Outcome) (turns : List Turn) (next : ClientStage (SspiContext N K) D) : Type 0 where
       pub guards : GoesOn came → Guarded turns next
       pub claims : Claims turns next
@@ -436,7 +436,7 @@ module _ {N K : Type 0} (r q : ℕ) (n : Meaning Setting N) (k : Meaning Setting
         (cleared_on r q n k ln lk (Guards n k guest (SomeProved turns)) (guards_of_like n k guest (SomeProved turns)) m m2 same
         (map_on n k (Guards n k guest (SomeProved past)) (Guards n k guest (SomeProved turns)) (less_proved guest turns past less) m h))
 
-    -- a step that a turn proved after, or that went on
+    -- a step after which a turn proved, or that went on
     done_guards : (guest : Bool) (turns : List Turn) (step : Step) → (SomeProved turns → step.status ≡ statuses.Ok) →
         (s : Negotiation (NegotiatedProtocol N K)) → Next n k guest (Done step) s → Guards n k guest (SomeProved turns) s
     done_guards guest turns step ended s h = record {

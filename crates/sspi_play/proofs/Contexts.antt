@@ -1,4 +1,4 @@
--- A fact of a negotiation, through what a context does beside its steps. A context that negotiates nothing makes and takes no MIC.
+-- A context's calls besides its steps keep a fact of its negotiation; without one, it has no MIC.
 use Rattle.std.proofs.Common.{◌≡◌, ℕ, false, List, Option, None, Some, Result, refl, sym, ◌∙◌, ap, subst}
 use Rattle.sspi_types.specs.declared.error.Error.{Error}
 use Rattle.sspi_types.specs.declared.credential_use.CredentialUse.{CredentialUse}
@@ -38,7 +38,7 @@ module _ {N K : Type 0} (n : Meaning Setting N) (k : Meaning Setting K) where
   holds_map Q R map (Some (contexts.Ntlm m)) h = h
   holds_map Q R map (Some (contexts.Kerberos m)) h = h
 
-  -- the fact looks at no more of the mechanism than its name and whether it made or took a MIC
+  -- of the mechanism, the fact depends only on its name and on whether it made or verified a MIC
   abbrev pub IsOfMics : (Negotiation (NegotiatedProtocol N K) → Type 0) → Type 0
   IsOfMics Q = (s : Negotiation (NegotiatedProtocol N K)) (mech : NegotiatedProtocol N K) → hand_of mech ≡ hand_of s.mech →
       is_marked ((hand n k).counts mech) ≡ is_marked ((hand n k).counts s.mech) → Q s → Q (record s { mech = mech })
@@ -61,7 +61,7 @@ module _ {N K : Type 0} (n : Meaning Setting N) (k : Meaning Setting K) where
   acquired_hand (hands.Kerberos m) (hands.Kerberos m2) u d b h = refl
 
 module _ {N K : Type 0} (r q : ℕ) (n : Meaning Setting N) (k : Meaning Setting K) (ln : IsMechanism r n) (lk : IsMechanism q k) where
-  -- other counts of messages, and as many MICs
+  -- other counts of messages, the same counts of MICs
   pub holds_recounted : (Q : Negotiation (NegotiatedProtocol N K) → Type 0) → IsOfMics n k Q → (m : SspiContext N K) (i : Counts) →
       silent i ≡ silent ((either r n k).counts m) → HoldsOf n k Q (Some m) → HoldsOf n k Q (Some ((either r n k).counted m i))
   holds_recounted Q of_mics (contexts.Negotiate s) i same h =
@@ -70,7 +70,7 @@ module _ {N K : Type 0} (r q : ℕ) (n : Meaning Setting N) (k : Meaning Setting
   holds_recounted Q of_mics (contexts.Ntlm m) i same h = ap is_marked (ln.counts_counted m i) ∙ marked_same i (n.counts m) same ∙ h
   holds_recounted Q of_mics (contexts.Kerberos m) i same h = ap is_marked (lk.counts_counted m i) ∙ marked_same i (k.counts m) same ∙ h
 
-  -- the same context but for what it sealed and opened
+  -- the same context, except for what it sealed and opened
   pub holds_cleared : (Q : Negotiation (NegotiatedProtocol N K) → Type 0) → IsOfMics n k Q → (m m2 : SspiContext N K) →
       cleared (either r n k) m2 ≡ cleared (either r n k) m → HoldsOf n k Q (Some m) → HoldsOf n k Q (Some m2)
   holds_cleared Q of_mics m m2 same h =

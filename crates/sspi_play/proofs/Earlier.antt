@@ -86,7 +86,7 @@ pub state_is_auth : (ended proved : Bool) → ended ≡ false → proved ≡ tru
     (if ended then Final else (if proved then AuthInfo else NegoToken)) ≡ AuthInfo
 state_is_auth ended proved un was = rw (un, was) refl
 
--- a list is the first of itself, and so is none
+-- a list is a first part of itself, and an empty one of any list
 pub first_none : (texts all : List (List ℕ)) → texts ≡ [] → AreFirstOf texts all
 first_none texts all none = (all, rw none (sym (append-nil all)))
 
@@ -115,7 +115,7 @@ written_credentials message r d is written =
     ap (λ (q : TsRequest). q.auth_info) at
 
 module _ {C : Type 0} (c : Meaning ContextSetting C) (client : ClientEnd C) (server : ServerEnd C) where
-  -- ---- a message without a proof has that of the request that it answers
+  -- ---- a message without a proof of its own repeats that of the request that it answers
 
   pub token_field : (f : ClientFrame C) (t : Turn) (status : Option SecurityStatus) (r : TsRequest) →
       ShowsNego (client_shown f) t status r → t.acts.proved ≡ false → r.pub_key_auth ≡ t.delivered.pub_key_auth

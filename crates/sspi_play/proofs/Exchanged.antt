@@ -1,4 +1,4 @@
--- The turns of the proofs and of the credentials in an undisturbed exchange: what each sealed, which the turn after it was given.
+-- Proofs and credentials in an undisturbed exchange: what one turn sealed, the next turn is given.
 use Rattle.std.proofs.Common.{◌≡◌, ℕ, true, false, ◌&&◌, List, [], ◌∷◌, Option, Some, Ok}
 use Rattle.std.proofs.Common.{sym, ap, subst, refl}
 use Rattle.sspi_types.specs.declared.security_status.SecurityStatus.{SecurityStatus}
@@ -32,7 +32,7 @@ use Rattle.sspi_play.proofs.Earlier.{written_credentials}
 module _ {C : Type 0} (c : Meaning ContextSetting C) (client : ClientEnd C) (server : ServerEnd C) where
   -- ---- the turns of the client's proof, of the server's, and of the credentials
 
-  -- the turns of the client are u, w and those before, and those of the server v and those before
+  -- the client's turns are u, w and those before; the server's are v and those before
   pub record Three (earlier served : List Turn) (w v u : Turn) : Type 0 where
     pub clients : EachClientTurn c client (u ∷ w ∷ earlier)
     pub client_going : AllGoOn (u ∷ w ∷ earlier)
@@ -139,7 +139,7 @@ module _ {C : Type 0} (c : Meaning ContextSetting C) (client : ClientEnd C) (ser
             (server_silent served each.1 k.server_going.1 k.unproved),
       )
 
-  -- the client that goes on once its end has proved has sent its last message
+  -- a client that goes on after it has proved has sent its last message
   pub ends_with : (f : ClientFrame C) (u : Turn) (out : Outcome) → ShowsReply (client_shown f) u out → GoesOn out → f.state ≡ AuthInfo →
       HoldsReply c f u.acts.status out →
       (r : TsRequest) × (message_of out ≡ Some r) × ShowsFinal (client_shown f) u r
@@ -162,7 +162,7 @@ module _ {C : Type 0} (c : Meaning ContextSetting C) (client : ClientEnd C) (ser
       client_sealed client (t ∷ past) ≡ text ∷ client_sealed client past
   sealed_more t past text was unproved is = rw (was, unproved, is) refl
 
-  -- the client has made one message before its credentials, its proof
+  -- before its credentials the client has made one message, its proof
   made_one : (earlier served : List Turn) (w v u : Turn) → Three earlier served w v u → made_in (w ∷ earlier) ≡ 1
   made_one earlier served w v u k =
       let f = client_frame_at client earlier w in

@@ -1,4 +1,4 @@
--- What one more delivery makes of the history of its end.
+-- What one more delivery does to the history of its end.
 use Rattle.std.proofs.Common.{List, [], ◌∷◌, Result, Ok, Err}
 use Rattle.sspi_mech.specs.Meaning.{Meaning}
 use Rattle.sspi_tsreq.specs.declared.request.TsRequest.{TsRequest}

@@ -1,4 +1,4 @@
--- The first of the elements of a list whose newest stands at its head, and the parts of equal lists.
+-- The oldest element of a list with the newest at its head, and the parts of equal lists.
 use Rattle.std.proofs.Common.{◌≡◌, ℕ, ◌+◌, ◌≤◌, List, [], ◌∷◌, ◌++◌, length, take, drop, Option, None, Some, sym, ◌∙◌, ap, refl}
 use Rattle.std.proofs.Common.{arith, length-append}
 use Rattle.std.proofs.Math.Seq.{take-append_seam, drop-append_seam}
@@ -40,7 +40,7 @@ head_same x y xs ys e = cc (e)
 pub tail_same : {A : Type 0} (x y : A) (xs ys : List A) → x ∷ xs ≡ y ∷ ys → xs ≡ ys
 tail_same x y xs ys e = cc (e)
 
--- of a list that has at most one element behind its head, and ends with two, the head is the first of the two
+-- if a list has at most one element after its head and ends with these two, the first is its head
 pub head_of_two : {A : Type 0} (x z y : A) (rest later : List A) → length rest ≤ 1 → x ∷ rest ≡ later ++ (z ∷ (y ∷ [])) → x ≡ z
 head_of_two x z y rest [] few e = head_same x z rest (y ∷ []) e
 head_of_two x z y rest (w ∷ later) few e =

@@ -1,4 +1,4 @@
--- Whether a MIC was made or taken, and which calls leave the counts of a mechanism alone.
+-- Whether a MIC was made or verified, and which calls leave a mechanism's counts unchanged.
 use Rattle.std.proofs.Common.{◌≡◌, ◌≤◌, ◌||◌, ℕ, Bool, true, false, List, Option}
 use Rattle.std.proofs.Common.{Result, refl, sym, ◌∙◌, ap, arith, nat_lt}
 use Rattle.std.proofs.lemmas.Bool.{false≢true, ltb-false}
@@ -20,7 +20,7 @@ use Rattle.sspi_negotiate.specs.Verified.{HasNoMic}
 use Rattle.sspi_negotiate.proofs.HandLaws.{hand_lawful}
 use Rattle.sspi_credssp.specs.Acts.{silent}
 
--- a MIC was made or taken
+-- a MIC was made or verified
 abbrev pub is_marked : Counts → Bool
 is_marked counts = nat_lt 0 counts.signings || nat_lt 0 counts.verifications
 
@@ -43,7 +43,7 @@ marks_by : (a b : Counts) (marked : Bool) → is_marked a ≡ marked → (HasNoM
 marks_by a b true is stays on = is
 marks_by a b false is stays on = absurd (false≢true (sym (none_marked b (stays (has_none a is))) ∙ on))
 
--- where no MIC comes, one that is there was there before
+-- if no MIC is added, one that is counted was counted before
 pub marks_before : (a b : Counts) → (HasNoMic a → HasNoMic b) → is_marked b ≡ true → is_marked a ≡ true
 marks_before a b stays on = marks_by a b (is_marked a) refl stays on
 

@@ -1,4 +1,4 @@
--- A client's steps until it offers its list of mechanisms leave the list alone, and the one that ends makes the offer. Its later steps
+-- A client's first finished step offers its list of mechanisms. Its steps before and after that one
 -- leave the list alone.
 use Rattle.std.proofs.Common.{◌≡◌, Bool, true, false, Some, refl, sym, ◌∙◌, ap}
 use Rattle.std.proofs.lemmas.Bool.{false≢true}
@@ -23,7 +23,7 @@ pub record Still (old new : Values) : Type 0 where
   pub answering : is_answering new.branch ≡ true → is_answering old.branch ≡ true
 
 module _ {M : Type 0} (c : Meaning Origin M) (old : Values) (AtFirst : Type 0) where
-  -- a first step that ends makes the offer of the list that it leaves, and no other touches the list
+  -- a first step that finishes offers the list that it leaves, and no other step changes the list
   abbrev pub OffersAt : M → Answer → Values → Type 0
   OffersAt m (Done step) v = (v.role ≡ old.role) × (AtFirst → IsOffer step.output v.list) × ((AtFirst → ⊥) → v.list ≡ old.list)
   OffersAt m (Ask request) v = (v.role ≡ old.role) × (v.list ≡ old.list) × (AtFirst → Still old v)
@@ -77,7 +77,7 @@ client_offers c ip v args m =
     client_leads c args (OffersAt c v AtFirst) (Same c v AtFirst) (First c v AtFirst) (Later c v AtFirst)
     (cases c v AtFirst args (λ h. h) (λ h. h)) ip v m (λ m1 error comes. tt) (λ opened. (refl, refl, refl))
 
--- a step that goes on once its KDC has replied is a first one unless it answers the server's token
+-- a step that the KDC's reply resumes is a first one, unless it answers the server's token
 pub resumed_offers : {M : Type 0} (c : Meaning Origin M) (v : Values) (reply : Reply) (m : M) →
     Leads c (OffersAt c v (is_answering v.branch ≡ false)) (spnego_resumed v reply) m
 resumed_offers c v reply m =

@@ -1,5 +1,5 @@
--- Agreement on the mechanism, from what each end's turns leave: a MIC that one end verified the other had made, over the list that
--- both keep; so the client had offered that list, and the server had read it and picked of it.
+-- Agreement on the mechanism: a MIC that one end verified was made by the other, over the list that
+-- both keep; so the client had offered that list, and the server had read it and picked from it.
 use Rattle.std.proofs.Common.{◌≡◌, ◌≤◌, ◌||◌, ℕ, Bool, true, false, List, Option, None, Some, Result, Err, refl, sym, ◌∙◌, ap, subst}
 use Rattle.std.proofs.Common.{arith, nat_lt}
 use Rattle.std.proofs.lemmas.Bool.{false≢true, lt-ltb}
@@ -55,7 +55,7 @@ unmarked : (counts : Counts) → is_marked counts ≡ false → is_marked counts
 unmarked counts off on = false≢true (sym off ∙ on)
 
 module _ {N K : Type 0} (r q : ℕ) (n : Meaning Setting N) (k : Meaning Setting K) (ln : IsMechanism r n) (lk : IsMechanism q k) where
-  -- the context has made or taken a MIC
+  -- the context has made or verified a MIC
   abbrev IsMarked : Option (SspiContext N K) → Type 0
   IsMarked None = ⊥
   IsMarked (Some m) = is_marked ((either r n k).counts m) ≡ true

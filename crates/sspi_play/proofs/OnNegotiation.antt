@@ -1,5 +1,5 @@
--- A fact of the negotiation of a context, through what a context does beside its steps. It says nothing of a context that negotiates
--- nothing.
+-- A fact about a context's negotiation is kept by all that the context does besides its steps. It
+-- says nothing about a context that does not negotiate.
 use Rattle.std.proofs.Common.{◌≡◌, ℕ, refl, sym, ◌∙◌, ap, subst}
 use Rattle.sspi_mech.specs.Calls.{Counts}
 use Rattle.sspi_mech.specs.Context.{IsContext}
@@ -30,20 +30,20 @@ module _ {N K : Type 0} (n : Meaning Setting N) (k : Meaning Setting K) where
   map_on Q R map (contexts.Ntlm m) h = tt
   map_on Q R map (contexts.Kerberos m) h = tt
 
-  -- the same mechanism but for what it sealed and opened
+  -- the same mechanism, except for what it sealed and opened
   pub record IsLike (mech mech2 : NegotiatedProtocol N K) : Type 0 where
     pub cleared : (hand n k).counted mech2 (silent ((hand n k).counts mech2)) ≡ (hand n k).counted mech (silent ((hand n k).counts mech))
     pub protocol : hand_of mech2 ≡ hand_of mech
     pub verifications : ((hand n k).counts mech2).verifications ≡ ((hand n k).counts mech).verifications
     pub names : (hand n k).names mech2 ≡ (hand n k).names mech
 
-  -- the fact looks at no more of the mechanism than these
+  -- of the mechanism, the fact depends only on these
   abbrev pub IsOfLike : (Negotiation (NegotiatedProtocol N K) → Type 0) → Type 0
   IsOfLike Q = (s : Negotiation (NegotiatedProtocol N K)) (mech : NegotiatedProtocol N K) → IsLike s.mech mech → Q s →
       Q (record s { mech = mech })
 
 module _ {N K : Type 0} (r q : ℕ) (n : Meaning Setting N) (k : Meaning Setting K) (ln : IsMechanism r n) (lk : IsMechanism q k) where
-  -- other counts of messages, and as many MICs
+  -- other counts of messages, the same counts of MICs
   pub counted_on : (Q : Negotiation (NegotiatedProtocol N K) → Type 0) → IsOfLike n k Q → (m : SspiContext N K) (i : Counts) →
       silent i ≡ silent ((either r n k).counts m) → OnNegotiation n k Q m → OnNegotiation n k Q ((either r n k).counted m i)
   counted_on Q of_like (contexts.Negotiate s) i same h = of_like s ((hand n k).counted s.mech i) (record {
@@ -58,7 +58,7 @@ module _ {N K : Type 0} (r q : ℕ) (n : Meaning Setting N) (k : Meaning Setting
   counted_on Q of_like (contexts.Ntlm m) i same h = tt
   counted_on Q of_like (contexts.Kerberos m) i same h = tt
 
-  -- the same context but for what it sealed and opened
+  -- the same context, except for what it sealed and opened
   pub cleared_on : (Q : Negotiation (NegotiatedProtocol N K) → Type 0) → IsOfLike n k Q → (m m2 : SspiContext N K) →
       cleared (either r n k) m2 ≡ cleared (either r n k) m → OnNegotiation n k Q m → OnNegotiation n k Q m2
   cleared_on Q of_like m m2 same h =

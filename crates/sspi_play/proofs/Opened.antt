@@ -1,4 +1,4 @@
--- What a turn adds to the texts that its end has opened; and a text that a server opened when it finished, by the context that is left.
+-- What a turn adds to the texts that its end opened; and the text that a finishing server opened.
 use Rattle.std.proofs.Common.{◌≡◌, ℕ, ◌+◌, ◌-◌, Bool, true, false, List, [], ◌∷◌, ◌++◌, Option, None, Some, Ok, sym, ap, ◌∙◌, subst, refl, arith}
 use Rattle.sspi_mech.specs.Context.{IsContext}
 use Rattle.sspi_mech.specs.Meaning.{Meaning}
@@ -168,7 +168,7 @@ finished_is outcome.Finished is = refl
 finished_is (outcome.Refused kind reply) is = absurd is
 
 module _ {C P : Type 0} (c : Meaning ContextSetting C) (law : IsContext c) (p : ProxyMeaning P) where
-  -- a context that differs in its counts alone opens alike
+  -- a context that differs only in its counts opens the same text
   opens_still : (x y : Option C) (n : ℕ) (field : Option (List ℕ)) (text : List ℕ) → SameBut c x y → OpensIn c x n field text →
       OpensIn c y n field text
   opens_still None y n field text same h = absurd h
@@ -187,7 +187,7 @@ module _ {C P : Type 0} (c : Meaning ContextSetting C) (law : IsContext c) (p : 
   final_stays old mid d outcome.Finished turn final = let s = turn.turn.shown.reply.0 in absurd (cc (s, final))
   final_stays old mid d (outcome.Refused kind reply) turn final = turn.moves.state ∙ final
 
-  -- so what the context opens stays
+  -- so what the context opens stays the same
   opens_on : (first now : ServerView C P) (later : List Turn) (n : ℕ) (field : Option (List ℕ)) (text : List ℕ) →
       ServerHistory c p first later now → first.state ≡ Final → OpensIn c first.context n field text →
       (now.state ≡ Final) × OpensIn c now.context n field text
@@ -211,7 +211,7 @@ module _ {C P : Type 0} (c : Meaning ContextSetting C) (law : IsContext c) (p : 
   identity_text (Some m) None identity h = absurd h
   identity_text (Some m) (Some blob) identity (opens_identity text opens is) = (text, opens, is)
 
-  -- the text of the identity that a server gave, by the context that is left
+  -- the text of the identity that a server gave, opened by the context as it is now
   pub given_text : (first now : ServerView C P) (identity : AuthIdentity) (turns : List Turn) (gave : GaveIn c p first identity turns now) →
       IsFreshServer first → NoneRefused gave.before → gave.turn.acts.checked ≡ false → gave.turn.acts.opened ≡ true →
       (text : List ℕ) × OpensIn c now.context (opened_in gave.before) gave.turn.delivered.auth_info text

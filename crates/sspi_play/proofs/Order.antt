@@ -1,4 +1,4 @@
--- The turns of a schedule: how an end stands after one more delivery, and that at most its newest turn was refused.
+-- A schedule's turns: an end's state after one more delivery; at most its newest turn is refused.
 use Rattle.std.proofs.Common.{◌≡◌, ◌≢◌, ℕ, ◌+◌, ◌<◌, ◌≤◌, List, [], ◌∷◌, ◌++◌, length, take, reverse, get_or, Option, None, Some}
 use Rattle.std.proofs.Common.{true, sym, ◌∙◌, ap, subst, refl}
 use Rattle.std.proofs.lemmas.List.{reverse-append, take_more, take_all}
@@ -16,7 +16,7 @@ use Rattle.sspi_play.specs.declared.played.Ending.TheVariants.{Running, Unread}
 use Rattle.sspi_play.specs.Plays.{is_for, is_start, unread_kind, unread_for, or_later, first_unread, refusal_in, last_refusal}
 use Rattle.sspi_play.specs.Plays.{turns_by, ending_by, ending_of, Plays, begins, takes, passes}
 
--- one more of a list, read from its end
+-- one more element of a list, read from its end
 pub reverse_more : {A : Type 0} (xs : List A) (n : ℕ) (x : A) → n < length xs → x ≡ get_or xs n x → reverse (take (n + 1) xs) ≡ x ∷
     reverse (take n xs)
 reverse_more xs n x here is =
@@ -25,7 +25,7 @@ reverse_more xs n x here is =
 pub reverse_all : {A : Type 0} (xs : List A) (n : ℕ) → length xs ≤ n → reverse (take n xs) ≡ reverse xs
 reverse_all xs n most = ap reverse (take_all n xs most)
 
--- ---- how an end stands
+-- ---- an end's state
 
 pub runs_by : (refusal : Option ErrorKind) (unread : Option WireKind) → ending_by refusal unread ≡ Running → (refusal ≡ None) ×
     (unread ≡ None)
@@ -33,7 +33,7 @@ runs_by (Some kind) unread is = absurd (cc (is))
 runs_by None (Some kind) is = absurd (cc (is))
 runs_by None None is = (refl, refl)
 
--- an end that stands no more stands as it did
+-- an end that no longer runs keeps its state
 stops_by : (refusal : Option ErrorKind) (unread later : Option WireKind) → ending_by refusal unread ≢ Running →
     ending_by refusal (or_later unread later) ≡ ending_by refusal unread
 stops_by (Some kind) unread later stops = refl
@@ -66,12 +66,12 @@ is_unread end d past turns kind to runs read =
     let s = runs_by (last_refusal (turns_by end turns)) (first_unread end past) runs in
     rw (s.0, s.1, unread_own end d past to, read) refl
 
--- a delivery to an end that stands no more changes nothing
+-- a delivery to an end that no longer runs changes nothing
 pub stays : (end : End) (d : Delivery) (past : List Delivery) (turns : List Turn) → ending_of end past turns ≢ Running →
     ending_of end (d ∷ past) turns ≡ ending_of end past turns
 stays end d past turns stops = stops_by (last_refusal (turns_by end turns)) (first_unread end past) (unread_for end d past) stops
 
--- a delivery to the client is none to the server
+-- a delivery to the client does not change the server's state
 pub server_apart : (d : Delivery) (past : List Delivery) (turns : List Turn) → d.to ≡ Client →
     ending_of Server (d ∷ past) turns ≡ ending_of Server past turns
 server_apart d past turns to =

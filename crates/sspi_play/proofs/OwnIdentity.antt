@@ -1,4 +1,4 @@
--- The identity that is read of the text that a client delegates: its own, or the one without texts where it keeps its credentials.
+-- The identity read from a delegated text: the client's, or an empty one if it keeps credentials.
 use Rattle.std.proofs.Common.{◌≡◌, ℕ, List, [], Some, Ok, refl, ap, sym, ◌∙◌}
 use Rattle.std.proofs.lemmas.Str.{IsUtf8-nil, chars-nil}
 use Rattle.sspi_names.specs.declared.credentials.Credentials.{Credentials}
@@ -30,7 +30,7 @@ delegated_back : (mode : CredSspMode) (own : AuthIdentity) → IsIdentity own �
 delegated_back WithCredentials own is = buffers_back own is
 delegated_back CredentialLess own is = identity_by no_identity [] [] [] no_identity_is no_units no_units no_units
 
--- a keytab has no text that is delegated
+-- a keytab has no text to delegate
 pub has_password : (of : Credentials) (mode : CredSspMode) (text : List ℕ) → delegated_text of mode ≡ Ok text →
     (own : AuthIdentity) × (of ≡ credentials.AuthIdentity own)
 unfolding delegated_text

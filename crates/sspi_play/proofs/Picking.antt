@@ -1,4 +1,4 @@
--- A server's first step that ends has picked a mechanism of the client's list, and no step leads back before the first.
+-- A server's first finished step picks from the client's list, and no step leads back before it.
 use Rattle.std.proofs.Common.{◌≡◌, ◌≢◌, ℕ, List, Some, refl, subst, ◌∙◌}
 use Rattle.sspi_mech.specs.declared.step.Answer.{Answer}
 use Rattle.sspi_mech.specs.declared.step.Answer.TheVariants.{Done, Ask, Refused}
@@ -18,21 +18,21 @@ use Rattle.sspi_negotiate.proofs.Leads.{Leads}
 use Rattle.sspi_negotiate.proofs.ServerLeads.{IsTaken, ServerCases, server_leads}
 use Rattle.sspi_play.specs.Negotiated.{IsReadAs, protocol_of}
 
--- what is selected once a choice is taken is what it names
+-- once a choice is taken, the selected mechanism is the one that it names
 pub taken_is : (choice : Choice) (packages : PackageListConfig) (held hand : Protocol) → IsTaken choice packages held hand →
     hand ≡ protocol_of choice
 taken_is choices.MsKerberos packages held hand is = is.0 ∙ is.1
 taken_is choices.Kerberos packages held hand is = is.0 ∙ is.1
 taken_is choices.Ntlm packages held hand is = is.0
 
--- the list was read, and the mechanism is the one that is picked of it
+-- the list was read, and the mechanism is the one that is picked from it
 pub record IsChosen (old : Values) (input : List ℕ) (list : List (List ℕ)) (protocol : Protocol) : Type 0 where
   pub read : IsReadAs input list
   pub picked : Picked
   pub pick_is : pick list old.packages old.hand ≡ Some picked
   pub choice : protocol ≡ protocol_of picked.choice
 
--- what a step leaves that is made
+-- what a finished step leaves
 pub record PicksOne (old : Values) (input : List ℕ) (v : Values) : Type 0 where
   pub begun : v.state ≢ states.Initial
   pub chosen : old.state ≡ states.Initial → IsChosen old input v.list v.hand

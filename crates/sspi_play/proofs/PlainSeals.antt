@@ -1,4 +1,4 @@
--- What a plain mechanism seals stands behind its tag, as does what another opens; so a plain context reads what another sealed.
+-- What a plain mechanism seals, and what another opens, follows the tag; so each reads the other.
 use Rattle.std.proofs.Common.{◌≡◌, ℕ, List, drop, Option, None, Some, sym, ◌∙◌}
 use Rattle.sspi_mech.specs.declared.protection.Direction.{Direction}
 use Rattle.sspi_mech.specs.Kerberos.{kerberos_meaning}

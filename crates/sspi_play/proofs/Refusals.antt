@@ -1,4 +1,4 @@
--- Why an end of a play stands refused: the cause of its newest turn, over the chain of the turns before it.
+-- Why an end of a play refused: the cause of its newest turn, over the chain of turns before it.
 use Rattle.std.proofs.Common.{◌≡◌, List, [], ◌∷◌, Option, None, Some, Err, sym, ◌∙◌, ap, refl}
 use Rattle.sspi_types.specs.declared.error.Error.{Error}
 use Rattle.sspi_types.specs.declared.error_kind.ErrorKind.{ErrorKind}
@@ -24,7 +24,7 @@ use Rattle.sspi_play.specs.declared.played.Ending.{Ending}
 use Rattle.sspi_play.specs.History.{IfRefused}
 use Rattle.sspi_play.specs.Plays.{refusal_in, last_refusal, ending_by}
 
--- what holds of the newest refusal holds of an end that stands refused
+-- what holds of the newest refusal holds of an end that refused
 pub if_refused : (ending : Ending) (refusal : Option ErrorKind) (unread : Option WireKind) (Q : Error → Type 0) →
     ending ≡ ending_by refusal unread →
     ((kind : ErrorKind) → refusal ≡ Some kind → (error : Error) × (error.error_type ≡ kind) × Q error) → IfRefused ending Q

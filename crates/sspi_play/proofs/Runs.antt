@@ -1,4 +1,4 @@
--- What the accounts of a play tell of it where both ends were fresh.
+-- What the accounts of a play say about it when both ends were fresh.
 use Rattle.std.proofs.Common.{◌≡◌, List, [], ◌∷◌, length, reverse, take, Option, Some, Result, Ok, Err, IfOk, ◌∙◌, ap, refl}
 use Rattle.std.proofs.Common.{subst}
 use Rattle.sspi_mech.specs.Context.{IsContext}

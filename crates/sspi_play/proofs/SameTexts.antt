@@ -1,4 +1,4 @@
--- What equal proofs of a client are made over: equal keys, in one form, and from version 5 on equal nonces.
+-- What equal client proofs are made over: equal keys, in one form; from version 5, equal nonces.
 use Rattle.std.proofs.Common.{◌≡◌, ◌+◌, ◌<◌, ◌≤◌, ℕ, Bool, true, false, List, ◌++◌, length, Some, sym, ◌∙◌, ap, refl, arith}
 use Rattle.std.proofs.Common.{length-append, nat_lt, if◌then◌else◌}
 use Rattle.std.proofs.lemmas.Bool.{ltb-true, ltb-false}

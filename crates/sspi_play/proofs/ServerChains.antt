@@ -1,5 +1,5 @@
--- A server's context, after its turns: once it has made or taken a MIC, it keeps a list that it was handed, and has the mechanism in
--- hand that it picks of it.
+-- A server's context, after its turns: once it has made or verified a MIC, it keeps a list that it
+-- was given, and has selected the mechanism that it picks from that.
 use Rattle.std.proofs.Common.{◌≡◌, ℕ, Bool, true, false, List, [], ◌∷◌, map, Option, None, Some, Result, Err}
 use Rattle.std.proofs.Common.{refl, sym, ◌∙◌, ap, subst}
 use Rattle.sspi_types.specs.declared.credential_use.CredentialUse.TheVariants.{Inbound}
@@ -74,7 +74,7 @@ module _ {N K P : Type 0} (r q : ℕ) (n : Meaning Setting N) (k : Meaning Setti
   refused_keeps statuses.NoLsaContext stage t past handle token x m is h step =
       accepts_keep stage t past handle token accept.Unknown x m is h step
 
-  -- what a turn leaves, by how it came out
+  -- what a turn leaves, by its outcome
   abbrev Leaves : Outcome → List Turn → Option (SspiContext N K) → Type 0
   Leaves (outcome.Reply reply) turns context = Keeps r q n k ln lk first.settings.mode turns context
   Leaves (outcome.Final reply) turns context = Keeps r q n k ln lk first.settings.mode turns context

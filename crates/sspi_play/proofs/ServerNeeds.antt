@@ -1,5 +1,5 @@
--- A server's steps keep the need of MICs: until the negotiation is over they stay needed with NTLM, and with any mechanism that the list
--- does not begin with; and a step that ends the authentication ends the negotiation.
+-- A server's steps keep the need for MICs until the negotiation is over: with NTLM, and with any
+-- mechanism not first in the list. A step that ends the authentication ends the negotiation.
 use Rattle.std.proofs.Common.{◌≡◌, ◌≢◌, ◌<◌, ◌||◌, ◌&&◌, ◌==◌, ℕ, Bool, true, false, List, [], ◌∷◌, Option, None, Some}
 use Rattle.std.proofs.Common.{refl, sym, subst, ◌∙◌, ap, arith, inl, inr}
 use Rattle.std.proofs.lemmas.Bool.{false≢true, eqb-true}
@@ -29,11 +29,11 @@ use Rattle.sspi_negotiate.proofs.ServerLeads.{IsNeedOf, ServerCases, server_lead
 use Rattle.sspi_play.specs.Negotiated.{NeedsMic, first_of, protocol_of}
 use Rattle.sspi_play.proofs.Picking.{taken_is}
 
--- MICs are needed, where the selected mechanism says so
+-- MICs are needed, if the selected mechanism calls for them
 abbrev pub AreNeeded : Values → Type 0
 AreNeeded v = NeedsMic v.hand v.list → v.need ≡ true
 
--- what a step leaves that was made in this state and came to this status
+-- what a step from this state leaves, if it came to this status
 pub record Secured (old : Values) (status : SecurityStatus) (v : Values) : Type 0 where
   pub begun : v.state ≢ states.Initial
   pub over : is_over status ≡ true → v.state ≡ states.Ok
@@ -43,7 +43,7 @@ pub record Secured (old : Values) (status : SecurityStatus) (v : Values) : Type 
   pub first : old.state ≡ states.Initial → NeedsMic v.hand v.list → v.state ≢ states.Ok
   pub before : old.state ≢ states.Ok
 
--- ---- what is picked at the first place is what the list begins with
+-- ---- a pick at the first place is the first mechanism of the list
 
 named_kind : (choice : Choice) (kind : MechKind) → is_kind choice kind ≡ true → protocol_of_kind kind ≡ Some (protocol_of choice)
 named_kind choices.MsKerberos kinds.MsKerberos is = refl
@@ -102,7 +102,7 @@ module _ {M : Type 0} (c : Meaning Origin M) (old : Values) (args : AcceptArgs) 
   abbrev Before : Values → Type 0
   Before v = (v.state ≡ old.state) × (v.state ≢ states.Initial → v.state ≢ states.Ok → AreNeeded v)
 
-  -- what is picked at the first place is what the list begins with
+  -- a pick at the first place is the first mechanism of the list
   abbrev Chosen : Picked → Values → Type 0
   Chosen p v = (old.state ≡ states.Initial) × ((p.index == 0) ≡ true → first_of v.list ≡ Some v.hand)
 

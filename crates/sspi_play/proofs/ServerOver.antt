@@ -1,4 +1,4 @@
--- Which of a server's turns has ended the authentication, by what its turns show.
+-- Which of a server's turns ended the authentication, by what its turns show.
 use Rattle.std.proofs.Common.{◌≡◌, Bool, true, false, List, [], ◌∷◌, ◌++◌, Option, None, Some, IsSome, refl, sym, ◌∙◌, ap, subst}
 use Rattle.std.proofs.Common.{◌&&◌, ◌||◌, inl, inr, if◌then◌else◌}
 use Rattle.std.proofs.lemmas.Bool.{false≢true, and_parts, or_cases, or_right}

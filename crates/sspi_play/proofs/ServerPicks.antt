@@ -1,5 +1,5 @@
--- A server's context through one step: until it has read the client's list it makes and takes no MIC; then it has the selected mechanism
--- that it picks of the list, and keeps both.
+-- A server's context through one step: before it has read the client's list, it makes or verifies
+-- no MIC; then it has selected the mechanism that it picks from the list, and keeps both.
 use Rattle.std.proofs.Common.{◌≡◌, ◌≢◌, ℕ, true, false, List, [], ◌∷◌, option_map, Option, None, Some, Result, Ok, Err}
 use Rattle.std.proofs.Common.{refl, sym, ◌∙◌, ap, subst}
 use Rattle.std.proofs.lemmas.Bool.{false≢true}
@@ -48,7 +48,7 @@ use Rattle.sspi_play.proofs.Contexts.{holds_accepted}
 use Rattle.sspi_play.proofs.Marks.{is_marked, marks_before, hand_keeps}
 use Rattle.sspi_play.proofs.Picking.{PicksOne, server_picks}
 
--- a list was read in one of these turns, and this mechanism is what a server of this configuration picks of it
+-- a list was read in one of these turns; from it a server so configured picks this mechanism
 pub record WasChosen (config : NegotiateConfig) (turns : List Turn) (list : List (List ℕ)) (protocol : Protocol) : Type 0 where
   pub read : HasRead turns list
   pub picked : picked_by config list ≡ Some protocol
@@ -75,7 +75,7 @@ by_state Goal states.VerifyMic first later = later (λ e. cc (e))
 by_state Goal states.Ok first later = later (λ e. cc (e))
 
 module _ {N K : Type 0} (n : Meaning Setting N) (k : Meaning Setting K) (mode : ServerMode) where
-  -- A negotiation of a server none of whose turns was refused: it is as it was made, or has picked.
+  -- The negotiation of a server with no refused turn: it is as it was made, or has picked.
   pub record KeepsPick (turns : List Turn) (s : Negotiation (NegotiatedProtocol N K)) : Type 0 where
     pub config : NegotiateConfig
     pub mode_is : mode ≡ modes.Negotiate config
@@ -84,7 +84,7 @@ module _ {N K : Type 0} (n : Meaning Setting N) (k : Meaning Setting K) (mode : 
     pub unmarked : s.state ≡ states.Initial → is_marked ((hand n k).counts s.mech) ≡ false
     pub picked : s.state ≢ states.Initial → WasChosen config turns s.list (hand_of s.mech)
 
-  -- what holds of it also once a turn was refused
+  -- what holds of it even after a turn was refused
   pub record ShowsPick (turns : List Turn) (s : Negotiation (NegotiatedProtocol N K)) : Type 0 where
     pub config : NegotiateConfig
     pub mode_is : mode ≡ modes.Negotiate config

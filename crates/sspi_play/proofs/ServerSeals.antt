@@ -44,7 +44,7 @@ at_some (Some v) P h = (v, refl)
 pub at_version : (noted : Option ℕ) (version : ℕ) (P : ℕ → Type 0) → noted ≡ Some version → AtNoted noted P → P version
 at_version noted version P is h = let at : AtNoted (Some version) P = subst (λ (o : Option ℕ). AtNoted o P) is h in at
 
--- the nonce that is there has 32 octets, from version 5 on
+-- a nonce that is present has 32 octets, from version 5 on
 pub nonce_length : (old : Bool) (sent : Option (List ℕ)) → old ≡ false → HasNonce old sent → length (nonce_of sent) ≡ 32
 nonce_length true sent is h = absurd (cc (is))
 nonce_length false None is h = absurd h
@@ -82,7 +82,7 @@ module _ {C : Type 0} (c : Meaning ContextSetting C) (s : ServerEnd C) where
   pub open_alone : (f : ServerFrame C) (t : Turn) → ShowsServerActs (server_shown f) t → t.acts.opened ≡ true → t.acts.checked ≡ false
   open_alone f t acts was = is_false t.acts.checked (λ checked. let n = check_alone f t acts checked in absurd (cc (n, was)))
 
-  -- in the state in which credentials are opened no proof is checked
+  -- in the state in which credentials are opened, no proof is checked
   auth_unchecked : (f : ServerFrame C) (t : Turn) → ShowsServerActs (server_shown f) t → f.state ≡ AuthInfo → t.acts.checked ≡ false
   auth_unchecked f t acts auth = is_false t.acts.checked (λ checked.
       subst (λ (state : CredSspState). MayCheck state t.acts.status) auth (acts.checked checked).0)

@@ -1,5 +1,5 @@
--- A server's context, after its turns: once one of them ended the authentication, a negotiation is over, and has verified a MIC where the
--- selected mechanism needs one, unless the proxy found the identities of a guest.
+-- A server's context once a turn ended the authentication: a negotiation is over. It has verified a
+-- MIC if the selected mechanism needs one, unless the proxy found the identities of a guest.
 use Rattle.std.proofs.Common.{◌≡◌, ◌≢◌, ◌≤◌, ℕ, Bool, true, false, List, [], ◌∷◌, map, Option, None, Some, Result, Ok, Err}
 use Rattle.std.proofs.Common.{refl, sym, ◌∙◌, ap, subst, ◌&&◌, ◌⊎◌, inl, inr}
 use Rattle.std.proofs.Math.Logic.{⊎_map}
@@ -59,7 +59,7 @@ use Rattle.sspi_play.proofs.ServerPicks.{by_state}
 
 module _ {N K P : Type 0} (r : ℕ) (n : Meaning Setting N) (k : Meaning Setting K) (p : ProxyMeaning P)
     (first : ServerView (SspiContext N K) P) where
-  -- a guest's context that has sealed and opened more
+  -- a guest's context that has since sealed and opened more
   guest_left : (stage : ServerStage (SspiContext N K)) (token : Option (List ℕ)) (m m2 : SspiContext N K) →
       cleared (either r n k) m2 ≡ cleared (either r n k) m → TookGuestAt r n k p first stage token (Some m) →
       TookGuestAt r n k p first stage token (Some m2)
@@ -84,7 +84,7 @@ module _ {N K P : Type 0} (r : ℕ) (n : Meaning Setting N) (k : Meaning Setting
   like_same s mech like = ap (λ (x : NegotiatedProtocol N K). contexts.Negotiate (record s { mech = x })) like.cleared
 
   module _ (stage : ServerStage (SspiContext N K)) (token : Option (List ℕ)) where
-    -- of whom no MIC is needed, by how far the server knows its peer
+    -- a peer from whom no MIC is needed, by how far the server knows it
     abbrev Excuses : accept.Knowing → Negotiation (NegotiatedProtocol N K) → Type 0
     Excuses accept.Unknown = λ s. IsGuestNamed (hand n k) s.mech
     Excuses accept.Identified = λ s. TookGuestAt r n k p first stage token (Some (contexts.Negotiate s))
@@ -180,7 +180,7 @@ module _ {N K P : Type 0} (r q : ℕ) (n : Meaning Setting N) (k : Meaning Setti
   abbrev Needs : Negotiation (NegotiatedProtocol N K) → Type 0
   Needs s = s.state ≢ states.Initial → s.state ≢ states.Ok → AreNeeded (values_of s)
 
-  -- a mechanism and a list that stay need MICs as before
+  -- an unchanged mechanism and list need MICs as before
   mic_before : (old new : Values) → StaysPicked old new → NeedsMic new.hand new.list → NeedsMic old.hand old.list
   mic_before old new stays mic = subst (λ (x : Protocol). NeedsMic x old.list) stays.hand
       (subst (λ (x : List (List ℕ)). NeedsMic new.hand x) stays.list mic)
@@ -199,7 +199,7 @@ module _ {N K P : Type 0} (r q : ℕ) (n : Meaning Setting N) (k : Meaning Setti
   acquired_initial m (contexts.Ntlm m2) mode entries buffers made got = tt
   acquired_initial m (contexts.Kerberos m2) mode entries buffers made got = tt
 
-  -- before there is a context no turn has ended the authentication
+  -- before there is a context, no turn has ended the authentication
   abbrev GuardsIn : List Turn → Option (SspiContext N K) → Type 0
   GuardsIn turns None = any_over turns ≡ true → ⊥
   GuardsIn turns (Some m) = OnNegotiation n k (Guards r n k p first turns) m
@@ -307,7 +307,7 @@ module _ {N K P : Type 0} (r q : ℕ) (n : Meaning Setting N) (k : Meaning Setti
         (counted_on r q n k ln lk (NextOf known x) (next_of_like r n k p first stage token known x) m1 i quiet
         (accepts_next past known x m1 h step))
 
-    -- where the authentication has ended the peer is known
+    -- once the authentication has ended, the peer is known
     known_guest : (status : SecurityStatus) (s : Negotiation (NegotiatedProtocol N K)) → is_over_status status ≡ true →
         Excuses r n k p first stage token (accept.known_at (either r n k) p status) s →
         TookGuestAt r n k p first stage token (Some (contexts.Negotiate s))
@@ -384,7 +384,7 @@ module _ {N K P : Type 0} (r q : ℕ) (n : Meaning Setting N) (k : Meaning Setti
     abbrev ActsAt : Turn → List Turn → Type 0
     ActsAt t past = ShowsServerActs (server_shown (server_frame_at end past t)) t
 
-    -- a turn without a step ends no authentication
+    -- a turn without a step does not end the authentication
     rest_over : (t : Turn) (past : List Turn) → ActsAt t past → t.acts.negotiated ≡ false → any_over (t ∷ past) ≡ true →
         any_over past ≡ true
     rest_over t past acts bare is = elim (or_cases (is_replied t.outcome && is_over t.acts.status) (any_over past) is) [
@@ -442,7 +442,7 @@ module _ {N K P : Type 0} (r q : ℕ) (n : Meaning Setting N) (k : Meaning Setti
     guards_claim turns (Some (contexts.Ntlm m)) over h = tt
     guards_claim turns (Some (contexts.Kerberos m)) over h = tt
 
-    -- also where the newest turn was refused
+    -- even if the newest turn was refused
     pub left_claims : (turns : List Turn) (stage : ServerStage (SspiContext N K)) → first.context ≡ None → OthersUnrefused turns →
         EachServerTurn (either r n k) end turns → ServerChain (either r n k) p first turns stage → any_over turns ≡ true →
         HasVerifiedOrGuest r n k p first turns stage.context

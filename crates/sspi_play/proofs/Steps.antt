@@ -1,4 +1,4 @@
--- How a play stands after one more delivery.
+-- The state of a play after one more delivery.
 use Rattle.std.proofs.Common.{◌≡◌, ◌≢◌, ◌<◌, ◌≤◌, ◌+◌, ℕ, length, take, reverse, get_or, arith, inl, inr, List, [], ◌∷◌, Option}
 use Rattle.std.proofs.Common.{None, Some, Result, Ok, Err, Bool, true, false, not, sym, ◌∙◌, ap, subst, refl}
 use Rattle.sspi_types.specs.declared.error_kind.ErrorKind.{ErrorKind}
@@ -45,7 +45,7 @@ pushed_turn end start bytes request P old [] given pushed = absurd pushed
 pushed_turn end start bytes request P old (t ∷ past) given pushed =
     (given.1, (pushed.0, pushed.1, subst (λ (r : TsRequest). IsGiven start bytes r) (sym pushed.2) given.0, pushed.3))
 
--- an end that refused, by what is answered
+-- an end that refused, by the answer
 pub client_ended : (start : Bool) (bytes : List ℕ) (kind : ErrorKind) (answer : Result Ending DelegateError) (old new : List Turn) →
     EndsBy kind answer →
     TurnsSo Client start bytes (IsClientRefusal kind) old new → ClientHands start bytes answer old new
@@ -66,7 +66,7 @@ server_lacks bytes kind error old new by turns = record {
   turns = inr (subst (λ (k : ErrorKind). TurnsSo Server false bytes (IsServerRefusal k) old new) by.1 turns);
 }
 
--- ---- how a turn leaves an end
+-- ---- the state in which a turn leaves an end
 
 went_ending : (out : Outcome) → GoesOn out → ending_by (refusal_in out) None ≡ Running
 went_ending (outcome.Reply reply) went = refl
@@ -201,7 +201,7 @@ client_stands d past start (Unread kind) turns new standing to started running h
       server_kind = stands.server_kind;
     })
 
--- a client that stands no more
+-- a client that no longer runs
 pub client_passed : (d : Delivery) (past : List Delivery) (turns : List Turn) (standing : Standing) → d.to ≡ Client →
     standing.played.client ≢ Running →
     Stands past turns standing → Stands (d ∷ past) turns (record standing { begun = true })
@@ -232,7 +232,7 @@ client_stops d past start error turns new standing to started running h stands =
   )
 ]
 
--- what a delivery to the client has, of which no turn was made
+-- the request of a delivery to the client that made no turn
 pub left_taken : (d : Delivery) (past : List Delivery) (start : Bool) (turns new : List Turn) (standing : Standing) (request : TsRequest) →
     d.to ≡ Client →
     start ≡ not standing.begun → standing.played.client ≡ Running → Stands past turns standing →

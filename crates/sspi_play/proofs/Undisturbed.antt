@@ -68,7 +68,7 @@ module _ {C : Type 0} (c : Meaning ContextSetting C) (client : ClientEnd C) (ser
       let same = reads 0 s.text added.0 u.delivered.pub_key_auth s.seals opens in
       one_alone texts h.0 added.0 s.text added.2 none same
 
-  -- the server has opened one message before the credentials, the client's proof
+  -- before the credentials the server has opened one message, the client's proof
   opened_one : (earlier served : List Turn) (w v u : Turn) → Three c client server earlier served w v u → opened_in (v ∷ served) ≡ 1
   opened_one earlier served w v u k =
       let acts = k.servers.0.shown.acts in
@@ -115,7 +115,7 @@ module _ {C : Type 0} (c : Meaning ContextSetting C) (client : ClientEnd C) (ser
     rest,
   )
 
-  -- where the turns of each end stand in those of both
+  -- which end made each of these turns
   record Places (t u v w : Turn) (past : List Turn) : Type 0 where
     finishes : t.end ≡ Server
     delegating : u.end ≡ Client
@@ -254,7 +254,7 @@ module _ {C : Type 0} (c : Meaning ContextSetting C) (client : ClientEnd C) (ser
       (early c client server (w ∷ past) g_w (ap (λ (l : List Turn). any_ended l) (own_w t u v w past at) ∙ three.unended)
       (ap (λ (l : List Turn). any_proved l) (peers_w t u v w past at) ∙ three.unproved))
 
-  -- fewer turns finish no exchange
+  -- fewer turns do not finish an exchange
   no_server : (turns : List Turn) (t : Turn) (is : t.end ≡ Server) → IsUndisturbedExchange c client server (t ∷ turns) →
       server_turns turns ≡ [] → ⊥
   no_server turns t is x none =

@@ -2,8 +2,8 @@
 -- faithful.
 --
 -- Whatever is delivered to whom: a client that sealed its credentials sealed them for a server that
--- had checked this client's proof over the same key, and what a finishing server holds is what this
--- client sealed.
+-- had checked this client's proof over the same key; and what a server that finishes holds is what
+-- this client sealed.
 use Rattle.std.specs.Prelude.{◌≡◌, ◌<◌, ◌≤◌, ℕ, List, ◌∷◌, ◌++◌, length, Option, None, Some, Ok}
 use Rattle.std.specs.Prelude.{true, nat_lt}
 use Rattle.sspi_mech.specs.Meaning.{Meaning}
@@ -20,7 +20,7 @@ use Rattle.sspi_delegate.specs.Turns.{ClientEnd, ServerEnd, client_noted, server
 use Rattle.sspi_delegate.specs.Turns.{client_turns, server_turns}
 use Rattle.sspi_play.specs.Faithful.{OpensWhatWasSealed, NoCollision}
 
--- one of these turns, the newest first: the turns after it, and those before
+-- one of these turns, newest first, with the turns after it and those before it
 pub record TurnOf (turns : List Turn) : Type 0 where
   pub later : List Turn
   pub turn : Turn
@@ -29,8 +29,8 @@ pub record TurnOf (turns : List Turn) : Type 0 where
 
 -- ---- the premises
 
--- no hash, which has 32 octets, is taken for the echo of a key, which is what a peer below version
--- 5 proves with
+-- no hash, which has 32 octets, is taken for the echo of a key, with which a peer below version 5
+-- proves
 pub data NoEcho {C : Type 0} (client : ClientEnd C) (server : ServerEnd C) : Type 0 where
   by_length : 32 < length client.settings.public_key → 32 < length server.settings.public_key →
       NoEcho client server
@@ -38,7 +38,7 @@ pub data NoEcho {C : Type 0} (client : ClientEnd C) (server : ServerEnd C) : Typ
 
 -- ---- what both agree on
 
--- the two ends proved in the same form: both pinned a version below 5, or both one from 5 on
+-- the two ends proved in the same form: both pinned a version below 5, or both 5 or later
 abbrev pub AreAlike : Option ℕ → Option ℕ → Type 0
 AreAlike None other = ⊥
 AreAlike (Some version) None = ⊥
@@ -50,8 +50,8 @@ pub record HasProved (turns : List Turn) : Type 0 where
   pub end : at.turn.end ≡ Client
   pub proved : at.turn.acts.proved ≡ true
 
--- the server checked the client's proof in one of these turns, and proved; before it the client had
--- proved
+-- the server checked the client's proof in one of these turns, and proved; the client had proved
+-- before that
 pub record ServerHasProved (turns : List Turn) : Type 0 where
   pub at : TurnOf turns
   pub end : at.turn.end ≡ Server
@@ -67,19 +67,19 @@ pub record HasSealed (turns : List Turn) : Type 0 where
   pub sealed : at.turn.acts.sealed ≡ true
 
 module _ {C : Type 0} (client : ClientEnd C) (server : ServerEnd C) where
-  -- of a client that sealed, where these are the turns before it did
+  -- for a client that sealed: `before` are the turns before the one in which it did
   pub record Agrees (turns before : List Turn) : Type 0 where
     pub exchanged : ServerHasProved before
     pub keys : client.settings.public_key ≡ server.settings.public_key
     pub versions : AreAlike
         (client_noted client.settings.least (client_turns turns))
         (server_noted server.settings.least (server_turns turns))
-    -- from version 5 on the server checked a proof that was made with this client's nonce
+    -- from version 5 on, the server checked a proof that was made with this client's nonce
     pub nonce : (version : ℕ) → server_noted server.settings.least (server_turns turns) ≡ Some
         version → 5 ≤ version →
         nonce_of exchanged.at.turn.delivered.client_nonce ≡ client.settings.nonce
 
-  -- of a server that finished with this identity: before it did the client had sealed, and the
+  -- for a server that finished with this identity: the client had sealed before that, and the
   -- identity is the one that it sealed
   pub record HoldsSealed (turns : List Turn) (identity : AuthIdentity) : Type 0 where
     pub at : TurnOf turns
@@ -102,7 +102,7 @@ module _ {C : Type 0} (client : ClientEnd C) (server : ServerEnd C) where
     pub a_server_that_finished : (given : AuthIdentity) → identity ≡ Some given →
         HoldsSealed turns given
 
--- The theorem, of the ends as the play left them.
+-- The theorem, about the ends as the play left them.
 abbrev pub AgreesIfFaithful : {C : Type 0} → Meaning ContextSetting C → ClientEnd C → ServerEnd C →
     List Turn → Option AuthIdentity →
     Type 0

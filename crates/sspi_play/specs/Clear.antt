@@ -1,12 +1,11 @@
--- Of mechanisms that do not encrypt: the texts that an end opened, as they stand in the recorded
--- turns.
+-- Mechanisms that do not encrypt: the texts that an end opened, as the recorded turns show them.
 use Rattle.std.specs.Prelude.{◌≡◌, ℕ, List, [], ◌∷◌, ◌++◌, drop, Option, None, Some}
 use Rattle.sspi_mech.specs.Meaning.{Meaning}
 use Rattle.sspi_credssp.specs.declared.turn.Turn.{Turn}
 use Rattle.sspi_credssp.specs.Context.{ContextSetting}
 use Rattle.sspi_play.specs.Faithful.{where_done, HaveOpened}
 
--- what a blob opens to stands behind its tag of 16 octets
+-- a blob opens to what follows its tag of 16 octets
 abbrev pub OpensBehindTag : {S C : Type 0} → Meaning S C → Type 0
 OpensBehindTag {S} {C} c = (m : C) (n : ℕ) (blob text : List ℕ) → c.opens m n blob text →
     text ≡ drop 16 blob
@@ -15,7 +14,7 @@ abbrev pub behind_tag : Option (List ℕ) → List (List ℕ)
 behind_tag None = []
 behind_tag (Some blob) = drop 16 blob ∷ []
 
--- an end opens the proof of its peer, and a server the credentials
+-- an end opens the proof of its peer, and a server also the credentials
 abbrev pub texts_shown : Turn → List (List ℕ)
 texts_shown t = where_done t.acts.opened (behind_tag t.delivered.auth_info)
     ++ where_done t.acts.checked (behind_tag t.delivered.pub_key_auth)

@@ -1,7 +1,7 @@
--- What agreement rests on: that in this play the mechanism under both ends is faithful, in what it
--- seals and in what it signs; and that no two texts have one hash. A text that was opened is told
--- by the meaning of the context that opened it, so all this is said of a mechanism that encrypts as
--- of one that does not. Lists are the newest first.
+-- What agreement rests on: in this play the mechanism under both ends is faithful, in what it seals
+-- and in what it signs; and no two texts have the same hash. Which text was opened is given by the
+-- meaning of the context that opened it. So all this applies to mechanisms that encrypt and to
+-- those that do not. Lists have the newest first.
 use Rattle.std.specs.Prelude.{◌≡◌, ◌≤◌, ◌+◌, ℕ, List, [], ◌∷◌, ◌++◌, Option, None, Some, Result, Ok}
 use Rattle.std.specs.Prelude.{Err, Bool, true, false}
 use Rattle.sha2.specs.Sha256.{sha256}
@@ -64,13 +64,13 @@ module _ {C : Type 0} where
 
 module _ {C : Type 0} (c : Meaning ContextSetting C) (context : Option C) where
   -- the text of this field, which has this number among the messages that the context opened; no
-  -- text where it was not opened
+  -- text if it was not opened
   abbrev pub IsOpened : Bool → ℕ → Option (List ℕ) → List (List ℕ) → Type 0
   IsOpened true n field texts = (text : List ℕ) × OpensIn c context n field text ×
       (texts ≡ text ∷ [])
   IsOpened false n field texts = texts ≡ []
 
-  -- a turn before which n messages were opened opens the proof of its peer, or a server's the
+  -- a turn before which n messages were opened opens the peer's proof or, if it is a server's, the
   -- credentials
   pub record OpensMore (t : Turn) (n : ℕ) (before texts : List (List ℕ)) : Type 0 where
     pub proof : List (List ℕ)
@@ -80,7 +80,7 @@ module _ {C : Type 0} (c : Meaning ContextSetting C) (context : Option C) where
         credentials
     pub all : texts ≡ credentials ++ proof ++ before
 
-  -- the texts that an end has opened in these turns; there is one such list at most
+  -- the texts that an end has opened in these turns; there is at most one such list
   abbrev pub HaveOpened : List Turn → List (List ℕ) → Type 0
   HaveOpened [] texts = texts ≡ []
   HaveOpened (t ∷ past) texts = (before : List (List ℕ)) × HaveOpened past before ×
@@ -99,7 +99,7 @@ module _ {C : Type 0} (c : Meaning ContextSetting C) where
       AreFirstOf texts sealed
 
   module _ (client : ClientEnd C) (server : ServerEnd C) where
-    -- after each turn what an end has opened so far is what its peer sealed first
+    -- after each turn, what an end has opened so far is what its peer sealed first
     abbrev pub OpensWhatWasSealed : List Turn → Type 0
     OpensWhatWasSealed [] = Unit {0}
     OpensWhatWasSealed (t ∷ past) =
@@ -121,7 +121,7 @@ module _ {C : Type 0} (c : Meaning ContextSetting C) where
   verifications_in None = 0
   verifications_in (Some m) = (c.counts m).verifications
 
--- where an end verified a MIC, its peer made one, and both keep the same list of mechanisms
+-- if an end verified a MIC, its peer made one, and both keep the same list of mechanisms
 pub record VerifiesWhatWasSigned {N K : Type 0} (c : Meaning ContextSetting (SspiContext N K))
     (own peer : Option (SspiContext N K)) :
     Type 0 where
@@ -131,7 +131,7 @@ pub record VerifiesWhatWasSigned {N K : Type 0} (c : Meaning ContextSetting (Ssp
 -- ---- what is hashed
 
 module _ {C : Type 0} (client : ClientEnd C) (server : ServerEnd C) (turns : List Turn) where
-  -- so is one of the run's hashes made: an end's magic, a nonce and its own key, joined; a server's
+  -- a text that is hashed in the run: an end's magic, a nonce and its own key, joined; a server's
   -- nonce is one that was delivered in a turn in which it proved its key
   pub data IsHashed : List ℕ → Type 0 where
     by_client : (end : EndpointType) →
@@ -141,7 +141,7 @@ module _ {C : Type 0} (client : ClientEnd C) (server : ServerEnd C) (turns : Lis
         t.acts.proved ≡ true →
         IsHashed (magic end ++ nonce_of t.delivered.client_nonce ++ server.settings.public_key)
 
-  -- no two of these texts have one hash
+  -- no two of these texts have the same hash
   abbrev pub NoCollision : Type 0
   NoCollision = (text other : List ℕ) → IsHashed text → IsHashed other →
       sha256 text ≡ sha256 other → text ≡ other

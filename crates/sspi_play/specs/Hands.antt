@@ -1,4 +1,4 @@
--- What one delivery makes of its end.
+-- What one delivery does to its end.
 use Rattle.std.specs.Prelude.{◌≡◌, ◌≢◌, ℕ, ◌⊎◌, List, [], ◌∷◌, None, Some, Result, Ok, Err, Bool}
 use Rattle.std.specs.Prelude.{false}
 use Rattle.sspi_types.specs.declared.error_kind.ErrorKind.{ErrorKind}
@@ -38,11 +38,11 @@ RequestIs start bytes (Err wire.ReadFault) = ⊥
 RequestIs start bytes (Err wire.WriteFault) = ⊥
 RequestIs start bytes (Err wire.InsufficientMemory) = Unit {0}
 
--- the request of a delivery of which no turn was made
+-- the request of a delivery that made no turn
 abbrev pub IsLeft : Bool → List ℕ → List Turn → List Turn → TsRequest → Type 0
 IsLeft start bytes old new request = RequestIs start bytes (Ok request) × (new ≡ old)
 
--- an end that refused with this kind stands so, but out of memory ends the play
+-- an end that refused with this kind is `Refused`, but out of memory ends the play
 abbrev pub EndsBy : ErrorKind → Result Ending DelegateError → Type 0
 EndsBy kind (Ok ending) = (ending ≡ Refused kind) × (kind ≢ kinds.InsufficientMemory)
 EndsBy kind (Err error) = (error ≡ errors.InsufficientMemory) × (kind ≡ kinds.InsufficientMemory)
@@ -53,7 +53,7 @@ HasTurn end start bytes P old [] = ⊥
 HasTurn end start bytes P old (t ∷ past) = (past ≡ old) × (t.end ≡ end) ×
     IsGiven start bytes t.delivered × P t.outcome
 
--- a delivery made a turn that ended so
+-- a delivery made a turn with such an outcome
 abbrev pub TurnsSo : End → Bool → List ℕ → (Outcome → Type 0) → List Turn → List Turn → Type 0
 TurnsSo end start bytes P old new = (unread_kind start bytes ≡ None) ×
     HasTurn end start bytes P old new
@@ -66,7 +66,7 @@ EndsSo end IsRefusal start bytes (Refused kind) old new = (kind ≢ kinds.Insuff
 EndsSo end IsRefusal start bytes (Unread kind) old new = (unread_kind start bytes ≡ Some kind) ×
     (new ≡ old)
 
--- out of memory: no turn was made, or it was refused with that
+-- out of memory: no turn was made, or the turn was refused with that kind
 pub record LacksSo (end : End) (IsRefusal : ErrorKind → Outcome →
     Type 0) (start : Bool) (bytes : List ℕ) (error : DelegateError)
     (old new : List Turn) : Type 0 where
@@ -87,7 +87,7 @@ ServerHands bytes (Ok (handed.Finished identity)) old new =
     TurnsSo Server false bytes IsFinished old new
 ServerHands bytes (Err error) old new = LacksSo Server IsServerRefusal false bytes error old new
 
--- a play that stands so after these deliveries and turns
+-- the state of a play after these deliveries and turns
 pub record Stands (deliveries : List Delivery) (turns : List Turn) (standing : Standing) : Type 0
   where
     pub plays : Plays deliveries turns
@@ -98,7 +98,7 @@ pub record Stands (deliveries : List Delivery) (turns : List Turn) (standing : S
     pub client_kind : IsNoWant standing.played.client
     pub server_kind : IsNoWant standing.played.server
 
--- a play that this delivery ended by an error: it made a turn, or it made none
+-- this delivery ended the play with an error: it made a turn, or it made none
 abbrev pub StopsAt : Delivery → List Delivery → List Turn → Type 0
 StopsAt d past turns = (Plays past turns ⊎ Plays (d ∷ past) turns) × OthersHadMemory turns
 
@@ -110,8 +110,8 @@ module _ {C P : Type 0} (c : Meaning ContextSetting C) (p : ProxyMeaning P) wher
       ServerGave c p first identity turns now
   ServerHandPast first (Err error) turns now = ServerHistory c p first turns now
 
-  -- the turn that a delivery made leads from the server as it was to the one that is left; where
-  -- there was no request, nothing moved it
+  -- the turn that a delivery made leads from the old server to the new one; a delivery that is not
+  -- a request leaves the server unchanged
   abbrev pub ServerHandMade : ServerView C P → Result Handed DelegateError → List Turn →
       ServerView C P → Type 0
   ServerHandMade old (Ok (handed.Stands Running)) turns now =

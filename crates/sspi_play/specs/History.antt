@@ -1,4 +1,4 @@
--- What one delivery, and a whole play, make of an end and of its history.
+-- What one delivery, and a whole play, do to an end and to its history.
 use Rattle.std.specs.Prelude.{◌≡◌, false, List, ◌∷◌, ◌++◌, Option, None, Some, Result, Ok, Err}
 use Rattle.sspi_types.specs.declared.error.Error.{Error}
 use Rattle.sspi_mech.specs.Meaning.{Meaning}
@@ -16,15 +16,15 @@ use Rattle.sspi_delegate.specs.History.{ClientHistory, ClientLeft, ServerHistory
 use Rattle.sspi_play.specs.declared.played.Ending.{Ending}
 use Rattle.sspi_play.specs.declared.played.Ending.TheVariants as endings
 
--- an end that stands refused was so with an error of this kind, of which the rest holds
+-- if an end refused, it did so with an error of this kind, of which `Q` holds
 abbrev pub IfRefused : Ending → (Error → Type 0) → Type 0
 IfRefused (endings.Refused kind) Q = (error : Error) × (error.error_type ≡ kind) × Q error
 IfRefused endings.Running Q = Unit {0}
 IfRefused (endings.Unread kind) Q = Unit {0}
 
 module _ {C D : Type 0} (c : Meaning ContextSetting C) (k : KdcCalls D) where
-  -- the history of a client, by the answer: where there was no memory it may have been left waiting
-  -- for its KDC, in a turn on what was due
+  -- the history of a client, by the answer: if memory ran out it may have been left waiting for its
+  -- KDC, in a turn on the request that was due
   abbrev pub ClientPlayed : {X : Type 0} → (TsRequest → Type 0) → ClientView C → D →
       Result X DelegateError → List Turn →
       ClientView C → D → Type 0
@@ -41,8 +41,8 @@ module _ {C D : Type 0} (c : Meaning ContextSetting C) (k : KdcCalls D) where
       ClientChainLeft c k first due kdc turns now
 
 module _ {C P : Type 0} (c : Meaning ContextSetting C) (p : ProxyMeaning P) where
-  -- one of these turns of the server finished, and gave this identity; those behind it led to the
-  -- server that is left
+  -- one of these turns of the server finished, and gave this identity; the later ones led to the
+  -- server as it is now
   pub record GaveIn (first : ServerView C P) (identity : AuthIdentity) (turns : List Turn)
       (now : ServerView C P) : Type 0 where
     pub later : List Turn
@@ -50,12 +50,12 @@ module _ {C P : Type 0} (c : Meaning ContextSetting C) (p : ProxyMeaning P) wher
     pub before : List Turn
     pub parts : turns ≡ later ++ (turn ∷ before)
     pub finished : IsFinished turn.outcome
-    -- the server once it had made that turn
+    -- the server after that turn
     pub server : ServerView C P
     pub gave : ServerGave c p first identity (turn ∷ before) server
     pub since : ServerHistory c p server later now
 
-  -- the identity is that of the turn that finished, and there is none where no turn did
+  -- the identity is that of the turn that finished; there is none if no turn did
   abbrev pub Gave : ServerView C P → Option AuthIdentity → List Turn → ServerView C P → Type 0
   Gave first None turns now = any_finished turns ≡ false
   Gave first (Some identity) turns now = GaveIn first identity turns now

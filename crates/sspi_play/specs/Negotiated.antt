@@ -1,13 +1,13 @@
 -- Agreement on the mechanism that a negotiation chose, between a client and a server whose messages
--- an attacker carries, if the mechanism is faithful in what it signs (RFC 4178, section 5). It
--- supposes nothing of what is sealed, and nothing of hashes.
+-- an attacker carries. The mechanism must be faithful in what it signs (RFC 4178, section 5).
+-- Nothing is supposed about what is sealed, or about hashes.
 --
--- A server that verified a MIC of the client has the selected mechanism that it picks, by its own
--- configuration, of the list that the client offered; and a client that verified a MIC of the
--- server keeps the list that the server read. A client that proved its key, or sealed its
--- credentials, has verified one. A server that proved its own, or opened credentials, has too, if
--- the mechanism in hand is NTLM or is not the one that the list that it read begins with. That is
--- so of ends that negotiate, but for a guest, and rests on no premise.
+-- A server that verified a MIC of the client has selected the mechanism that its own configuration
+-- picks from the list that the client offered. A client that verified a MIC of the server keeps the
+-- list that the server read. A client that proved its key, or sealed its credentials, has verified
+-- a MIC. So has a server that proved its own key, or opened credentials, if it needed one: if the
+-- selected mechanism is NTLM or is not the first in the list that it read. These last two hold of
+-- ends that negotiate, except for a guest, and rest on no premise.
 use Rattle.std.specs.Prelude.{◌≡◌, ◌≢◌, ◌≤◌, ◌⊎◌, ℕ, List, [], ◌∷◌, map, option_map}
 use Rattle.std.specs.Prelude.{Option, None, Some, IsSome, Result, Ok, Err, true, false}
 use Rattle.sspi_types.specs.declared.error_kind.ErrorKind.{ErrorKind}
@@ -54,7 +54,7 @@ use Rattle.sspi_play.specs.Agreement.{TurnOf}
 use Rattle.sspi_play.specs.Faithful.{verifications_in, VerifiesWhatWasSigned}
 use Rattle.sspi_play.specs.Kept.{kept_list}
 
--- ---- the list on its way
+-- ---- the list in the messages
 
 -- the text is a NegTokenInit that offers this list
 pub record IsOffer (text : List ℕ) (list : List (List ℕ)) : Type 0 where
@@ -68,12 +68,12 @@ pub record IsReadAs (text : List ℕ) (list : List (List ℕ)) : Type 0 where
   pub read : init_of text ≡ Some token
   pub listed : token.mech_types ≡ Some list
 
--- the client made the offer of this list in one of its turns
+-- the client offered this list in one of its turns
 pub record HasOffered (turns : List Turn) (list : List (List ℕ)) : Type 0 where
   pub at : TurnOf turns
   pub offer : IsOffer at.turn.output list
 
--- the server was handed an offer of this list in one of its turns
+-- the server was given an offer of this list in one of its turns
 pub record HasRead (turns : List Turn) (list : List (List ℕ)) : Type 0 where
   pub at : TurnOf turns
   pub read : IsReadAs (token_of at.turn.delivered.nego_tokens) list
@@ -85,7 +85,7 @@ protocol_of choices.MsKerberos = Kerberos
 protocol_of choices.Kerberos = Kerberos
 protocol_of choices.Ntlm = Ntlm
 
--- the mechanism of what is taken selected; a refusal takes none
+-- the mechanism that this origin selects; a refusal selects none
 abbrev pub protocol_from : Result Origin ErrorKind → Option Protocol
 protocol_from (Ok (Configured (configs.Ntlm config))) = Some Ntlm
 protocol_from (Ok (Configured (configs.Kerberos config))) = Some Kerberos
@@ -93,13 +93,13 @@ protocol_from (Ok (Configured (configs.KerberosServer config server))) = Some Ke
 protocol_from (Ok (InPlaceOfNtlm url kdcs computer)) = Some Kerberos
 protocol_from (Err kind) = None
 
--- what a server with this selected mechanism picks of a list, by its configuration
+-- what a server with this selected mechanism picks from a list, by its configuration
 abbrev pub picks_with : NegotiateConfig → Option Protocol → List (List ℕ) → Option Protocol
 picks_with config None list = None
 picks_with config (Some first) list = option_map (λ (picked : Picked). protocol_of picked.choice)
     (pick list (packages_in config) first)
 
--- what a server that was made of this configuration picks of a list
+-- what a server made from this configuration picks from a list
 abbrev pub picked_by : NegotiateConfig → List (List ℕ) → Option Protocol
 picked_by config list = picks_with config (protocol_from (first_in_hand roles.Server config)) list
 
@@ -110,7 +110,7 @@ in_hand (Some (contexts.Negotiate s)) = Some (hand_of s.mech)
 in_hand (Some (contexts.Ntlm m)) = None
 in_hand (Some (contexts.Kerberos m)) = None
 
--- the selected mechanism is what a server of this mode picks of the list
+-- the selected mechanism is what a server of this mode picks from the list
 pub record IsPickOf {N K : Type 0} (context : Option (SspiContext N K)) (mode : ServerMode)
     (list : List (List ℕ)) : Type 0 where
   pub config : NegotiateConfig
@@ -121,24 +121,24 @@ pub record IsPickOf {N K : Type 0} (context : Option (SspiContext N K)) (mode : 
 
 -- ---- what an end has verified, whoever carries the messages and whatever its mechanism is
 
--- the mechanism that a list begins with, if it is one that is known
+-- the mechanism that a list begins with, if it is a known one
 abbrev pub first_of : List (List ℕ) → Option Protocol
 first_of [] = None
 first_of (oid ∷ oids) = protocol_of_kind (kind_of oid)
 
--- Where a server with this selected mechanism needs MICs over the list: with NTLM, and with any
--- that the list does not begin with, both identifiers of Kerberos being one. It needs them in other
--- cases too, as user-to-user, of which nothing is said here.
+-- When a server with this selected mechanism needs MICs over the list: with NTLM, and with any
+-- mechanism that is not first in the list; both Kerberos identifiers count as one. It needs them in
+-- other cases too, such as user-to-user, about which nothing is said here.
 abbrev pub NeedsMic : Protocol → List (List ℕ) → Type 0
 NeedsMic protocol list = (protocol ≡ Ntlm) ⊎ (first_of list ≢ Some protocol)
 
--- the server is `first` as it was made
+-- `first` is the server as it was made
 module _ {N K P : Type 0} (requests : ℕ) (n : Meaning Setting N) (k : Meaning Setting K)
     (p : ProxyMeaning P)
     (first : ServerView (SspiContext N K) P) where
-  -- A step of the context of this stage named the peer as a guest, of whom a server needs no MIC,
-  -- and the context took the identities that the proxy found by that name. But for what it sealed
-  -- and opened it is now what that left.
+  -- A step of the context at this stage named the peer as a guest, from whom a server needs no MIC.
+  -- The context then took the identities that the proxy found by that name. Except for what it has
+  -- sealed and opened, it is still as that left it.
   pub record TookGuestAt (stage : ServerStage (SspiContext N K)) (token : Option (List ℕ))
       (context : Option (SspiContext N K)) :
       Type 0 where
@@ -158,7 +158,7 @@ module _ {N K P : Type 0} (requests : ℕ) (n : Meaning Setting N) (k : Meaning 
         taken
     pub left : SameBut (either requests n k) (Some taken) context
 
-  -- that was the step of one of these turns, at the stage to which those before it had led
+  -- one of these turns took that step, at the stage to which the turns before it had led
   pub record TookGuest (turns : List Turn) (context : Option (SspiContext N K)) : Type 0 where
     pub at : TurnOf turns
     pub stage : ServerStage (SspiContext N K)
@@ -183,9 +183,9 @@ module _ {N K : Type 0} (requests : ℕ) (n : Meaning Setting N) (k : Meaning Se
 
 module _ {N K P : Type 0} (requests : ℕ) (n : Meaning Setting N) (k : Meaning Setting K)
     (p : ProxyMeaning P) where
-  -- A client that proved its key has, and so has one that sealed its credentials; and a server that
-  -- answered with its own proof, or opened credentials. No turn behind the one of a proof takes a
-  -- step, so it had then.
+  -- A client that proved its key, or sealed its credentials, has verified a MIC; so has a server
+  -- that answered with its own proof, or opened credentials. No turn after that of a proof takes a
+  -- step, so the MIC was verified by then.
   pub record VerifiesFirst (client : ClientView (SspiContext N K))
       (first : ServerView (SspiContext N K) P)
       (server : ServerEnd (SspiContext N K)) (turns : List Turn) : Type 0 where
@@ -202,8 +202,8 @@ module _ {N K P : Type 0} (requests : ℕ) (n : Meaning Setting N) (k : Meaning 
 -- ---- what both agree on
 
 module _ {N K : Type 0} (requests : ℕ) (n : Meaning Setting N) (k : Meaning Setting K) where
-  -- The theorem, of the ends as the play left them, of which the server was made in this mode. What
-  -- either end knows rests on its own verifications alone.
+  -- The theorem, about the ends as the play left them; the server was made in this mode. What each
+  -- end knows rests on its own verifications alone.
   pub record NegotiatesIfFaithful (client : ClientEnd (SspiContext N K))
       (server : ServerEnd (SspiContext N K)) (mode : ServerMode)
       (turns : List Turn) : Type 0 where

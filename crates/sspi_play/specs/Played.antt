@@ -28,7 +28,7 @@ pub record Both (C P D : Type 0) : Type 0 where
 abbrev pub both : {C P D : Type 0} → ClientView C → ServerView C P → D → List Turn → Both C P D
 both client server kdc turns = record { client = client; server = server; kdc = kdc; turns = turns }
 
--- the turns are those of the whole schedule, or of a prefix of it where there was no memory
+-- the turns are those of the whole schedule, or of a prefix of it if memory ran out
 pub record PlaysFront (schedule : List Delivery) (turns : List Turn) : Type 0 where
   pub handed : ℕ
   pub within : handed ≤ length schedule
@@ -39,7 +39,7 @@ abbrev pub PlaysBy : List Delivery → Result Played DelegateError → List Turn
 PlaysBy schedule (Ok played) turns = Plays (reverse schedule) turns
 PlaysBy schedule (Err error) turns = PlaysFront schedule turns
 
--- how each end stands
+-- each end's state
 pub record Standings (schedule : List Delivery) (played : Played) (turns : List Turn) : Type 0 where
   pub client : played.client ≡ ending_of Client (reverse schedule) turns
   pub server : played.server ≡ ending_of Server (reverse schedule) turns
@@ -55,7 +55,7 @@ module _ {C P D : Type 0} (c : Meaning ContextSetting C) where
     pub the_turns_are_those_of_the_deliveries : PlaysBy schedule result new.turns
     pub deliveries_and_turns_say_how_the_ends_stand : IfOk result
         (λ played. Standings schedule played new.turns)
-    -- each turn of an end was one of its calls, and nothing moved it between two of them
+    -- each turn of an end was one of its calls, and nothing changed it between two of them
     pub client_turns_are_its_calls : ClientPlayed c k {X = Played} (IsNext schedule new.turns)
         old.client old.kdc result
         (client_turns new.turns) new.client new.kdc
@@ -65,8 +65,8 @@ module _ {C P D : Type 0} (c : Meaning ContextSetting C) where
         (λ played. Gave c p old.server played.identity (server_turns new.turns) new.server)
 
   -- Of a play between two fresh ends: each turn is one of its end, over the context that the play
-  -- left, which sealed and opened exactly what the turns say. A peer that is too old is refused as
-  -- that, and no other. No more is sealed than once.
+  -- left, which sealed and opened exactly what the turns say. A peer that is too old, and no other,
+  -- is refused for that. Credentials are sealed at most once.
   pub record IsPlay (p : ProxyMeaning P) (k : KdcCalls D) (schedule : List Delivery)
       (old : Both C P D)
       (result : Result Played DelegateError)

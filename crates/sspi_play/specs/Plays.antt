@@ -1,4 +1,4 @@
--- What a schedule of deliveries makes of two ends: which turns, and how each end stands after them.
+-- What a schedule of deliveries makes two ends do: which turns, and each end's state after them.
 -- Deliveries and turns are lists, the newest first.
 use Rattle.std.specs.Prelude.{◌≡◌, ◌≢◌, ◌||◌, ℕ, List, [], ◌∷◌, reverse, take, Option, None, Some}
 use Rattle.std.specs.Prelude.{Bool, true, false, not, if◌then◌else◌}
@@ -33,7 +33,7 @@ abbrev pub any_for : End → List Delivery → Bool
 any_for end [] = false
 any_for end (d ∷ past) = is_for end d.to || any_for end past
 
--- after these deliveries the next one to this end is its start, which is not read: a client makes
+-- after these deliveries, the next one to this end is its start, which is not read: a client makes
 -- its first request itself
 abbrev pub is_start : End → List Delivery → Bool
 is_start Client past = not (any_for Client past)
@@ -44,12 +44,12 @@ wire_kind_of None = None
 wire_kind_of (Some Ended) = Some UnexpectedEof
 wire_kind_of (Some Invalid) = Some InvalidData
 
--- why the octets of a delivery are no request, where they are read
+-- why the octets of a delivery are not a request, if they are read
 abbrev pub unread_kind : Bool → List ℕ → Option WireKind
 unread_kind true bytes = None
 unread_kind false bytes = wire_kind_of (fault bytes)
 
--- the same where the delivery is for this end
+-- the same, if the delivery is for this end
 abbrev pub unread_for : End → Delivery → List Delivery → Option WireKind
 unread_for end d past = if is_for end d.to then unread_kind (is_start end past) d.bytes else None
 
@@ -57,7 +57,7 @@ abbrev pub or_later : Option WireKind → Option WireKind → Option WireKind
 or_later None later = later
 or_later (Some first) later = Some first
 
--- why the first delivery to this end that is no request is none
+-- the reason for the first delivery to this end that is not a request
 abbrev pub first_unread : End → List Delivery → Option WireKind
 first_unread end [] = None
 first_unread end (d ∷ past) = or_later (first_unread end past) (unread_for end d past)
@@ -74,15 +74,15 @@ refusal_in (outcome.Final reply) = None
 refusal_in outcome.Finished = None
 refusal_in (outcome.Refused kind reply) = Some kind
 
--- with which kind the newest turn was refused
+-- the kind with which the newest turn was refused
 abbrev pub last_refusal : List Turn → Option ErrorKind
 last_refusal [] = None
 last_refusal (t ∷ past) = refusal_in t.outcome
 
--- ---- how an end stands
+-- ---- an end's state
 
--- it refused its last turn; or else a delivery to it was no request, and the first such decides; or
--- else it runs
+-- it refused its last turn; or else a delivery to it was not a request, and the first such one
+-- decides; or else it runs
 abbrev pub ending_by : Option ErrorKind → Option WireKind → Ending
 ending_by (Some kind) unread = Refused kind
 ending_by None (Some kind) = Unread kind
@@ -99,8 +99,8 @@ abbrev pub IsGiven : Bool → List ℕ → TsRequest → Type 0
 IsGiven true bytes request = request ≡ first_request
 IsGiven false bytes request = IsRead bytes request
 
--- These turns are those of these deliveries, in their order. A delivery makes a turn exactly where
--- its end still runs with it; else it is passed over.
+-- These turns are those of these deliveries, in their order. A delivery makes a turn exactly if its
+-- end still runs with it; otherwise it is passed over.
 pub data Plays : List Delivery → List Turn → Type 0 where
   begins : Plays [] []
   takes : (d : Delivery) (past : List Delivery) (t : Turn) (turns : List Turn) → Plays past turns →
@@ -110,18 +110,18 @@ pub data Plays : List Delivery → List Turn → Type 0 where
   passes : (d : Delivery) (past : List Delivery) (turns : List Turn) → Plays past turns →
       ending_of d.to (d ∷ past) turns ≢ Running → Plays (d ∷ past) turns
 
--- no turn was refused when out of memory
+-- no turn was refused because memory ran out
 abbrev pub AllHadMemory : List Turn → Type 0
 AllHadMemory [] = Unit {0}
 AllHadMemory (t ∷ past) = (refusal_in t.outcome ≢ Some kinds.InsufficientMemory) × AllHadMemory past
 
--- a refusal when out of memory ends the play, so only the newest turn may be one
+-- a refusal because memory ran out ends the play, so only the newest turn may be one
 abbrev pub OthersHadMemory : List Turn → Type 0
 OthersHadMemory [] = Unit {0}
 OthersHadMemory (t ∷ past) = AllHadMemory past
 
--- This delivery, behind those of which these turns were made, gives a client that still runs with
--- it this request.
+-- This delivery, after those that made these turns, gives this request to a client that still runs
+-- with it.
 pub record IsTaken (d : Delivery) (past : List Delivery) (turns : List Turn)
     (request : TsRequest) : Type 0 where
   pub plays : Plays past turns
@@ -130,7 +130,7 @@ pub record IsTaken (d : Delivery) (past : List Delivery) (turns : List Turn)
   pub runs : ending_of Client (d ∷ past) turns ≡ Running
   pub given : IsGiven (is_start Client past) d.bytes request
 
--- the next delivery of the schedule, once these turns were made, gives the client this request
+-- the next delivery of the schedule, after these turns, gives the client this request
 pub record IsNext (schedule : List Delivery) (turns : List Turn) (request : TsRequest) : Type 0
   where
     pub handed : ℕ
@@ -139,7 +139,7 @@ pub record IsNext (schedule : List Delivery) (turns : List Turn) (request : TsRe
     pub front : reverse (take handed schedule) ≡ delivery ∷ past
     pub taken : IsTaken delivery past turns request
 
--- no end stands refused when out of memory
+-- this end did not refuse because memory ran out
 abbrev pub IsNoWant : Ending → Type 0
 IsNoWant Running = Unit {0}
 IsNoWant (Refused kind) = kind ≢ kinds.InsufficientMemory

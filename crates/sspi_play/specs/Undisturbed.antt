@@ -1,6 +1,6 @@
--- An exchange that nothing disturbs: each turn is given what is written of the message of the turn
--- before it, each end opens a message of its peer to the text that was sealed, and the server
--- finished. Lists are the newest first.
+-- An exchange that nothing disturbs. Each turn is given the message of the turn before it, as that
+-- was written; each end opens a message of its peer to the text that was sealed; and the server
+-- finished. Lists have the newest first.
 use Rattle.std.specs.Prelude.{◌≡◌, ℕ, List, [], ◌∷◌, Option, None, Some}
 use Rattle.sspi_mech.specs.Meaning.{Meaning}
 use Rattle.sspi_tsreq.specs.declared.request.TsRequest.{TsRequest}
@@ -15,13 +15,13 @@ use Rattle.sspi_delegate.specs.Log.{NewestIs, IsFinished}
 use Rattle.sspi_delegate.specs.Turns.{ClientEnd, ServerEnd, EachClientTurn, EachServerTurn}
 use Rattle.sspi_delegate.specs.Turns.{Alternates, client_turns, server_turns}
 
--- this request is what is written of the message
+-- this request is the message as it was written
 abbrev pub IsWritten : Option TsRequest → TsRequest → Type 0
 IsWritten None request = ⊥
 IsWritten (Some message) request = request ≡ carried message
 
--- what a turn after these is given: the first the client's own request, each other the newest
--- message
+-- what a turn after these is given: the client's own request if it is the first turn, otherwise the
+-- newest message
 abbrev pub IsGivenAfter : List Turn → TsRequest → Type 0
 IsGivenAfter [] request = request ≡ first_request
 IsGivenAfter (t ∷ past) request = IsWritten (message_of t.outcome) request
@@ -31,8 +31,8 @@ AreHandedOn [] = Unit {0}
 AreHandedOn (t ∷ past) = IsGivenAfter past t.delivered × AreHandedOn past
 
 module _ {C : Type 0} (c : Meaning ContextSetting C) where
-  -- what the context `own` opens as its n-th message is the text, where `peer` sealed it as its
-  -- n-th. Both count from 0, each its own: `peer` what it sealed, `own` what it opened
+  -- what the context `own` opens as its n-th message is the text that `peer` sealed as its n-th.
+  -- Each counts from 0: `peer` what it sealed, `own` what it opened
   abbrev pub ReadsSeals : Option C → Option C → Type 0
   ReadsSeals own peer = (n : ℕ) (text opened : List ℕ) (blob : Option (List ℕ)) →
       SealsIn c peer n text blob →

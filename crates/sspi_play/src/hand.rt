@@ -23,7 +23,7 @@ use sspi_tsreq::TsRequest;
 use sspi_types::{Bytes, Error, ErrorKind};
 use std::alloc::Global;
 
-/// How a play stands between two deliveries.
+/// The state of a play between two deliveries.
 #[derive(Drop)]
 pub(crate) struct Standing {
     /// Whether the client has had its start.
@@ -31,14 +31,14 @@ pub(crate) struct Standing {
     pub played: Played,
 }
 
-/// What a delivery made of the server.
+/// What a delivery did to the server.
 #[derive(Drop)]
 pub(crate) enum Handed {
     Stands(Ending),
     Finished(AuthIdentity),
 }
 
-/// The request of a delivery: a start is not read, and gives the client's own first request.
+/// The request of a delivery. A start is not read: it gives the client's own first request.
 fn request_of(alloc: Global, start: bool, bytes: &Bytes) -> Result<TsRequest, WireKind>
     ensures { RequestIs start bytes.now result }
 {
@@ -48,7 +48,7 @@ fn request_of(alloc: Global, start: bool, bytes: &Bytes) -> Result<TsRequest, Wi
     TsRequest::from_buffer(alloc, bytes.as_slice())
 }
 
-/// How an end stands that refused with this error.
+/// The state of an end that refused with this error.
 fn ending_by(error: Error) -> Result<Ending, DelegateError>
     ensures { EndsBy error.error_type result }
 {
@@ -59,7 +59,7 @@ fn ending_by(error: Error) -> Result<Ending, DelegateError>
     }
 }
 
-/// Hands a delivery to a client that stands; how it stands then.
+/// Hands a delivery to a running client; answers the client's state after it.
 fn hand_client<N: Mechanism, K: Mechanism, D: Kdc>(
     alloc: Global,
     client: &mut CredSspClient<N, K>,
@@ -92,7 +92,7 @@ fn hand_client<N: Mechanism, K: Mechanism, D: Kdc>(
     }
 }
 
-/// Hands a delivery to a server that stands; how it stands then, or the identity that it opened.
+/// Hands a delivery to a running server; answers its state after it, or the identity it opened.
 fn hand_server<N: Mechanism, K: Mechanism, C: CredentialsProxy>(
     alloc: Global,
     server: &mut CredSspServer<N, K, C>,
@@ -125,7 +125,7 @@ fn hand_server<N: Mechanism, K: Mechanism, C: CredentialsProxy>(
     }
 }
 
-/// Hands a delivery to its end, if that stands.
+/// Hands a delivery to its end, if that end still runs.
 pub(crate) fn hand<N: Mechanism, K: Mechanism, C: CredentialsProxy, D: Kdc>(
     alloc: Global,
     client: &mut CredSspClient<N, K>,
@@ -135,7 +135,7 @@ pub(crate) fn hand<N: Mechanism, K: Mechanism, C: CredentialsProxy, D: Kdc>(
     transcript: &mut Transcript,
     standing: &mut Standing,
 ) -> Result<(), DelegateError>
-    // Which delivery was handed, and why none was.
+    // The state of the play after the delivery, or how an error ended the play.
     ensures stands { OnOk result ((past : List Delivery) →
         Stands past transcript.old.turns standing.old →
         Stands (delivery.now ∷ past) transcript.new.turns standing.new) }

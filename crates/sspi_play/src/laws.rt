@@ -1,4 +1,4 @@
-//! Which contexts open a blob to what stands behind its tag, so that their turns show the texts
+//! Laws: which contexts open a blob to what follows its tag, so that their turns show the texts
 //! that they opened; and that an undisturbed exchange is faithful, as agreement supposes. Each law
 //! is the contract of a call that does nothing.
 
@@ -17,13 +17,13 @@ ghost use Rattle.sspi_play.specs.Undisturbed.{IsUndisturbedExchange, ReadsSeals}
 
 use sspi_mech::Mechanism;
 
-/// A context over two mechanisms does, also one that negotiates, where both of them do.
+/// If two mechanisms open to what follows the tag, so does a context over both, negotiating or not.
 pub fn a_context_opens_as_its_mechanisms<N: Mechanism, K: Mechanism>()
     ensures { OpensBehindTag N.meaning → OpensBehindTag K.meaning →
         OpensBehindTag (either N.REQUESTS N.meaning K.meaning) }
 {}
 
-/// A context over plain NTLM and plain Kerberos does, also one that negotiates.
+/// A context over plain NTLM and plain Kerberos opens to what follows the tag, negotiating or not.
 #[tactic(auto, using(crate::proofs::BehindTags::plain_opens))]
 pub fn a_plain_context_opens_behind_the_tag()
     ensures { (requests : ℕ) → OpensBehindTag (either requests ntlm_meaning kerberos_meaning) }
@@ -37,17 +37,17 @@ pub fn one_list_was_opened<N: Mechanism, K: Mechanism>()
         HaveOpened c context turns texts → HaveOpened c context turns others → texts ≡ others }
 {}
 
-/// What the turns of an end that opens behind a tag have opened is what they show. So with
-/// mechanisms that do not encrypt the premise of agreement is one on recorded turns.
+/// If an end opens a blob to what follows its tag, its turns have opened what they show. So, with
+/// mechanisms that do not encrypt, the premise of agreement is one about recorded turns.
 pub fn recorded_turns_show_what_is_opened<N: Mechanism, K: Mechanism>()
     ensures { OpensBehindTag (either N.REQUESTS N.meaning K.meaning) →
         OpensWhatIsShown (either N.REQUESTS N.meaning K.meaning) }
 {}
 
-/// An exchange that the server finished, in which each turn is given the message of the turn before
-/// it, is faithful, if each context opens what the other sealed as its n-th message, where it opens
-/// it as its own n-th, to that text. Nothing is said of a blob that is opened under another number,
-/// so a mechanism that encrypts by its numbers can meet the premise.
+/// An exchange that the server finished, with each turn given the message of the turn before it, is
+/// faithful on one premise. What one context sealed as its n-th message, the other, if it opens it
+/// as its own n-th, opens to the same text. Nothing is said of a blob opened under another number,
+/// so a mechanism that encrypts by message number can meet the premise.
 pub fn an_undisturbed_exchange_is_faithful<N: Mechanism, K: Mechanism>()
     ensures { let c = either N.REQUESTS N.meaning K.meaning in
         (client : ClientEnd (SspiContext N K)) → (server : ServerEnd (SspiContext N K)) →
@@ -55,8 +55,8 @@ pub fn an_undisturbed_exchange_is_faithful<N: Mechanism, K: Mechanism>()
         IsUndisturbedExchange c client server turns → OpensWhatWasSealed c client server turns }
 {}
 
-/// Two plain contexts read each other so, whatever their keys: a text that opens stands behind its
-/// tag, where it was sealed.
+/// Two plain contexts read each other's messages, whatever their keys: the text that is opened
+/// follows the tag, which is where it was sealed.
 pub fn plain_contexts_read_each_other()
     ensures { (requests : ℕ) → (own peer : Option (SspiContext NtlmState KerberosState)) →
         ReadsSeals (either requests ntlm_meaning kerberos_meaning) own peer }

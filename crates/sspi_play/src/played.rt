@@ -14,25 +14,25 @@ pub struct Delivery {
     pub bytes: Bytes,
 }
 
-/// How an end stands once everything was delivered.
+/// An end's state once everything has been delivered.
 #[derive(Clone, Copy, Debug, PartialEq, Eq)]
 pub enum Ending {
-    /// It refused nothing, and read whatever was delivered to it. Also an end that has nothing more
-    /// to say.
+    /// It refused nothing, and read everything that was delivered to it. An end that has nothing
+    /// more to say is `Running` too.
     Running,
     /// It refused its last turn. The kind is never out of memory.
     Refused(ErrorKind),
-    /// What was delivered to it after its last turn is no request: `UnexpectedEof` where the octets
-    /// end too early or the header is at fault, and else `InvalidData`.
+    /// What was delivered to it after its last turn is not a request: `UnexpectedEof` if the octets
+    /// end too early or the header is at fault, otherwise `InvalidData`.
     Unread(WireKind),
 }
 
-/// What a play came to.
+/// The result of a play.
 #[derive(Drop)]
 pub struct Played {
-    /// How the client stands.
+    /// The client's state.
     pub client: Ending,
-    /// How the server stands.
+    /// The server's state.
     pub server: Ending,
     /// The identity that the server opened, if it did.
     pub identity: Option<AuthIdentity>,

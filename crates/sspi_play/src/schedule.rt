@@ -18,26 +18,26 @@ use sspi_delegate::{DelegateError, Transcript};
 use sspi_mech::{Kdc, Mechanism};
 use std::alloc::Global;
 
-/// Hands each delivery, in its order, to its end: any octets, to either end, in any order (MS-CSSP
-/// 3.1.5).
+/// Hands each delivery of the schedule to its end. A schedule is any octets, to either end, in any
+/// order (MS-CSSP 3.1.5).
 ///
-/// The first delivery to the client is its start, whose octets are not read; each other delivery is
-/// a request that its end makes a turn of. Where the client's context asks a KDC, `kdc` is asked
-/// and the turn goes on with its reply; a call that fails goes on as `Reply::Failed`. Once an end
-/// has refused, or was handed what is no request, each later delivery to it is passed over. A
+/// The first delivery to the client is its start, whose octets are not read. Every other delivery
+/// is a request, from which its end makes a turn. If the client's context asks a KDC, `kdc` is
+/// asked. The turn goes on with its reply, or with `Reply::Failed` if the call fails. Once an end
+/// has refused, or was given what is not a request, later deliveries to it are passed over. A
 /// server that has finished still takes a delivery, and refuses it.
 ///
-/// Ok says how each end stands, and the identity that the server opened. The only error is
-/// `InsufficientMemory`, that of an end or of the KDC among it. The transcript lets go of the turns
-/// that it held before. Whatever the answer, it then has each turn that was made, a refused one
-/// too, in the order of the deliveries, and both ends are as their last turn left them; where there
-/// was no memory for a reply of the KDC, the client waits for it in one further turn, on the next
-/// delivery, which has no record.
+/// Ok gives each end's state, and the identity that the server opened. The only error is
+/// `InsufficientMemory`, also where an end or the KDC ran out of memory. The transcript drops the
+/// turns that it held before. Whatever the answer, it then has every turn that was made, refused
+/// ones too, in the order of the deliveries; and both ends are as their last turn left them. If
+/// memory ran out for a reply of the KDC, the client has begun one further turn, on the next
+/// delivery: it waits for that reply, and the turn is not recorded.
 ///
-/// `accounts` speaks of any ends, `plays` and what follows it of ends to which nothing was
-/// delivered since they were made, by whatever version and least version; `agrees` and `negotiates`
-/// have premises of their own, which `specs/Agreement.antt`, `specs/Negotiated.antt` and
-/// `specs/Faithful.antt` state.
+/// `accounts` holds of any ends. `plays`, `agrees`, `negotiates` and `verifies` hold of ends, made
+/// with any version and least version, to which nothing was delivered before. `agrees` and
+/// `negotiates` have premises of their own, stated in `specs/Agreement.antt`,
+/// `specs/Negotiated.antt` and `specs/Faithful.antt`.
 pub fn play<N: Mechanism, K: Mechanism, C: CredentialsProxy, D: Kdc>(
     alloc: Global,
     client: &mut CredSspClient<N, K>,
@@ -78,7 +78,7 @@ pub fn play<N: Mechanism, K: Mechanism, C: CredentialsProxy, D: Kdc>(
     hand_all(alloc, client, server, schedule, kdc, transcript)
 }
 
-/// The same of any ends.
+/// The same, for any ends.
 fn hand_all<N: Mechanism, K: Mechanism, C: CredentialsProxy, D: Kdc>(
     alloc: Global,
     client: &mut CredSspClient<N, K>,
