@@ -37,7 +37,7 @@ use Rattle.sspi_audit.specs.Run.{ClientHeeds, IfRefused}
 use Rattle.sspi_audit.specs.Frames.{client_before}
 use Rattle.sspi_audit.proofs.Runs.{client_any}
 
--- ---- a look that stops a turn
+-- ---- a check that stops a turn
 
 pub stops_on : (stops : Bool) (here kind : ErrorKind) (A B : Type 0) → (stops ≡ false → A → B) → StopsIf stops here kind A →
     StopsIf stops here kind B
@@ -54,7 +54,7 @@ pub blob_on : (blob : Option (List ℕ)) (kind : ErrorKind) (A B : List ℕ → 
 blob_on None kind A B on is = is
 blob_on (Some bytes) kind A B on is = stops_on (nat_lt (length bytes) 16) InvalidToken kind (A bytes) (B bytes) (λ long. on bytes) is
 
--- ---- the version that is pinned whatever the least is
+-- ---- the version that is pinned, whatever the least version is
 
 pub at_some : (noted : Option ℕ) (P : ℕ → Type 0) → AtNoted noted P → (version : ℕ) × (noted ≡ Some version)
 at_some None P at = absurd at
@@ -87,7 +87,7 @@ module _ {C : Type 0} (c : Meaning ContextSetting C) where
   old_noted : (first old : ClientView C) (past : List Turn) → ClientFollows c first old past → old.noted ≡ client_noted 0 past
   old_noted first old past follows = follows.noted ∙ noted_same (client_end old) past follows.ran.each follows.going
 
-  -- ---- told an error, or another version
+  -- ---- given an error, or another version
 
   told_nothing : (old mid : ClientView C) (d : TsRequest) (result : Result Progress Error) → is_waiting_in c old.context ≡ false →
       ClientKeeps c old d result mid → is_code d.error_code ≡ true → mid.acts ≡ no_acts
@@ -118,7 +118,7 @@ module _ {C : Type 0} (c : Meaning ContextSetting C) where
   if_same true x = refl
   if_same false x = refl
 
-  -- in a turn before which there was no context no version is pinned
+  -- in a turn before which there was no context, no version is pinned
   unnoted : (old mid : ClientView C) (d : TsRequest) → old.context ≡ None → old.noted ≡ None → mid.noted ≡ noted_after c old d →
       mid.noted ≡ None
   unnoted old mid d none noted is = is ∙ rw none (if_same (is_code d.error_code) old.noted) ∙ noted
@@ -160,7 +160,7 @@ module _ {C : Type 0} (c : Meaning ContextSetting C) where
       state_refused f mid d out state.NegoToken kind (λ first. noted) cause tt
 
   module _ {D : Type 0} (k : KdcCalls D) where
-    -- in a later turn: the version is too old in the second, or what the state wants is refused
+    -- in a later turn: the version is too old, in the second; or what the state needs is refused
     old_refused : (f : ShownFrame) (old mid : ClientView C) (d : TsRequest) (out : Outcome) (noted : Option ℕ) (old_one : Bool)
         (kind : ErrorKind) → f.looks ≡ true → f.noted ≡ noted → is_old old.settings.least noted d.version ≡ old_one →
         (noted ≡ None → old_one ≡ true → mid.acts ≡ no_acts) →
@@ -177,7 +177,7 @@ module _ {C : Type 0} (c : Meaning ContextSetting C) where
         both_on (differs noted d.version) MessageAltered kind _ _ _
         (λ same cause too. inr (state_refused f mid d out f.state kind (λ first. absurd (cc (first, looks))) cause too)) stops exact
 
-    -- past the look at a reported error
+    -- after the check for a reported error
     abbrev AfterCode : ClientView C → ClientView C → TsRequest → Option C → Option ℕ → CredSspState → ErrorKind → Type 0
     AfterCode old mid d context noted at kind =
         VersionStopsIn context old.settings.least noted d.version kind (OrMemory kind
@@ -228,7 +228,7 @@ module _ {C : Type 0} (c : Meaning ContextSetting C) where
         (subst (λ (n : Option ℕ). AfterExact old mid d (Some m) n f.state kind) noted
         (subst (λ (st : CredSspState). AfterExact old mid d (Some m) old.noted st kind) at exact))
 
-    -- in the order in which a client looks
+    -- in the order in which a client checks
     refused_by : (first old mid : ClientView C) (kdc kdc2 : D) (past : List Turn) (d : TsRequest) (out : Outcome) (error : Error) →
         ClientFollows c first old past → mid.noted ≡ noted_after c old d → ClientTakes c k old kdc d (Err error) mid kdc2 →
         ClientStops (client_before past) (client_turn c d out mid) error.error_type

@@ -1,4 +1,4 @@
--- What octets begin with, by the answer of the reader.
+-- What octets begin with, according to the reader's answer.
 use Rattle.std.proofs.Common.{◌≡◌, ◌↔◌, ℕ, List, Result, Ok, Err, subst}
 use Rattle.sspi_ber.specs.declared.wire_kind.WireKind.{WireKind}
 use Rattle.sspi_tsreq.specs.declared.request.TsRequest.{TsRequest}
@@ -6,7 +6,7 @@ use Rattle.sspi_tsreq.specs.Answer.{IsAnswer, IsUnlessMemory}
 use Rattle.sspi_tsreq.specs.Grammar.{IsRequest}
 use Rattle.sspi_delegate.specs.Log.{IsRead}
 
--- the reader answers so for whatever the octets begin with
+-- if the octets begin with a request, this is the reader's answer, or memory ran out
 abbrev pub IsOnly : List ℕ → Result TsRequest WireKind → Type 0
 IsOnly bytes result = (r : TsRequest) (count : ℕ) → IsRequest bytes r count → IsUnlessMemory result r
 
@@ -16,7 +16,7 @@ read_is bytes x r answer only = (
   (λ read. only r read.0 read.1),
 )
 
--- a reader that says that the octets are no request found none
+-- a reader that fails on octets that begin with a request ran out of memory
 pub unread : (bytes : List ℕ) (r : TsRequest) (kind fault : WireKind) → kind ≡ fault → IsOnly bytes (Err kind) → IsRead bytes r →
     IsUnlessMemory (Err fault) r
 unread bytes r kind fault is only read = subst (λ (k : WireKind). IsUnlessMemory (Err k) r) is (only r read.0 read.1)

@@ -10,7 +10,7 @@ use Rattle.sspi_delegate.specs.Turns.{client_state, client_noted, has_turn, serv
 use Rattle.sspi_audit.specs.Frames.{client_before, client_frame, own_version, server_before, server_frame, server_note, told_by}
 use Rattle.sspi_audit.specs.Standings.{client_note}
 
--- every version is pinned
+-- if the least version is 0, every version is pinned
 any_noted : (version : ℕ) → noted_with 0 None version ≡ Some version
 any_noted version = rw (le-ltb version 0 (omega arith)) refl
 
@@ -35,7 +35,7 @@ server_notes t [] = any_noted t.delivered.version
 server_notes t (u ∷ past) =
     let has = server_has_noted u past in has.1 ∙ ap (λ (noted : Option ℕ). server_note noted t.delivered.version) (sym has.1)
 
--- what a turn finds of its end, and leaves
+-- what a turn finds of its end, and what it leaves
 pub client_finds : (before : ShownFrame) (t : Turn) (past : List Turn) → before ≡ client_before past →
     record {
       state = before.state;

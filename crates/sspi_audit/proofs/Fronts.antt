@@ -58,7 +58,7 @@ counted_forward turns log counted = record {
   least = subst (λ (n : ℕ). n ≤ length log + 1) (length-reverse turns) counted.least;
 }
 
--- of the last turn, read from the first one
+-- what was taken after the last turn, in a list read from its first turn
 pub last_is : (turns : List Turn) (log : List Carried) (place : ℕ) (t : Turn) (e : Carried) → length turns ≡ place + 1 →
     slice_get turns place ≡ Some t → slice_get log place ≡ Some e → LastLeft (reverse turns) log ≡ IsLeftBehind t.outcome e
 last_is turns log place t e long there entry =

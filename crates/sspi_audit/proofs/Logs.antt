@@ -10,14 +10,14 @@ use Rattle.sspi_delegate.specs.declared.carried.Carried.{Carried}
 use Rattle.sspi_delegate.specs.Log.{IsDelivered, IsEntry, Logged, HasLog}
 use Rattle.sspi_audit.specs.Shown.{IsGiven, IsCounted}
 
--- ---- an element by how many stand before it
+-- ---- an element by the number of elements before it
 
 seam : {A : Type 0} (xs : List A) (y : A) (ys : List A) → slice_get (xs ++ (y ∷ ys)) (length xs) ≡ Some y
 seam xs y ys =
     slice_get-get_or (xs ++ (y ∷ ys)) (length xs) y (rw (length-append xs (y ∷ ys)) (omega arith))
     ∙ ap Some (get_or-append_seam xs y ys y)
 
--- of a list that has the newest first, read from its end
+-- in a list that is newest first, read from its end
 pub at_place : {A : Type 0} (later : List A) (y : A) (before : List A) →
     slice_get (reverse (later ++ (y ∷ before))) (length before) ≡ Some y
 at_place later y before =
@@ -53,7 +53,7 @@ logged_added base (t ∷ past) (e ∷ log) is =
       has = (is.0, delivered_of base past log more.added t.delivered more.parts more.has is.1, more.has);
     }
 
--- as many entries as turns
+-- there are as many entries as turns
 pub logged_length : (turns : List Turn) (log : List Carried) → Logged [] turns log → length log ≡ length turns
 logged_length [] log is = ap length is
 logged_length (t ∷ past) [] is = absurd is

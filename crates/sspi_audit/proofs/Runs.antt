@@ -35,7 +35,7 @@ use Rattle.sspi_audit.specs.Shown.{ShowsTurn, HasLongBlobs, EachShown}
 use Rattle.sspi_audit.proofs.Logs.{EachHasEntries, entered}
 use Rattle.sspi_audit.proofs.Weaker.{Knows, client_by, server_by}
 
--- ---- the version that is pinned whatever the least is
+-- ---- the version that is pinned, whatever the least version is
 
 pub noted_by : (low : Bool) (version noted : ℕ) → (if low then None else Some version) ≡ Some noted → Some version ≡ Some noted
 noted_by true version noted is = absurd (cc (is))
@@ -198,7 +198,7 @@ module _ {C : Type 0} (c : Meaning ContextSetting C) (laws : IsContext c) where
     version = server_told e past each;
   }
 
-  -- a turn shows by what its end's turns before it tell, and so do those before it
+  -- a turn fits what the earlier turns of its end tell, and so do those before it
   record Turned (client : ClientEnd C) (server : ServerEnd C) (past : List Turn) (t : Turn) : Type 0 where
     shows : ShowsTurn t.end past t
     blobs : HasLongBlobs t t.outcome

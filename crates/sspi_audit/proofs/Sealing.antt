@@ -22,7 +22,7 @@ use Rattle.sspi_audit.proofs.Fronts.{next_past, same_item, within_or_last}
 
 -- ---- a turn that sealed is the client's, and its last
 
--- while a client waits for the server's proof it goes on only by its last message
+-- a client that waits for the server's proof goes on only with its last message
 nego_is_early : (f : ShownFrame) (t : Turn) (status : Option SecurityStatus) (r : TsRequest) → f.state ≡ AuthInfo →
     ShowsNego f t status r → ⊥
 nego_is_early f t None r late shows = shows
@@ -42,7 +42,7 @@ ends_late f t (outcome.Final r) late shows goes = refl
 ends_late f t outcome.Finished late shows goes = absurd goes
 ends_late f t (outcome.Refused kind reply) late shows goes = absurd goes
 
--- what a turn that sealed was
+-- what holds of a turn that sealed
 pub record Sealed (past : List Turn) (t : Turn) : Type 0 where
   pub end : t.end ≡ Client
   pub state : client_state (client_turns past) ≡ AuthInfo

@@ -55,7 +55,7 @@ unless_on (outcome.Final reply) P goes p = p
 unless_on outcome.Finished P goes p = p
 unless_on (outcome.Refused kind reply) P goes p = absurd goes
 
--- the nonce that a proof is opened with, by what was pinned before the turn
+-- the version that decides on a proof's nonce, given what was pinned before the turn
 noted_next : (least version : ℕ) (before : Option ℕ) (noted : ℕ) → noted_with least before version ≡ Some noted →
     server_note before version ≡ Some noted
 noted_next least version None noted is = noted_by (nat_lt version least) version noted is
@@ -76,7 +76,7 @@ proof_stops true kind is = is
 proof_stops false kind is = is
 
 module _ {C : Type 0} (c : Meaning ContextSetting C) where
-  -- a server that has made a turn has pinned a version, whatever the least is
+  -- a server that has made a turn has pinned a version, whatever the least version is
   noted_same : (e : ServerEnd C) (t : Turn) (past : List Turn) → EachServerTurn c e (t ∷ past) → NoneRefused (t ∷ past) →
       (version : ℕ) × (server_noted e.settings.least (t ∷ past) ≡ Some version) × (server_noted 0 (t ∷ past) ≡ Some version)
   noted_same e t past each none =
@@ -137,7 +137,7 @@ module _ {C : Type 0} (c : Meaning ContextSetting C) where
     short_refused true opened context blob kind Exact cause exact = exact
     short_refused false opened context blob kind Exact cause exact = opened_refused opened context blob kind cause
 
-    -- where a field is too short memory is not asked for
+    -- where a field is too short, nothing is allocated
     field_refused : (field : Option (List ℕ)) (opened : Bool) (context : Option C) (kind : ErrorKind) (Exact : List ℕ → Type 0) →
         OrMemory kind (BlobStops field kind (λ blob. OpenedCause c opened context blob kind)) → BlobStops field kind Exact →
         BlobStops field kind (λ blob. OpenedRefused opened kind)
@@ -212,7 +212,7 @@ module _ {C : Type 0} (c : Meaning ContextSetting C) where
         (subst (λ (n : Option ℕ). AtExact old mid d (Some m) n f.state kind) was
         (subst (λ (st : CredSspState). AtExact old mid d (Some m) old.noted st kind) at exact)))
 
-    -- in the order in which a server looks
+    -- in the order in which a server checks
     refused_by : (first old mid : ServerView C P) (past : List Turn) (d : TsRequest) (out : Outcome) (error : Error)
         (reply : Option TsRequest) → ServerFollows c first old past → Has old.context past → ServerMoves c old d out mid →
         ServerCall c p old d (Err (record { ts_request = reply; error = error })) mid →

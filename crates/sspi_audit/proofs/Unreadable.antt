@@ -1,4 +1,4 @@
--- With which kinds a text is refused that delegates no identity.
+-- The kinds with which a text that delegates no identity is refused.
 use Rattle.std.proofs.Common.{◌≡◌, inl, inr, ℕ, List, Option, None, Some, Result, Ok, Err, subst, refl}
 use Rattle.sspi_types.specs.declared.error.Error.{Error}
 use Rattle.sspi_ber.specs.Pieces.{Read, element_at}

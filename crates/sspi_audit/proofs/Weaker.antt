@@ -1,4 +1,4 @@
--- What a turn shows by all that is known of its end, it shows by less.
+-- What a turn shows given all that is known of its end, it shows given less.
 use Rattle.std.proofs.Common.{◌≡◌, ℕ, ◌⊎◌, inl, inr, List, Option, None, Some, IsSome, Bool, true, false, sym, ◌∙◌, subst, refl}
 use Rattle.sspi_types.specs.declared.security_status.SecurityStatus.{SecurityStatus}
 use Rattle.sspi_types.specs.declared.security_status.SecurityStatus.TheVariants as statuses

@@ -1,7 +1,7 @@
--- With which kinds a turn that did these acts can have been refused, as far as recorded bytes show
--- it (MS-CSSP 3.1.5). An end looks at a request in a fixed order: the reported error, the version,
--- and what its state wants. What it looks at before it takes memory or asks its context has one
--- kind; a context may refuse with any. Once an end has sealed what it owes its turn is not refused.
+-- The kinds with which a turn with these effects can have been refused, as far as bytes show it
+-- (MS-CSSP 3.1.5). An end checks in a fixed order: the reported error (a client only), the version,
+-- what its state needs. A check before it allocates or calls its context has one kind; a context
+-- may refuse with any. Once an end has sealed what it owes, its turn is not refused.
 use Rattle.std.specs.Prelude.{◌≡◌, ◌⊎◌, ℕ, Option, None, Some, Bool, true, false, nat_lt}
 use Rattle.sspi_types.specs.declared.error_kind.ErrorKind.{ErrorKind}
 use Rattle.sspi_types.specs.declared.error_kind.ErrorKind.TheVariants.{DowngradeDetected}
@@ -26,28 +26,28 @@ use Rattle.sspi_credssp.specs.Requests.{is_code}
 use Rattle.sspi_credssp.specs.ServerCause.{lacks_nonce}
 use Rattle.sspi_credssp.specs.Turn.{ShownFrame}
 
--- f: what is known of the end before the turn. A client looks at versions from its second turn on,
--- and a server has pinned one from then.
+-- f: what is known of the end before the turn. A client looks at versions from its second turn on;
+-- a server has pinned one by then.
 
 -- ---- a client (MS-CSSP 3.1.5.1)
 
--- the server's first version is too old: the client looks at it in its second turn, and does
--- nothing then
+-- the server's first version is too old: the client looks at it in its second turn, and then does
+-- nothing
 pub record FindsOldServer (f : ShownFrame) (t : Turn) (kind : ErrorKind) : Type 0 where
   pub looks : f.looks ≡ true
   pub unnoted : f.noted ≡ None
   pub acts : t.acts ≡ no_acts
   pub downgrade : kind ≡ DowngradeDetected
 
--- in the authentication: the step was refused, or in the first turn no context was made; or the
--- client was authenticated, and its proof was not made, which in the first turn is for want of a
--- pinned version
+-- during authentication: the step was refused, or in the first turn no context was made; or the
+-- client was authenticated but made no proof, which in the first turn means that no version was
+-- pinned
 abbrev pub TokenRefused : ShownFrame → Acts → Option SecurityStatus → ErrorKind → Type 0
 TokenRefused f acts None kind = acts.negotiated ≡ false → f.looks ≡ false
 TokenRefused f acts (Some statuses.Ok) kind = f.looks ≡ false → kind ≡ InternalError
 TokenRefused f acts (Some other) kind = ⊥
 
--- past it: the server's proof is absent, too short, or refused; or the client has said its last
+-- after it: the server's proof is absent, too short or refused; or the client sent its last message
 abbrev pub ClientStateRefuses : ShownFrame → Turn → CredSspState → ErrorKind → Type 0
 ClientStateRefuses f t NegoToken kind = OrMemory kind (TokenRefused f t.acts t.acts.status kind)
 ClientStateRefuses f t PubKeyInfo kind = kind ≡ OutOfSequence
@@ -65,9 +65,9 @@ ClientRefuses f t kind = ((t.acts.sealed ≡ false) × (t.acts.proved ≡ false)
 
 -- ---- a server (MS-CSSP 3.1.5.2)
 
--- in the authentication: the step was refused, or in the first turn no context was made, or the
+-- during authentication: the step was refused, or in the first turn no context was made, or the
 -- client's version was too old; or the client was authenticated and its name or its proof refused;
--- or the step came to a status that no server goes on with
+-- or the step ended with a status with which no server goes on
 abbrev pub TokenRefusedBack : ShownFrame → Acts → Option SecurityStatus → ErrorKind → Type 0
 TokenRefusedBack f acts None kind = acts.negotiated ≡ false → f.noted ≡ None
 TokenRefusedBack f acts (Some statuses.ContinueNeeded) kind = ⊥
@@ -75,14 +75,14 @@ TokenRefusedBack f acts (Some statuses.CompleteNeeded) kind = Unit {0}
 TokenRefusedBack f acts (Some statuses.Ok) kind = Unit {0}
 TokenRefusedBack f acts (Some other) kind = kind ≡ InternalError
 
--- the client's proof is absent, has no nonce from version 5 on, is too short, or refused
+-- the client's proof is absent, lacks a nonce from version 5 on, is too short, or is refused
 abbrev pub ProofRefusedBack : Option ℕ → TsRequest → ErrorKind → Type 0
 ProofRefusedBack None d kind = ⊥
 ProofRefusedBack (Some noted) d kind =
     StopsIf (lacks_nonce (nat_lt noted 5) d.client_nonce) InvalidToken kind
     (BlobStops d.pub_key_auth kind (λ blob. Unit {0}))
 
--- credentials that were opened are no TSCredentials, no password, no UTF-16, or no name (MS-CSSP
+-- the opened credentials are not TSCredentials, not a password, not UTF-16, or not a name (MS-CSSP
 -- 2.2.1.2)
 abbrev pub AreUnreadable : ErrorKind → Type 0
 AreUnreadable kind = (kind ≡ InvalidToken) ⊎

@@ -1,6 +1,6 @@
--- All that recorded bytes can show of a run of two ends, whatever key, nonce and context stand
--- behind it (MS-CSSP 3.1.5): what is shown of each turn, what its end heeds and how it refuses, and
--- what was taken of the last delivery. Turns are the newest first, the log is the oldest first.
+-- All that recorded bytes can show of a run of two ends, whatever its key, nonce and contexts
+-- (MS-CSSP 3.1.5): what is shown of each turn, what its end heeds and how it refuses, and what was
+-- taken of the last delivery. Turns are newest first, the log is oldest first.
 use Rattle.std.specs.Prelude.{◌≡◌, ◌≤◌, ℕ, Option, None, Some, true, false, List, [], ◌∷◌, length}
 use Rattle.std.specs.Prelude.{nat_lt, slice_get, IfSome}
 use Rattle.std.specs.Prelude.{if◌then◌else◌}
@@ -22,7 +22,7 @@ use Rattle.sspi_audit.specs.Refusals.{ClientRefuses, ServerRefuses}
 use Rattle.sspi_audit.specs.Shown.{ShownTurn, IsCounted}
 use Rattle.sspi_audit.specs.Frames.{client_before, server_before, server_note}
 
--- a fact of the kind of each refused turn
+-- a fact about the kind, if the turn was refused
 abbrev pub IfRefused : Outcome → (ErrorKind → Type 0) → Type 0
 IfRefused (outcome.Reply reply) P = Unit {0}
 IfRefused (outcome.Final reply) P = Unit {0}
@@ -31,16 +31,16 @@ IfRefused (outcome.Refused kind reply) P = P kind
 
 -- f: what is known of the end before the turn
 
--- told an error, or another version than the pinned one, a client does nothing; and a step without
--- an answer gives no token
+-- given an error, or a version other than the pinned one, a client does nothing; a step without an
+-- answer gives no token
 pub record ClientHeeds (f : ShownFrame) (t : Turn) : Type 0 where
   pub told : is_code t.delivered.error_code ≡ true → t.acts ≡ no_acts
   pub altered : differs f.noted t.delivered.version ≡ true → t.acts ≡ no_acts
   pub unanswered : t.acts.status ≡ None → t.output ≡ []
   pub refused : IfRefused t.outcome (ClientRefuses f t)
 
--- the version of an error request of a server whose own version is known: the delivered one where
--- it is not the pinned one
+-- the version of an error request, if the server's own is known: the delivered one if that is not
+-- the pinned one, otherwise its own
 abbrev pub TellsVersion : Option ℕ → Option ℕ → ℕ → ℕ → Type 0
 TellsVersion None noted delivered version = Unit {0}
 TellsVersion (Some own) noted delivered version =
@@ -51,7 +51,7 @@ ErrorTells f d (outcome.Refused kind (Some reply)) =
     TellsVersion f.version f.noted d.version reply.version
 ErrorTells f d other = Unit {0}
 
--- told another version than the pinned one, a server does nothing; from version 5 on it opens no
+-- given a version other than the pinned one, a server does nothing; from version 5 on it opens no
 -- proof without a nonce
 pub record ServerHeeds (f : ShownFrame) (t : Turn) : Type 0 where
   pub altered : differs f.noted t.delivered.version ≡ true → t.acts ≡ no_acts
@@ -75,8 +75,8 @@ abbrev pub EachRunTurn : List Carried → List Turn → Type 0
 EachRunTurn log [] = Unit {0}
 EachRunTurn log (t ∷ past) = RunTurn log past t × EachRunTurn log past
 
--- what was taken of the delivery of a turn's message that no later turn was given: up to the limit;
--- of a refusal nothing, since no end reads on
+-- what was taken of a delivered message that no later turn was given: up to the limit; of a
+-- refusal, nothing, since no end reads on
 abbrev pub IsLeftBehind : Outcome → Carried → Type 0
 IsLeftBehind (outcome.Reply reply) e = length e.delivered ≤ delivery_limit
 IsLeftBehind (outcome.Final reply) e = length e.delivered ≤ delivery_limit
@@ -87,7 +87,7 @@ abbrev pub LastLeft : List Turn → List Carried → Type 0
 LastLeft [] log = Unit {0}
 LastLeft (t ∷ past) log = IfSome (slice_get log (length past)) (IsLeftBehind t.outcome)
 
--- as many entries as turns, or one less, and none taken past the limit
+-- as many entries as turns, or one fewer, and the last delivery not taken past the limit
 pub record LogEnds (turns : List Turn) (log : List Carried) : Type 0 where
   pub counted : IsCounted turns log
   pub last : LastLeft turns log

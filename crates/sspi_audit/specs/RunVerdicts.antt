@@ -1,4 +1,4 @@
--- What the verdict of an auditor of runs means. Turns and log are those recorded, the oldest first.
+-- What the verdict of an auditor of runs means. The recorded turns and log are oldest first.
 use Rattle.std.specs.Prelude.{◌≡◌, ℕ, List, length, take, reverse, slice_get, Option, None, Some}
 use Rattle.sspi_credssp.specs.declared.turn.Turn.{Turn}
 use Rattle.sspi_delegate.specs.declared.carried.Carried.{Carried}
@@ -7,8 +7,8 @@ use Rattle.sspi_audit.specs.declared.verdict.Verdict.TheVariants.{Yes, No}
 use Rattle.sspi_audit.specs.Run.{RunTurn, EachRunTurn, LogEnds, IsShownRun}
 use Rattle.sspi_audit.specs.Verdicts.{SealsOnlyIn}
 
--- the turn of this number is none of a run; or there is none, and the log does not end as that of a
--- run
+-- the turn with this number is not one of a run; or there is none, and the log does not end as that
+-- of a run
 abbrev pub IsFaultyInRun : List Turn → List Carried → ℕ → Option Turn → Type 0
 IsFaultyInRun turns log place (Some t) = RunTurn log (reverse (take place turns)) t → ⊥
 IsFaultyInRun turns log place None = (place ≡ length turns) × (LogEnds (reverse turns) log → ⊥)

@@ -1,6 +1,6 @@
 -- What recorded bytes can show of an exchange: what its turns and its log have if two ends made
--- them, whatever key, nonce and context stand behind them. Turns are a list, the newest first; the
--- log is the oldest first, so that entry i is that of turn i.
+-- them, whatever their key, nonce and contexts. Turns are a list, newest first; the log is oldest
+-- first, so that entry i belongs to turn i.
 use Rattle.std.specs.Prelude.{◌≡◌, ◌+◌, ◌≤◌, true, List, [], ◌∷◌, length, slice_get, IfSome}
 use Rattle.sspi_tsreq.specs.declared.request.TsRequest.{TsRequest}
 use Rattle.sspi_tsreq.specs.Grammar.{first_request}
@@ -16,22 +16,21 @@ use Rattle.sspi_delegate.specs.Log.{delivery_limit, is_taken, IsRead, IsEntry}
 use Rattle.sspi_delegate.specs.Turns.{client_turns, server_turns, next_end, AllGoOn}
 use Rattle.sspi_audit.specs.Frames.{client_frame, server_frame}
 
--- by its end's own turns before, a turn has only acts that it may have, and the message that it
+-- given its end's earlier turns, a turn has only effects that it may have, and the message that it
 -- owes
 abbrev pub ShowsTurn : End → List Turn → Turn → Type 0
 ShowsTurn Client past t = ShowsClient (client_frame (client_turns past) t) t
 ShowsTurn Server past t = ShowsServer (server_frame (server_turns past) t) t
 
--- a blob that was sealed has its tag of 16 octets
+-- a sealed blob is long enough to have its tag of 16 octets
 abbrev pub HasLongBlobs : Turn → Outcome → Type 0
 HasLongBlobs t (outcome.Reply r) = t.acts.proved ≡ true → IsLong r.pub_key_auth
 HasLongBlobs t (outcome.Final r) = IsLong r.auth_info
 HasLongBlobs t outcome.Finished = Unit {0}
 HasLongBlobs t (outcome.Refused kind reply) = Unit {0}
 
--- a turn after these was given what the entry of the turn before it delivered, taken to its end or
--- to the limit and no further, where that is recorded, and the first one its end's own first
--- request
+-- a turn after these was given what the entry before it delivered, if that is recorded: taken to
+-- its end or to the limit and no further; the first turn was given its end's own first request
 abbrev pub IsGiven : List Turn → List Carried → TsRequest → Type 0
 IsGiven [] log request = request ≡ first_request
 IsGiven (t ∷ past) log request =
@@ -40,20 +39,20 @@ IsGiven (t ∷ past) log request =
 
 -- one turn, after these
 pub record ShownTurn (log : List Carried) (past : List Turn) (t : Turn) : Type 0 where
-  -- the ends take turns, and no turn before it was the last
+  -- the ends alternate, and no earlier turn was the last
   pub order : t.end ≡ next_end past
   pub going : AllGoOn past
   pub given : IsGiven past log t.delivered
   pub shows : ShowsTurn t.end past t
   pub long : HasLongBlobs t t.outcome
-  -- its entry, where that is recorded, has its message
+  -- its entry, if that is recorded, has its message
   pub entry : IfSome (slice_get log (length past)) (IsEntry t)
 
 abbrev pub EachShown : List Carried → List Turn → Type 0
 EachShown log [] = Unit {0}
 EachShown log (t ∷ past) = ShownTurn log past t × EachShown log past
 
--- there are as many entries as turns, or one less
+-- there are as many entries as turns, or one fewer
 pub record IsCounted (turns : List Turn) (log : List Carried) : Type 0 where
   pub most : length log ≤ length turns
   pub least : length turns ≤ length log + 1

@@ -1,4 +1,4 @@
--- What the verdict of an auditor means. Turns and log are those recorded, the oldest first.
+-- What the verdict of an auditor means. The recorded turns and log are oldest first.
 use Rattle.std.specs.Prelude.{◌≡◌, ℕ, List, length, take, reverse, slice_get, Option, None, Some}
 use Rattle.std.specs.Prelude.{true, false}
 use Rattle.sspi_credssp.specs.declared.turn.Turn.{Turn}
@@ -7,15 +7,15 @@ use Rattle.sspi_audit.specs.declared.verdict.Verdict.{Verdict}
 use Rattle.sspi_audit.specs.declared.verdict.Verdict.TheVariants.{Yes, No}
 use Rattle.sspi_audit.specs.Shown.{ShownTurn, EachShown, IsCounted, ShownRun}
 
--- in the turn of this number, and in no other, the credentials were sealed; or in none
+-- the credentials were sealed in the turn with this number and in no other; or in no turn
 abbrev pub SealsOnlyIn : List Turn → Option ℕ → Type 0
 SealsOnlyIn turns None = (i : ℕ) (t : Turn) → slice_get turns i ≡ Some t → t.acts.sealed ≡ false
 SealsOnlyIn turns (Some place) =
     (t : Turn) × (slice_get turns place ≡ Some t) × (t.acts.sealed ≡ true)
     × ((i : ℕ) (u : Turn) → slice_get turns i ≡ Some u → u.acts.sealed ≡ true → i ≡ place)
 
--- the turn of this number is not shown right, or there is none and the entries are too many or too
--- few
+-- the turn with this number is not shown right, or there is none and the entries are too many or
+-- too few
 abbrev pub IsFaulty : List Turn → List Carried → ℕ → Option Turn → Type 0
 IsFaulty turns log place (Some t) = ShownTurn log (reverse (take place turns)) t → ⊥
 IsFaulty turns log place None = (place ≡ length turns) × (IsCounted turns log → ⊥)

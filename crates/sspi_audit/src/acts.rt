@@ -1,4 +1,4 @@
-//! Whether a turn may have done what it did, and gone on, by its end's state and the pinned
+//! Whether a turn may have had its effects, and gone on, given its end's state and the pinned
 //! version.
 ghost use Rattle.std.specs.Prelude.{◌≡◌, ◌↔◌, Some, true, false, length, IsTrue, IsSome, nat_lt};
 ghost use Rattle.sspi_types.specs.declared.security_status.SecurityStatus.TheVariants as statuses;
@@ -13,14 +13,14 @@ use crate::frame::Frame;
 use sspi_credssp::{Acts, CredSspState, Outcome, Turn};
 use sspi_types::{Bytes, SecurityStatus};
 
-/// A version as it is looked at.
+/// The end does not look at versions, or has pinned this one.
 fn fits_noted(looks: bool, noted: Option<u32>, version: u32) -> bool
     ensures { IsTrue result ↔ FitsNoted looks noted version }
 {
     !looks || noted == Some(version)
 }
 
-/// The delivered version, unless the turn was refused.
+/// Unless the turn was refused, the delivered version fits the pinned one.
 pub(crate) fn heeds_version(frame: &Frame, turn: &Turn) -> bool
     ensures { IsTrue result ↔ UnlessRefused turn.now.outcome (FitsNoted frame.now.looks
         frame.now.noted turn.now.delivered.version) }
@@ -31,7 +31,7 @@ pub(crate) fn heeds_version(frame: &Frame, turn: &Turn) -> bool
     }
 }
 
-/// The peer reported no error, unless the turn was refused.
+/// Unless the turn was refused, the peer reported no error.
 pub(crate) fn heeds_code(turn: &Turn) -> bool
     ensures { IsTrue result ↔ UnlessRefused turn.now.outcome (is_code turn.now.delivered.error_code
         ≡ false) }
@@ -42,7 +42,7 @@ pub(crate) fn heeds_code(turn: &Turn) -> bool
     }
 }
 
-/// A message has its end's own version, where that is known.
+/// A message has its end's own version, if that is known.
 pub(crate) fn is_own(own: Option<u32>, version: u32) -> bool
     ensures { IsTrue result ↔ IsOwn own version }
 {
@@ -78,7 +78,7 @@ fn has_full_length(nonce: &[u8]) -> bool
     nonce.len() == 32
 }
 
-/// From version 5 on there is a nonce.
+/// A version is pinned, and from version 5 on there is a nonce.
 pub(crate) fn has_nonce(noted: Option<u32>, nonce: &Option<[u8; 32]>) -> bool
     ensures { IsTrue result ↔ AtNoted noted (λ noted. HasNonce (nat_lt noted 5) nonce.now) }
 {
@@ -102,7 +102,7 @@ fn steps_in_time(state: CredSspState, acts: Acts) -> bool
     }
 }
 
-/// A client proves once its authentication has ended and it has pinned a version.
+/// A client makes its proof only once its authentication has ended and it has pinned a version.
 fn may_prove(noted: Option<u32>, acts: Acts) -> bool
     ensures { IsTrue result ↔ (acts.proved ≡ true → (acts.status ≡ Some statuses.Ok) ×
         IsSome noted) }
@@ -110,14 +110,14 @@ fn may_prove(noted: Option<u32>, acts: Acts) -> bool
     !acts.proved || (acts.status == Some(SecurityStatus::Ok) && noted.is_some())
 }
 
-/// An end that waits for the last blob of its peer has got it.
+/// The end is waiting for its peer's last blob, and this one is long enough to hold a seal.
 fn has_last(state: CredSspState, blob: &Option<Bytes>) -> bool
     ensures { IsTrue result ↔ (state ≡ AuthInfo) × IsLong blob.now }
 {
     state == CredSspState::AuthInfo && is_long(blob)
 }
 
-/// A client's acts.
+/// The `Acts` of a client's turn.
 pub(crate) fn shows_client_acts(frame: &Frame, turn: &Turn) -> bool
     ensures { IsTrue result ↔ ShowsClientActs frame.now turn.now }
 {
@@ -129,7 +129,7 @@ pub(crate) fn shows_client_acts(frame: &Frame, turn: &Turn) -> bool
         && !acts.opened
 }
 
-/// A server checks the client's proof once the authentication has ended.
+/// A server checks the client's proof only once the authentication has ended.
 fn may_open_proof(frame: &Frame, turn: &Turn) -> bool
     ensures { IsTrue result ↔ MayCheck frame.now.state turn.now.acts.status ×
         IsLong turn.now.delivered.pub_key_auth }
@@ -137,7 +137,7 @@ fn may_open_proof(frame: &Frame, turn: &Turn) -> bool
     may_check(frame.state, turn.acts.status) && is_long(&turn.delivered.pub_key_auth)
 }
 
-/// A server's acts.
+/// The `Acts` of a server's turn.
 pub(crate) fn shows_server_acts(frame: &Frame, turn: &Turn) -> bool
     ensures { IsTrue result ↔ ShowsServerActs frame.now turn.now }
 {

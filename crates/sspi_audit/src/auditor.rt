@@ -1,4 +1,4 @@
-//! The auditor of recorded turns and of the log that carried their messages.
+//! The auditor of recorded turns and of the log of the link that carried their messages.
 
 ghost use Rattle.std.specs.Prelude.{◌≡◌, ◌≤◌, ◌+◌, ◌↔◌, IsTrue, IfOk, IfErr};
 ghost use Rattle.sspi_audit.specs.Standings.{sealing_after};
@@ -12,22 +12,22 @@ use sspi_delegate::Carried;
 use sspi_types::Error;
 use std::alloc::Global;
 
-/// Judges recorded turns and the log of the link that carried their messages, the oldest first.
+/// Judges recorded turns and the log of the link that carried their messages, both oldest first.
 ///
-/// `Yes` exactly where turns and log are shown right (`specs/Shown.antt`): the ends take turns from
-/// the client's first request on, each turn was given what the entry before it delivered, each did
-/// on its context only what its state permits, none but a refused one was told an error or a
-/// changed version, and each message has the fields that it owes. What two ends left of a run has
-/// all that; that each such record was made by two ends is not said. A blob may hold anything
-/// behind its tag of 16 octets: what was sealed no record shows, nor keys, nonces and contexts. The
-/// verdict names the only turn in which the client is recorded to have sealed its credentials.
+/// `Yes` exactly where turns and log are shown right (`specs/Shown.antt`). The ends alternate from
+/// the client's first request on; each turn was given what the entry before it delivered, and did
+/// on its context only what its state permits. Only a refused turn was given a changed version or,
+/// at a client, an error. Each message has the fields that it must have. What two ends leave of a
+/// run has all that; the converse is not claimed. A blob may hold anything after its 16-octet tag:
+/// no record shows what was sealed, nor keys, nonces and contexts. The verdict names the only turn
+/// in which the client is recorded to have sealed its credentials.
 ///
-/// `No` names the first turn at fault. An entry that is missing speaks against neither its own turn
-/// nor the next; where nothing else is wrong, the number of turns says that the entries are too
-/// many or too few.
+/// `No` names the first turn at fault. A missing entry is held against neither its own turn nor the
+/// next. If nothing else is wrong, it is the number of turns: there are too many or too few
+/// entries.
 ///
-/// The only refusal is `InsufficientMemory`, without a status. What no clause says: the time is
-/// linear in the octets of turns and log, and the memory at most that of one of their messages.
+/// The only refusal is `InsufficientMemory`, without a status. Not in any clause: time is linear in
+/// the octets of turns and log, and memory is at most that of one of their messages.
 pub fn audit(alloc: Global, turns: &[Turn], log: &[Carried]) -> Result<Verdict, Error>
     ensures judges { IfOk result (Judges turns.now log.now) }
     ensures only { IfErr result (λ error. error ≡ memory_error) }
@@ -48,14 +48,14 @@ pub fn audit(alloc: Global, turns: &[Turn], log: &[Carried]) -> Result<Verdict, 
     }
 }
 
-/// The turn that sealed, after the turn of this number.
+/// The number of the turn that sealed, after the turn numbered `place`.
 pub(crate) fn sealing_after(sealed: bool, place: usize, sealing: Option<u64>) -> Option<u64>
     ensures { result ≡ sealing_after sealed place sealing }
 {
     if sealed { Some(place as u64) } else { sealing }
 }
 
-/// As many entries as turns, or one less.
+/// There are as many entries as turns, or one fewer.
 pub(crate) fn are_counted(turns: usize, entries: usize) -> bool
     ensures { IsTrue result ↔ (entries ≤ turns) × (turns ≤ entries + 1) }
 {

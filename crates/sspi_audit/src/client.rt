@@ -11,7 +11,7 @@ use sspi_credssp::{CredSspState, Outcome, Turn};
 use sspi_tsreq::TsRequest;
 use sspi_types::{Bytes, SecurityStatus};
 
-/// The delivered request, but for the version and the token.
+/// The reply is the delivered request, except for the version and the token.
 pub(crate) fn is_token_reply(reply: &TsRequest, delivered: &TsRequest, token: &Bytes) -> bool
     ensures { IsTrue result ↔ (reply.now ≡ record delivered.now {
       version = reply.now.version;
@@ -25,7 +25,7 @@ pub(crate) fn is_token_reply(reply: &TsRequest, delivered: &TsRequest, token: &B
         && same_nonce(&reply.client_nonce, &delivered.client_nonce)
 }
 
-/// An empty token is left out.
+/// The field holds the token, or is absent if the token is empty.
 fn is_unless_empty(field: &Option<Bytes>, token: &Bytes) -> bool
     ensures { IsTrue result ↔ (field.now ≡ unless_empty token.now) }
 {
@@ -36,7 +36,7 @@ fn is_unless_empty(field: &Option<Bytes>, token: &Bytes) -> bool
     }
 }
 
-/// The delivered request, but for the version, the token, the nonce and the proof.
+/// The reply is the delivered request, except for the version, the token, the nonce and the proof.
 fn is_proof_reply(reply: &TsRequest, delivered: &TsRequest, token: &Bytes) -> bool
     ensures { IsTrue result ↔ (reply.now ≡ record delivered.now {
       version = reply.now.version;
@@ -50,7 +50,7 @@ fn is_proof_reply(reply: &TsRequest, delivered: &TsRequest, token: &Bytes) -> bo
         && same_code(&reply.error_code, &delivered.error_code)
 }
 
-/// The delivered request, but for the version and the credentials, without token and proof.
+/// The delivered request, except for the version and the credentials, without token and proof.
 fn is_final_reply(reply: &TsRequest, delivered: &TsRequest) -> bool
     ensures { IsTrue result ↔ (reply.now ≡ record delivered.now {
       version = reply.now.version;
@@ -114,7 +114,7 @@ fn shows_reply(frame: &Frame, turn: &Turn) -> bool
     }
 }
 
-/// A client's turn by what is known of it.
+/// What is known of the client allows this turn.
 pub(crate) fn shows_client(frame: &Frame, turn: &Turn) -> bool
     ensures { IsTrue result ↔ ShowsClient frame.now turn.now }
 {

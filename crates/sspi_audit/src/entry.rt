@@ -1,4 +1,4 @@
-//! Whether a log's entries are those of the turns.
+//! Whether the entries of a log belong to the recorded turns.
 ghost use Rattle.std.specs.Prelude.{◌≡◌, ◌≤◌, ◌↔◌, length, Some, true, IsTrue, IfErr, IfOk};
 ghost use Rattle.sspi_delegate.specs.Log.{delivery_limit, is_taken, IsEntry, IsRead, IsSent};
 ghost use Rattle.sspi_types.specs.Errors.{memory_error};
@@ -61,7 +61,7 @@ fn is_sent(alloc: Global, message: &TsRequest, sent: &[u8]) -> Result<bool, Erro
     }
 }
 
-/// The entry is that of the turn's message.
+/// The entry records the turn's message.
 pub(crate) fn is_entry(alloc: Global, turn: &Turn, entry: &Carried) -> Result<bool, Error>
     ensures entry { IfOk result (λ is. IsTrue is ↔ IsEntry turn.now entry.now) }
     ensures only { IfErr result (λ error. error ≡ memory_error) }

@@ -1,11 +1,10 @@
-//! Whether the fields of requests are equal. The nonce is read behind a slice, which keeps its
-//! length.
+//! Whether the fields of requests are equal, and what a single field holds.
 ghost use Rattle.std.specs.Prelude.{◌≡◌, ◌↔◌, None, Some, IsTrue};
 ghost use Rattle.sspi_credssp.specs.Requests.{IsLong, is_code};
 
 use sspi_types::{Bytes, NStatusCode};
 
-/// Two fields that hold octets, or nothing.
+/// Both fields hold the same octets, or neither holds any.
 pub(crate) fn same_octets(left: &Option<Bytes>, right: &Option<Bytes>) -> bool
     ensures { IsTrue result ↔ (left.now ≡ right.now) }
 {
@@ -36,7 +35,7 @@ pub(crate) fn same_nonce(left: &Option<[u8; 32]>, right: &Option<[u8; 32]>) -> b
     }
 }
 
-/// The field is this.
+/// The field holds these octets.
 pub(crate) fn is_octets(field: &Option<Bytes>, octets: &Bytes) -> bool
     ensures { IsTrue result ↔ (field.now ≡ Some octets.now) }
 {
@@ -46,7 +45,7 @@ pub(crate) fn is_octets(field: &Option<Bytes>, octets: &Bytes) -> bool
     }
 }
 
-/// There is a blob that can hold a seal.
+/// There is a blob long enough to hold a seal.
 pub(crate) fn is_long(blob: &Option<Bytes>) -> bool
     ensures { IsTrue result ↔ IsLong blob.now }
 {
@@ -56,7 +55,7 @@ pub(crate) fn is_long(blob: &Option<Bytes>) -> bool
     }
 }
 
-/// A code other than SUCCESS.
+/// There is a code other than SUCCESS.
 pub(crate) fn has_code(code: &Option<NStatusCode>) -> bool
     ensures { result ≡ is_code code.now }
 {

@@ -12,7 +12,7 @@ pub(crate) struct Frame {
     pub looks: bool,
     /// The version of its peer that is pinned once the turn is over.
     pub noted: Option<u32>,
-    /// Its own version, where that is known.
+    /// Its own version, if that is known.
     pub version: Option<u32>,
 }
 

@@ -1,4 +1,4 @@
-//! What an end heeds of its peer, as far as recorded bytes show it (MS-CSSP 3.1.5).
+//! How an end heeds its peer, as far as recorded bytes show it (MS-CSSP 3.1.5).
 ghost use Rattle.std.specs.Prelude.{◌≡◌, ◌↔◌, [], None, true, IsTrue, nat_lt};
 ghost use Rattle.sspi_credssp.specs.Acts.{no_acts};
 ghost use Rattle.sspi_credssp.specs.Noted.{differs};
@@ -15,7 +15,7 @@ use crate::refusals::{are_none, client_refuses, differs, server_refuses};
 use crate::standing::server_note;
 use sspi_credssp::{Outcome, Turn};
 
-/// Told another version than the pinned one, an end does nothing.
+/// Given a version other than the pinned one, an end does nothing.
 fn heeds_version(frame: &Frame, turn: &Turn) -> bool
     ensures { IsTrue result ↔ (differs frame.now.noted turn.now.delivered.version ≡ true →
         turn.now.acts ≡ no_acts) }
@@ -23,7 +23,7 @@ fn heeds_version(frame: &Frame, turn: &Turn) -> bool
     !differs(frame.noted, turn.delivered.version) || are_none(turn.acts)
 }
 
-/// Where no step answered there is no token.
+/// If no step answered, there is no token.
 fn has_no_stray_token(turn: &Turn) -> bool
     ensures { IsTrue result ↔ (turn.now.acts.status ≡ None → turn.now.output ≡ []) }
 {
@@ -39,7 +39,7 @@ fn client_refusal(frame: &Frame, turn: &Turn) -> bool
     }
 }
 
-/// The state of a client before this turn.
+/// Given what is known of the client before this turn, the turn heeds the server.
 pub(crate) fn client_heeds(frame: &Frame, turn: &Turn) -> bool
     ensures { IsTrue result ↔ ClientHeeds frame.now turn.now }
 {
@@ -58,7 +58,7 @@ fn server_refusal(frame: &Frame, turn: &Turn) -> bool
     }
 }
 
-/// From version 5 on a proof is opened only with a nonce.
+/// From version 5 on, a proof is opened only with a nonce.
 fn opens_with_nonce(frame: &Frame, turn: &Turn) -> bool
     ensures { IsTrue result ↔ (turn.now.acts.checked ≡ true →
         AtNoted (server_note frame.now.noted turn.now.delivered.version)
@@ -92,7 +92,7 @@ fn error_tells(frame: &Frame, turn: &Turn) -> bool
     }
 }
 
-/// The state of a server before this turn.
+/// Given what is known of the server before this turn, the turn heeds the client.
 pub(crate) fn server_heeds(frame: &Frame, turn: &Turn) -> bool
     ensures { IsTrue result ↔ ServerHeeds frame.now turn.now }
 {

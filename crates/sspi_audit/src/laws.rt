@@ -1,4 +1,4 @@
-//! What an auditor finds of what `delegate` leaves, and what its yes implies.
+//! What an auditor says of what `delegate` leaves, and what its `Yes` implies.
 ghost use Rattle.std.specs.Prelude.{ℕ, List, [], reverse, Result};
 ghost use Rattle.sspi_credssp.specs.declared.context.SspiContext.{SspiContext};
 ghost use Rattle.sspi_credssp.specs.declared.turn.Turn.{Turn};
@@ -18,8 +18,8 @@ use sspi_credssp::{CredentialsProxy, SspiContext, context_keeps_laws};
 use sspi_delegate::Link;
 use sspi_mech::{Kdc, Mechanism};
 
-/// A run of two ends is shown right. Where `delegate` was called with two fresh ends, `audit` says
-/// yes of its turns and of what the log grew by, or there was no memory.
+/// A run of two ends is shown right. After `delegate` with two fresh ends, `audit` says `Yes` to
+/// its turns and the log entries that it added, unless memory runs out.
 pub fn delegation_is_shown<N: Mechanism, K: Mechanism, C: CredentialsProxy>()
     ensures { (client client2 : ClientView (SspiContext N K)) (server server2 : ServerView
         (SspiContext N K) C) (base log : List Carried)
@@ -30,8 +30,8 @@ pub fn delegation_is_shown<N: Mechanism, K: Mechanism, C: CredentialsProxy>()
     context_keeps_laws::<N, K>();
 }
 
-/// What `delegate` promises of two fresh ends, whatever its answer, is shown as a run. `audit_run`
-/// says yes of its turns and of what the log grew by, or there was no memory.
+/// Whatever `delegate` returns for two fresh ends, what it leaves is shown as a run. `audit_run`
+/// says `Yes` to its turns and the log entries that it added, unless memory runs out.
 pub fn delegation_is_a_shown_run<N: Mechanism, K: Mechanism, C: CredentialsProxy, L: Link, D: Kdc>()
     ensures { (old new : Parties (SspiContext N K) C L D) (limit : ℕ)
         (result : Result Delegation DelegateError) →
@@ -42,9 +42,9 @@ pub fn delegation_is_a_shown_run<N: Mechanism, K: Mechanism, C: CredentialsProxy
     context_keeps_laws::<N, K>();
 }
 
-/// What is shown as a run is shown right: where `audit_run` says yes, `audit` does. Its ends take
-/// turns, none after one that ended the exchange, and turns and log belong together as those of a
-/// run whose link had carried nothing before.
+/// What is shown as a run is shown right: where `audit_run` says `Yes`, so does `audit`. Its ends
+/// alternate, with no turn after one that ended the exchange. Turns and log belong together as
+/// those of a run whose link had carried nothing before.
 pub fn a_shown_run_is_shown()
     ensures shown { (turns : List Turn) (log : List Carried) → IsShownRun turns log →
         ShownRun turns log }

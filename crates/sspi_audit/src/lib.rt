@@ -2,12 +2,12 @@
 //! can show of a run, and in which turn were the credentials handed over?
 //!
 //! `audit` and the stricter `audit_run` read turns and log entries, whoever recorded them. They
-//! need no key, no nonce and no context, and so they cannot tell that two ends made them: a yes is
-//! of the record alone. What two ends left of a run gets yes of both (`laws`). `audit_run` asks all
-//! that recorded bytes can show of a run; `audit` does not ask a refused turn what it was told.
+//! need no key, nonce or context, and so cannot tell whether two ends made them: a `Yes` is about
+//! the record alone. What two ends leave of a run gets `Yes` from both (`laws`). `audit_run` checks
+//! all that recorded bytes can show of a run; `audit` does not check what a refused turn was told.
 //!
 //! - `specs/Shown.antt`: what it takes for turns and a log to be shown right.
-//! - `specs/Run.antt`, `specs/Refusals.antt`: what it takes besides for them to be shown as a run.
+//! - `specs/Run.antt`, `specs/Refusals.antt`: what more it takes for them to be shown as a run.
 //! - `specs/Verdicts.antt`, `specs/RunVerdicts.antt`: what each verdict means.
 #![tactic(auto)]
 

@@ -1,4 +1,4 @@
-//! Whether a turn that did these acts can have been refused with this kind (MS-CSSP 3.1.5).
+//! Whether a turn with these effects can have been refused with this kind (MS-CSSP 3.1.5).
 ghost use Rattle.std.specs.Prelude.{◌≡◌, ◌⊎◌, ◌↔◌, None, false, IsTrue, nat_lt};
 ghost use Rattle.sspi_credssp.specs.Acts.{no_acts};
 ghost use Rattle.sspi_credssp.specs.Exchange.{BlobStops};
@@ -15,7 +15,7 @@ use sspi_credssp::{Acts, CredSspState, Turn};
 use sspi_tsreq::TsRequest;
 use sspi_types::{Bytes, ErrorKind, SecurityStatus};
 
-/// Another version than the pinned one.
+/// A version is pinned, and it is not this one.
 pub(crate) fn differs(noted: Option<u32>, version: u32) -> bool
     ensures { result ≡ differs noted version }
 {
@@ -37,7 +37,7 @@ pub(crate) fn are_none(acts: Acts) -> bool
         && !acts.opened
 }
 
-/// A blob that can hold no seal has one kind, any other may have this one.
+/// A blob that can hold no seal is refused with one kind only, any other with any kind.
 fn blob_stops(blob: &Option<Bytes>, kind: ErrorKind) -> bool
     ensures { IsTrue result ↔ BlobStops blob.now kind (λ blob. Unit {0}) }
 {
@@ -75,7 +75,7 @@ fn client_state_refuses(frame: &Frame, turn: &Turn, kind: ErrorKind) -> bool
     }
 }
 
-/// A client's refusal of this kind, before it has sealed its proof or its credentials.
+/// A client may have refused with this kind, and has sealed neither its proof nor its credentials.
 pub(crate) fn client_refuses(frame: &Frame, turn: &Turn, kind: ErrorKind) -> bool
     ensures { IsTrue result ↔ ClientRefuses frame.now turn.now kind }
 {
@@ -107,7 +107,7 @@ fn token_refused_back(frame: &Frame, acts: Acts, kind: ErrorKind) -> bool
     }
 }
 
-/// A message of a version from 5 on that has no nonce.
+/// The version is 5 or later, and the nonce is missing.
 fn lacks_nonce(version: u32, nonce: &Option<[u8; 32]>) -> bool
     ensures { result ≡ lacks_nonce (nat_lt version 5) nonce.now }
 {
@@ -154,7 +154,7 @@ fn server_state_refuses(frame: &Frame, turn: &Turn, kind: ErrorKind) -> bool
     }
 }
 
-/// A server's refusal of this kind, before it has sealed its proof.
+/// A server may have refused with this kind, and has not sealed its proof.
 pub(crate) fn server_refuses(frame: &Frame, turn: &Turn, kind: ErrorKind) -> bool
     ensures { IsTrue result ↔ ServerRefuses frame.now turn.now kind }
 {

@@ -1,4 +1,4 @@
-//! The auditor of whole runs: what `audit` asks, and all else that recorded bytes can show of two
+//! The auditor of whole runs: what `audit` checks, and all else that recorded bytes can show of two
 //! ends.
 ghost use Rattle.std.specs.Prelude.{◌≡◌, ◌↔◌, List, length, reverse, slice_get, false, [], IsTrue};
 ghost use Rattle.std.specs.Prelude.{IfOk, IfErr, IfSome};
@@ -15,32 +15,32 @@ use sspi_delegate::{Carried, DELIVERY_LIMIT};
 use sspi_types::Error;
 use std::alloc::Global;
 
-/// Judges recorded turns and the log of the link that carried their messages, the oldest first, as
+/// Judges recorded turns and the log of the link that carried their messages, both oldest first, as
 /// a run of two ends.
 ///
 /// `Yes` exactly where they have all that recorded bytes can show of a run (`specs/Run.antt`).
-/// Beside what `audit` asks:
+/// In addition to what `audit` checks:
 ///
-/// - A turn that was told an error or another version than the pinned one did nothing, and was
-///   refused for that.
-/// - A refused turn has a kind with which a turn of its acts can end. It is none in which a client
-///   sealed its credentials, or a server its proof.
+/// - A turn given a version other than the pinned one or, at a client, an error, did nothing and
+///   was refused for that.
+/// - A refused turn has a kind that fits its effects. In it, neither end sealed its proof, nor the
+///   client its credentials.
 /// - A turn in which no step answered has no token.
-/// - A server opened a proof from version 5 on only with a nonce; its error request has the version
-///   that it then owes.
-/// - Of the last delivery, which no turn was given, no more than `DELIVERY_LIMIT` bytes were taken;
-///   of that of a refusal nothing.
+/// - From version 5 on, a server opened a proof only with a nonce. Its error request has the
+///   version that is then due.
+/// - Of the last delivery, which no turn was given, at most `DELIVERY_LIMIT` bytes were taken; of
+///   the delivery of a refusal, nothing.
 ///
-/// What `delegate` leaves of two fresh ends gets `Yes` (`laws`). Use `audit` where a recorder does
-/// not keep refused turns as the ends left them. Neither asks what a record cannot show: what was
+/// What `delegate` leaves of two fresh ends gets `Yes` (`laws`). Use `audit` if a recorder does not
+/// keep refused turns as the ends left them. Neither checks what a record cannot show: what was
 /// sealed, keys, nonces and contexts. The verdict names the only turn in which the client is
 /// recorded to have sealed its credentials.
 ///
-/// `No` names the first turn at fault; or it is the number of turns, where the entries are too many
-/// or too few, or of the last delivery too much was taken.
+/// `No` names the first turn at fault. It is the number of turns if there are too many or too few
+/// entries, or if too much of the last delivery was taken.
 ///
-/// The only refusal is `InsufficientMemory`, without a status. What no clause says: the time is
-/// linear in the octets of turns and log, and the memory at most that of one of their messages.
+/// The only refusal is `InsufficientMemory`, without a status. Not in any clause: time is linear in
+/// the octets of turns and log, and memory is at most that of one of their messages.
 pub fn audit_run(alloc: Global, turns: &[Turn], log: &[Carried]) -> Result<Verdict, Error>
     ensures judges { IfOk result (JudgesRun turns.now log.now) }
     ensures only { IfErr result (λ error. error ≡ memory_error) }
@@ -61,8 +61,8 @@ pub fn audit_run(alloc: Global, turns: &[Turn], log: &[Carried]) -> Result<Verdi
     }
 }
 
-/// As many entries as turns, or one less, and of the last delivery no more was taken than an end
-/// takes.
+/// There are as many entries as turns, or one fewer, and no more of the last delivery was taken
+/// than an end takes.
 fn log_ends(turns: &[Turn], log: &[Carried]) -> bool
     ensures { IsTrue result ↔ LogEnds (reverse turns.now) log.now }
 {
@@ -81,7 +81,7 @@ fn last_left(turns: &[Turn], log: &[Carried]) -> bool
     }
 }
 
-/// What was taken of the delivery that no later turn was given.
+/// This may be what was taken of a delivery that no later turn was given.
 fn is_left_behind(outcome: &Outcome, entry: &Carried) -> bool
     ensures { IsTrue result ↔ IsLeftBehind outcome.now entry.now }
 {

@@ -13,7 +13,7 @@ use sspi_credssp::{CredSspState, Outcome, Turn, construct_error};
 use sspi_tsreq::TsRequest;
 use sspi_types::{Error, ErrorKind, NStatusCode, Reason, SecurityStatus};
 
-/// The delivered request, but for the version and the proof, without a token.
+/// The reply is the delivered request, except for the version and the proof, without a token.
 fn is_proof_back(reply: &TsRequest, delivered: &TsRequest) -> bool
     ensures { IsTrue result ↔ (reply.now ≡ record delivered.now {
       version = reply.now.version;
@@ -76,7 +76,7 @@ fn shows_state_back(frame: &Frame, turn: &Turn, reply: &TsRequest) -> bool
     }
 }
 
-/// The version of an error request.
+/// An error request has the delivered version or the server's own, if that is known.
 fn is_version_back(own: Option<u32>, delivered: u32, version: u32) -> bool
     ensures { IsTrue result ↔ IsVersionBack own delivered version }
 {
@@ -93,7 +93,7 @@ fn code_of(kind: ErrorKind) -> NStatusCode
     construct_error(&Error::new(kind, Reason::ErrorStatus))
 }
 
-/// The delivered request, but for the version and the code, without what the state takes from it.
+/// The delivered request, except for the version and the code, without what its state takes out.
 fn is_error_request(
     state: CredSspState,
     kind: ErrorKind,
@@ -156,7 +156,7 @@ fn shows_answer(frame: &Frame, turn: &Turn) -> bool
     }
 }
 
-/// A server's turn by what is known of it.
+/// What is known of the server allows this turn.
 pub(crate) fn shows_server(frame: &Frame, turn: &Turn) -> bool
     ensures { IsTrue result ↔ ShowsServer frame.now turn.now }
 {

@@ -60,7 +60,7 @@ fn before(looks: bool) -> Frame
     }
 }
 
-/// A client as its next turn finds it, which pins the version of its second request.
+/// A client at its next turn, which pins the version if this is its second request.
 fn client_at(before: &Frame, turn: &Turn) -> Frame
     ensures { (past : List Turn) → before.now ≡ client_before past →
         result ≡ client_frame past turn.now }
@@ -83,7 +83,7 @@ fn client_note(looks: bool, noted: Option<u32>, version: u32) -> Option<u32>
     }
 }
 
-/// A server as its next turn finds it, which pins the version of its first request.
+/// A server at its next turn, which pins the version if this is its first request.
 fn server_at(before: &Frame, turn: &Turn) -> Frame
     ensures { (past : List Turn) → before.now ≡ server_before past →
         result ≡ server_frame past turn.now }
@@ -105,7 +105,7 @@ pub(crate) fn server_note(noted: Option<u32>, version: u32) -> Option<u32>
     }
 }
 
-/// An end's own version, once a turn ended so.
+/// An end's own version after a turn with this outcome.
 fn version_after(version: Option<u32>, outcome: &Outcome) -> Option<u32>
     ensures { result ≡ told_by version outcome.now }
 {
@@ -117,7 +117,7 @@ fn version_after(version: Option<u32>, outcome: &Outcome) -> Option<u32>
     }
 }
 
-/// The client's state, once it has made this turn in the state given.
+/// The client's state after it has made this turn in the given state.
 fn client_state_after(state: CredSspState, turn: &Turn) -> CredSspState
     ensures { (past : List Turn) → state ≡ client_state past →
         result ≡ client_state (turn.now ∷ past) }
@@ -140,7 +140,7 @@ fn has_ended(status: Option<SecurityStatus>) -> bool
     )
 }
 
-/// The server's state, once it has made this turn in the state given.
+/// The server's state after it has made this turn in the given state.
 fn server_state_after(state: CredSspState, turn: &Turn) -> CredSspState
     ensures { (past : List Turn) → state ≡ server_state past →
         result ≡ server_state (turn.now ∷ past) }
@@ -155,7 +155,7 @@ fn server_state_after(state: CredSspState, turn: &Turn) -> CredSspState
     }
 }
 
-/// The client, once it has made this turn.
+/// The client after it has made this turn.
 fn client_after(before: &Frame, turn: &Turn) -> Frame
     ensures { (past : List Turn) → before.now ≡ client_before past →
         result ≡ client_before (turn.now ∷ past) }
@@ -168,7 +168,7 @@ fn client_after(before: &Frame, turn: &Turn) -> Frame
     }
 }
 
-/// The server, once it has made this turn.
+/// The server after it has made this turn.
 fn server_after(before: &Frame, turn: &Turn) -> Frame
     ensures { (past : List Turn) → before.now ≡ server_before past →
         result ≡ server_before (turn.now ∷ past) }
@@ -188,7 +188,7 @@ fn goes_on(outcome: &Outcome) -> bool
     matches!(outcome, Outcome::Reply(_) | Outcome::Final(_))
 }
 
-/// A blob that was sealed has its tag.
+/// A sealed blob is long enough to have its tag.
 fn has_long_blobs(turn: &Turn) -> bool
     ensures { IsTrue result ↔ HasLongBlobs turn.now turn.now.outcome }
 {
@@ -199,8 +199,8 @@ fn has_long_blobs(turn: &Turn) -> bool
     }
 }
 
-/// What the log has for the next turn: it was given the delivery of the entry before its
-/// own, and its own entry is of its message.
+/// The log fits the next turn: it was given the delivery of the entry before its own, and its own
+/// entry records its message.
 fn is_logged(alloc: Global, place: usize, turn: &Turn, log: &[Carried]) -> Result<bool, Error>
     ensures logged { IfOk result (λ logged. (past : List Turn) → length past ≡ place →
         (IsTrue logged ↔ IsGiven past log.now turn.now.delivered ×
@@ -245,7 +245,7 @@ fn is_entered(alloc: Global, place: usize, turn: &Turn, log: &[Carried]) -> Resu
 }
 
 impl Standing {
-    /// By what is known of its end, the next turn may be this one.
+    /// What is known of its end allows this to be the next turn.
     fn shows(&self, turn: &Turn) -> bool
         ensures { (past : List Turn) → Stands past self.now → (IsTrue result ↔
             ShowsTurn turn.now.end past turn.now) }
@@ -276,7 +276,7 @@ impl Standing {
         }
     }
 
-    /// By what is known of its end before it, this turn heeds its peer.
+    /// Given what is known of its end before it, this turn heeds its peer.
     fn heeds(&self, turn: &Turn) -> bool
         ensures { (past : List Turn) → Stands past self.now → (IsTrue result ↔
             HeedsPeer turn.now.end past turn.now) }
@@ -307,7 +307,7 @@ impl Standing {
         }
     }
 
-    /// It is this end's turn, the exchange goes on, and its end may have made this turn.
+    /// It is this end's turn, the exchange has not ended, and the end may have made this turn.
     fn allows(&self, turn: &Turn) -> bool
         ensures { (past : List Turn) → Stands past self.now →
             (IsTrue result ↔ (turn.now.end ≡ next_end past) × AllGoOn past ×
@@ -316,7 +316,7 @@ impl Standing {
         self.going && turn.end == self.next && self.shows(turn)
     }
 
-    /// Goes past this turn.
+    /// Moves past this turn.
     pub fn pass(&mut self, turn: &Turn)
         ensures { (past : List Turn) → Stands past self.old → Stands (turn.now ∷ past) self.new }
     {
