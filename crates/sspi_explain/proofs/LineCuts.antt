@@ -29,7 +29,7 @@ module _ (p : ℕ → Bool) where
   none-split [] e = refl
   none-split (x ∷ xs) e = split-cons x xs (p x) refl (none-split xs) e
 
-  -- there is a part at least
+  -- there is at least one part
   first-part : (x : ℕ) (parts : List (List ℕ)) → onto_first x parts ≢ []
   first-part x [] = λ e. cc
   first-part x (part ∷ parts) = λ e. cc
@@ -52,7 +52,7 @@ last : (text : List ℕ) → text ≢ [] → last_line text ≡ text ∷ []
 last [] some = absurd (some refl)
 last (byte ∷ text) some = refl
 
--- a text is one line where it has no LF
+-- a text is one line if it has no LF
 pub one_line : (text : List ℕ) → text ≢ [] → IsSplitOnceResult 10 text None → lines_of text ≡ text ∷
     lines_of []
 unfolding lines_of
@@ -72,7 +72,7 @@ first_line text parts h =
     ∙ more-lines parts.0.now (slice_split is_line_feed parts.1.now)
     (some-part is_line_feed parts.1.now)
 
--- the lines that are told so far, before one more
+-- the lines explained so far, before one more
 pub next_line : (f : List ℕ → List ℕ) (told : List ℕ) (text line after : List ℕ) →
     lines_of text ≡ line ∷ lines_of after
     → (told ++ f line) ++ flat_map f (lines_of after) ≡ told ++ flat_map f (lines_of text)

@@ -1,4 +1,4 @@
--- The loop that tells mechanisms one after the other.
+-- The loop that explains mechanisms one after another.
 use Rattle.std.proofs.Common.{◌≡◌, ℕ, ◌<◌, ◌≤◌, Bool, true, false, cond, List, [], ◌∷◌, ◌++◌}
 use Rattle.std.proofs.Common.{length, Ok, Err, refl, sym, ap, ◌∙◌}
 use Rattle.std.proofs.Common.{append_assoc, arith}
@@ -32,7 +32,7 @@ mech_read page list = same (element_told 0x06 MechTypes page list) ∙
       same (Goes at) = refl
       same (Ends told fault) = refl
 
--- what is told so far, before what is still told
+-- what has been explained so far, before what is still to be explained
 abbrev pub before : List (List ℕ) → At (List (List ℕ)) → Told (List (List ℕ))
 before mechs more = Goes
     (record { page = more.page; value = mechs ++ more.value; place = more.place })
@@ -48,7 +48,7 @@ nothing_before (Ends page fault) = refl
 pub telling_start : (page : Sheet) (list : Spot) → Telling page list page list
 telling_start page list = record { mechs = []; told = nothing_before (mechs_told page list) }
 
--- a mechanism takes a byte at least
+-- a mechanism takes at least one byte
 pub shorter : (page : Sheet) (left : Spot) (at : At (List ℕ)) → mech_told page left ≡ Goes at →
     length at.place.rest < length left.rest
 shorter page left at e =
@@ -59,7 +59,7 @@ abbrev pub one_more : List ℕ → At (List (List ℕ)) → Told (List (List ℕ
 one_more mech more =
     Goes (record { page = more.page; value = mech ∷ more.value; place = more.place })
 
--- one mechanism, and then as many as fit
+-- one mechanism, and then at most this many more
 abbrev pub then_told : ℕ → At (List ℕ) → Told (List (List ℕ))
 then_told most mech = mechs_up_to most mech.page mech.place >>= one_more mech.value
 
@@ -158,7 +158,7 @@ telling_fault {first} {page} {list} {left} told fault telling next e =
     telling.told ∙ ap (λ (t : Told (List (List ℕ))). t >>= before telling.mechs)
     (fault_at page left.rest left.end told fault next e)
 
--- a refusal is passed on, whatever would have been the value
+-- a refusal is passed on, whatever the value would have been
 pub refusal_given : (stop : Stop) (page : Sheet) (place : Spot) (walk : Told (List ℕ))
     (whole : Told (List (List ℕ)))
     → ((told : Sheet) (fault : Fault) → walk ≡ Ends told fault → whole ≡ Ends told fault)

@@ -1,4 +1,4 @@
--- What is read, and then what is read behind it.
+-- What is read, and then what is read after it.
 use Rattle.std.proofs.Common.{ℕ, List}
 use Rattle.sspi_ber.specs.Pieces.{Read, ◌>>=◌}
 

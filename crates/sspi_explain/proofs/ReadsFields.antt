@@ -15,7 +15,7 @@ use Rattle.sspi_explain.specs.Told.{Spot, At, Told, Goes, Ends, told, read_of, �
 use Rattle.sspi_explain.proofs.ReadThen.{read_then}
 use Rattle.sspi_explain.proofs.ReadsPieces.{told_read, bind_read, header_read, bytes_read}
 
--- what stands on the page changes nothing of what is read
+-- what is on the page does not change what is read
 pub kept_read : {A : Type 0} (t : Told A) (page : At A → Sheet)
     → read_of (t >>= λ x. Goes
     (record { page = page x; value = x.value; place = x.place })) ≡ read_of t
@@ -57,7 +57,7 @@ nonce_read field page place =
     ∙ ap (λ (r : Read ℕ). read_then r (λ n. cond (nat_eq n.0 32) (bytes_at n.0 n.1) (Err Invalid)))
     (header_read 0x04 field page place)
 
--- behind a tag whose length is not compared
+-- after a tag whose length is not compared
 pub tagged_read : {A : Type 0} (tag : ℕ) (field : Field) (next : At ℕ → Told A) (inner : List ℕ →
     Read A)
     → ((at : At ℕ) → read_of (next at) ≡ inner at.place.rest) → (page : Sheet) (place : Spot)

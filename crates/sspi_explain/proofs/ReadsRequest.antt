@@ -1,4 +1,4 @@
--- A request is told exactly as it is read.
+-- A request is explained exactly as it is read.
 use Rattle.std.proofs.Common.{◌≡◌, ℕ, nat_le, List, length, Option, None, Some, Ok, Err, refl, ap}
 use Rattle.std.proofs.Common.{◌∙◌}
 use Rattle.sspi_ber.specs.Pieces as pieces

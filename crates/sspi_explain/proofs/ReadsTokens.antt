@@ -1,4 +1,4 @@
--- A token is told exactly as it is read.
+-- A token is explained exactly as it is read.
 use Rattle.std.proofs.Common.{◌≡◌, ℕ, Bool, true, false, cond, List, [], ◌∷◌, length, Option, None}
 use Rattle.std.proofs.Common.{Some, Ok, Err, refl, ap, ◌∙◌}
 use Prim.Native.Nat.{zero, suc}
@@ -30,7 +30,7 @@ use Rattle.sspi_explain.proofs.ReadsPieces.{bind_read, element_read}
 use Rattle.sspi_explain.proofs.ReadsFields.{kept_read, cond_read}
 use Rattle.sspi_explain.proofs.Mechs.{mech_read, then_told, one_more, none_told}
 
--- ---- what is read inside an element, and then what stands behind it
+-- ---- what is read inside an element, and then what follows it
 
 then_ok : {A : Type 0} (r : Read A) → read_then r (λ x. Ok (x.0, x.1)) ≡ r
 then_ok (Ok x) = refl

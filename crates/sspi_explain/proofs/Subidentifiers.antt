@@ -3,7 +3,7 @@ use Rattle.std.proofs.Common.{◌≡◌, ℕ, List, [], ◌∷◌, ◌++◌, Opt
 use Rattle.std.proofs.Common.{append_assoc}
 use Rattle.std.specs.Option.{option_map}
 
--- what is read so far, before what is still read
+-- what has been read so far, before what is still to be read
 abbrev pub behind : List ℕ → Option (List ℕ) → Option (List ℕ)
 behind before more = option_map (λ numbers. before ++ numbers) more
 

@@ -1,4 +1,4 @@
--- The code by which a server tells why it refused, and its name where it has one.
+-- The code with which a server reports why it refused, and its name if it has one.
 use Rattle.std.specs.Prelude.{ℕ, ◌==◌, List, [], ◌∷◌, ◌++◌, codes, Option, None, Some}
 use Rattle.std.specs.Prelude.{if◌then◌else◌}
 use Rattle.std.specs.Int.{w32, to_be_bytes}
@@ -100,7 +100,7 @@ all_kinds =
 unfoldable pub kind_code : ErrorKind → ℕ
 kind_code kind = (error_code_of kind).0
 
--- the name of the first of some kinds of which a server that refuses makes this code
+-- the name of the first of some kinds for which a server that refuses sends this code
 abbrev pub name_among : List ErrorKind → ℕ → Option (List ℕ)
 name_among [] code = None
 name_among (kind ∷ kinds) code =

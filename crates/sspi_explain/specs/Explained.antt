@@ -1,5 +1,5 @@
--- A text with what its messages say in the place of their lines. A message is a line of hex, alone
--- or behind one of three marks.
+-- A text in which what each message says replaces its line. A message is a line of hex, alone or
+-- after one of three marks.
 use Rattle.std.specs.Prelude.{ℕ, ◌==◌, ◌&&◌, ◌||◌, Bool, List, [], ◌∷◌, ◌++◌, codes, Result, Ok}
 use Rattle.std.specs.Prelude.{Err, if◌then◌else◌}
 use Rattle.std.specs.List.{slice_split, flat_map}
@@ -10,7 +10,7 @@ use Rattle.sspi_explain.specs.Message.{message_text}
 abbrev pub is_line_feed : ℕ → Bool
 is_line_feed byte = byte == 10
 
--- what stands behind the last LF is a line where there is something
+-- what follows the last LF is a line, unless it is empty
 abbrev pub last_line : List ℕ → List (List ℕ)
 last_line [] = []
 last_line (byte ∷ line) = (byte ∷ line) ∷ []
@@ -20,14 +20,14 @@ without_empty_end [] = []
 without_empty_end (line ∷ []) = last_line line
 without_empty_end (line ∷ next ∷ more) = line ∷ without_empty_end (next ∷ more)
 
--- the lines that LFs end; the last one may lack its LF
+-- the lines, each ended by LF; the last one may lack its LF
 unfoldable pub lines_of : List ℕ → List (List ℕ)
 lines_of text = without_empty_end (slice_split is_line_feed text)
 
 abbrev pub is_mark : ℕ → ℕ → Bool
 is_mark byte space = (byte == 62 || byte == 60 || byte == 33) && space == 32
 
--- what stands before the hex of a message: one of the marks of a report, or nothing
+-- what precedes the hex of a message: one of the marks of a report, or nothing
 unfoldable pub mark_of : List ℕ → List ℕ
 mark_of [] = []
 mark_of (byte ∷ []) = []

@@ -1,4 +1,4 @@
--- What a reader finds in the place of a piece that it refuses, and how many bytes are left there.
+-- What a reader finds where it refuses a piece, and how many bytes are left there.
 use Rattle.std.specs.Prelude.{ℕ, ◌-◌, ◌==◌, nat_lt, List, [], ◌∷◌, ◌++◌, length, take, codes}
 use Rattle.std.specs.Prelude.{decimal, Ok, Err, if◌then◌else◌}
 use Rattle.hex.specs.Hex.{encode_lower}
@@ -36,7 +36,7 @@ unfoldable pub found_in_length : List ℕ → Found
 found_in_length [] = NoLength
 found_in_length (first ∷ rest) = found_in_octets first (first - 0x80) rest
 
--- in a header of this tag that is refused
+-- in a refused header of this tag
 unfoldable pub found_in_header : ℕ → List ℕ → ℕ × Found
 found_in_header tag [] = (0, NoTag tag)
 found_in_header tag (byte ∷ rest) =

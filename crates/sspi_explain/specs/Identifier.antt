@@ -1,4 +1,4 @@
--- Object identifiers as numbers between dots (X.690 8.19), and the mechanisms that they name.
+-- Object identifiers as numbers separated by dots (X.690 8.19), and the mechanisms that they name.
 use Rattle.std.specs.Prelude.{ℕ, ◌+◌, ◌-◌, ◌*◌, ◌%◌, ◌==◌, ◌&&◌, ◌||◌, nat_le, nat_lt, List, []}
 use Rattle.std.specs.Prelude.{◌∷◌, ◌++◌, codes, decimal, Option, None, Some, if◌then◌else◌}
 use Rattle.std.specs.List.{flat_map}
@@ -7,10 +7,10 @@ use Rattle.std.specs.Str.{bytes_eq}
 use Rattle.sspi_tokens.specs.Oids.{spnego, ms_krb5, krb5, ntlm_ssp}
 use Rattle.sspi_explain.specs.Texts.{content_text}
 
--- Subidentifiers of seven bits an octet, the first octets first; all but the last octet of each
--- have their highest bit set. So far the next one has this value. None where one begins with 80, so
--- that it is not the shortest, where one has more than nine octets, which is where its first nine
--- give 2 ^ 56 or more before the last of them, or where the last one does not end.
+-- Subidentifiers of seven bits an octet, highest first; all but the last octet of each have the top
+-- bit set. The value is that of the octets already read of the next one. None if one begins with
+-- 80, which is not its shortest form; has more than nine octets, the first nine of which give 2 ^
+-- 56 or more; or does not end.
 abbrev pub subidentifiers_from : ℕ → List ℕ → Option (List ℕ)
 subidentifiers_from value [] = if value == 0 then Some [] else None
 subidentifiers_from value (octet ∷ rest) =
@@ -19,7 +19,7 @@ subidentifiers_from value (octet ∷ rest) =
     then option_map (λ numbers. (value * 128 + octet % 128) ∷ numbers) (subidentifiers_from 0 rest)
     else subidentifiers_from (value * 128 + octet % 128) rest
 
--- the first two numbers, which are one subidentifier: forty times the first, and the second
+-- the first two numbers, encoded as one subidentifier: forty times the first, plus the second
 abbrev pub first_text : ℕ → List ℕ
 first_text first =
     if nat_lt first 40 then codes "0." ++ decimal first
@@ -53,6 +53,6 @@ abbrev pub identifier_by : List ℕ → Option (List ℕ) → List ℕ
 identifier_by content None = codes "invalid " ++ content_text content
 identifier_by content (Some numbers) = named numbers (mech_name content)
 
--- its numbers, and its name where it has one; or that it is no identifier
+-- its numbers, and its name if it has one; or that it is not an identifier
 unfoldable pub identifier_text : List ℕ → List ℕ
 identifier_text content = identifier_by content (numbers_text content)

@@ -10,19 +10,19 @@ use Rattle.sspi_explain.specs.Texts.{count_text, content_text}
 use Rattle.sspi_explain.specs.Token.{kind_of, kind_name, token_told}
 use Rattle.sspi_explain.specs.Told.{Told, Goes, Ends, spot}
 
--- a page on which nothing stands
+-- an empty page
 abbrev pub request_page : Sheet
 request_page = record { form = form.Request; depth = One; text = [] }
 
 abbrev pub token_page : Sheet
 token_page = record { form = form.Token; depth = One; text = [] }
 
--- the lines of the fields, up to the fault where there is one
+-- the lines of the fields, up to the fault if there is one
 abbrev pub lines_of : {A : Type 0} → Told A → List ℕ
 lines_of (Goes at) = at.page.text
 lines_of (Ends page fault) = page.text
 
--- the first line: what the message is, and how long
+-- the first line: what the message is, and its length
 abbrev pub first_line : List ℕ → List ℕ → List ℕ → List ℕ
 first_line mark name message = mark ++ name ++ codes " " ++ count_text (length message) ++
     codes "\n"

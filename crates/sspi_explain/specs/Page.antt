@@ -1,4 +1,4 @@
--- The page that an explanation is written on, line by line.
+-- The page on which an explanation is written, line by line.
 use Rattle.std.specs.Prelude.{ℕ, List, [], ◌∷◌, ◌++◌, codes, decimal}
 use Rattle.sspi_ber.specs.Pieces.{Fault, Ended, Invalid}
 use Rattle.sspi_explain.specs.declared.depth.Depth.{Depth}
@@ -9,7 +9,7 @@ use Rattle.sspi_explain.specs.declared.field.Form.{Form}
 use Rattle.sspi_explain.specs.declared.field.Form.TheVariants.{Request, Token}
 use Rattle.sspi_explain.specs.Texts.{content_text}
 
--- which reader the message is for, how its fields are indented, and what is told so far
+-- which reader the message is for, how its fields are indented, and the text so far
 pub record Sheet : Type 0 where
   pub form : Form
   pub depth : Depth
@@ -47,8 +47,8 @@ abbrev pub fault_name : Fault → List ℕ
 fault_name Ended = codes "UnexpectedEof"
 fault_name Invalid = codes "InvalidData"
 
--- the kind with which a reader of requests refuses a fault: each one of the header counts as the
--- end
+-- the error kind with which a reader of requests refuses: any fault of the header counts as an
+-- early end
 abbrev pub request_kind : Field → Fault → List ℕ
 request_kind field.Header fault = codes "UnexpectedEof"
 request_kind other fault = fault_name fault
@@ -59,7 +59,7 @@ kind_name Token field fault = codes "InvalidToken"
 
 -- ---- the lines
 
--- an indentation, an offset, and what stands there
+-- an indentation, an offset, and what is there
 abbrev pub line_text : Depth → ℕ → List ℕ → List ℕ
 line_text depth at said = blanks depth ++ decimal at ++ codes " " ++ said ++ codes "\n"
 
@@ -73,13 +73,13 @@ with_field at field value page = with_line page.depth
 abbrev pub with_content : ℕ → Field → List ℕ → Sheet → Sheet
 with_content at field content page = with_field at field (content_text content) page
 
--- what a reader ignores, where there is something
+-- what a reader ignores, if anything
 abbrev pub with_ignored : Depth → ℕ → List ℕ → Sheet → Sheet
 with_ignored depth at [] page = page
 with_ignored depth at (byte ∷ bytes) page = with_line depth
     at (codes "ignored " ++ content_text (byte ∷ bytes)) page
 
--- lines that are told elsewhere
+-- lines that were composed elsewhere
 abbrev pub with_text : List ℕ → Sheet → Sheet
 with_text text page = record page { text = page.text ++ text }
 

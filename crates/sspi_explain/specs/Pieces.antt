@@ -1,5 +1,5 @@
--- The pieces that every message is read by: what the reader's own piece gives, and where it is
--- refused what stands there.
+-- The pieces from which every message is read: what the reader's own piece gives and, where that is
+-- refused, what is there instead.
 use Rattle.std.specs.Prelude.{ℕ, ◌-◌, ◌==◌, Bool, true, false, List, Option, None, Some, length}
 use Rattle.std.specs.Prelude.{if◌then◌else◌}
 use Rattle.sspi_ber.specs.Pieces.{Fault, Ended, Invalid, header_at, bytes_at, tag_or_absent_at}
@@ -11,7 +11,7 @@ use Rattle.sspi_explain.specs.Found.{found_text, found_in_header, found_in_integ
 use Rattle.sspi_explain.specs.Page.{Sheet, refused}
 use Rattle.sspi_explain.specs.Told.{Spot, spot, offset, At, Told, Goes, Ends, told, ◌>>=◌}
 
--- what was found where so many bytes are left
+-- a refusal, with what was found and how many bytes are left there
 abbrev pub refused_as : Sheet → ℕ → Field → ℕ × Found → Fault → Sheet
 refused_as page end field found fault =
     refused (end - found.0) field fault (found_text found.1) page
@@ -22,7 +22,7 @@ header_told tag field page place =
     told page place (refused_as page place.end field (found_in_header tag place.rest))
     (header_at tag place.rest)
 
--- so many bytes
+-- n bytes
 unfoldable pub bytes_told : ℕ → Field → Sheet → Spot → Told (List ℕ)
 bytes_told n field page place =
     told page place (refused_as page place.end field (
@@ -46,7 +46,7 @@ inside_told tag field page place = do
         content.place;
   })
 
--- the length behind this tag, where it comes next
+-- the length after this tag, if the tag comes next
 unfoldable pub there_told : ℕ → Field → Sheet → Spot → Told (Option ℕ)
 there_told tag field page place =
     told page place (refused_as page place.end field (found_in_header tag place.rest))
@@ -64,13 +64,13 @@ nonce_content field left n =
     then bytes_told n.value field n.page n.place
     else Ends (refused_as n.page n.place.end field (left, Nonce n.value) Invalid) Invalid
 
--- the 32 bytes of a nonce; another length is the fault
+-- the 32 bytes of a nonce; any other length is the fault
 unfoldable pub nonce_told : Field → Sheet → Spot → Told (List ℕ)
 nonce_told field page place = do
   n ← header_told 0x04 field page place
   nonce_content field (length place.rest - 1) n
 
--- what stands inside a field, where the field is there
+-- what is inside a field, if the field is present
 abbrev pub present : {A : Type 0} → Option ℕ → At (Option ℕ) → (Sheet → Spot → Told A) →
     Told (Option A)
 present None at inside = Goes (record { page = at.page; value = None; place = at.place })

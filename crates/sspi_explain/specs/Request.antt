@@ -40,7 +40,7 @@ abbrev pub fields_of : {A : Type 0} → Told A → Option (List ℕ)
 fields_of (Goes at) = Some at.page.text
 fields_of (Ends page fault) = None
 
--- the fields of the token of this kind that a content begins with, where it does
+-- the fields of the token of this kind with which a content begins, if it does
 unfoldable pub nested_fields : Kind → List ℕ → ℕ → Option (List ℕ)
 nested_fields kind content end = fields_of (token_told kind nested_page (spot content end))
 
@@ -60,7 +60,7 @@ with_token_as None at content end page = with_content at NegoTokens content page
 with_token_as (Some kind) at content end page = with_nested (nested_fields kind content end) kind
     at content page
 
--- a content, or the fields of the token of SPNEGO that it begins with
+-- a content, or the fields of the SPNEGO token with which it begins
 unfoldable pub with_token : ℕ → List ℕ → ℕ → Sheet → Sheet
 with_token at content end page = with_token_as (kind_of content) at content end page
 
@@ -162,7 +162,7 @@ body_told page place = do
     place = nonce.place;
   })
 
--- each fault of the header counts as the end
+-- any fault of the header counts as an early end
 abbrev pub as_ended : {A : Type 0} → Told A → Told A
 as_ended (Goes at) = Goes at
 as_ended (Ends page fault) = Ends page Ended

@@ -14,7 +14,7 @@ unfoldable pub shown : List ℕ → List ℕ
 shown content = if nat_le (length content) 64 then encode_lower content
     else encode_lower (take 64 content) ++ codes ".."
 
--- how many bytes, and the first of them
+-- the number of bytes, and the first of them
 unfoldable pub counted : List ℕ → List ℕ
 counted content = count_text (length content) ++ codes " " ++ shown content
 

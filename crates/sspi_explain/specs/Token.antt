@@ -27,19 +27,19 @@ abbrev pub kind_name : Kind → List ℕ
 kind_name Init = codes "NegTokenInit"
 kind_name Resp = codes "NegTokenResp"
 
--- which token bytes like these may be, by the first of them
+-- the kind of token that these bytes may be, by their first
 abbrev pub kind_of : List ℕ → Option Kind
 kind_of [] = None
 kind_of (byte ∷ rest) = if byte == 0x60 then Some Init else if byte == 0xA1 then Some Resp else None
 
--- what is ignored behind the elements of a content, and inside a field
+-- what is ignored after the elements of a content, and inside a field
 abbrev pub with_rest : Spot → Sheet → Sheet
 with_rest place page = with_ignored page.depth (offset place) place.rest page
 
 abbrev pub with_rest_inside : Spot → Sheet → Sheet
 with_rest_inside place page = with_ignored (deeper page.depth) (offset place) place.rest page
 
--- an optional field, which begins with this tag where it is there
+-- an optional field, which begins with this tag if it is present
 abbrev pub if_next : {A : Type 0} → ℕ → (Sheet → Spot → Told A) → Sheet → Spot → Told (Option A)
 if_next tag field page place =
     if is_next tag place.rest
@@ -58,7 +58,7 @@ mech_told page list = do
     place = mech.place;
   })
 
--- at most so many object identifiers
+-- at most this many object identifiers
 abbrev pub mechs_up_to : ℕ → Sheet → Spot → Told (List (List ℕ))
 mechs_up_to zero page list = Goes (record { page = page; value = []; place = list })
 mechs_up_to (suc most) page list =
@@ -70,7 +70,7 @@ mechs_up_to (suc most) page list =
     )
     else Goes (record { page = page; value = []; place = list })
 
--- each takes a byte at least
+-- each takes at least one byte
 unfoldable pub mechs_told : Sheet → Spot → Told (List (List ℕ))
 mechs_told page list = mechs_up_to (length list.rest) page list
 
@@ -86,7 +86,7 @@ mech_types_field page place = do
     place = field.place;
   })
 
--- a field that the reader passes over
+-- a field that the reader skips
 unfoldable pub whole_field : ℕ → Field → Sheet → Spot → Told (List ℕ)
 whole_field tag field page place = do
   content ← element_told tag field page place
@@ -97,7 +97,7 @@ whole_field tag field page place = do
     place = content.place;
   })
 
--- an element with this tag inside a field, as its value is told
+-- an element with this tag inside a field, with the text of its value
 unfoldable pub inner_field : ℕ → ℕ → Field → (List ℕ → List ℕ) → Sheet → Spot → Told (List ℕ)
 inner_field tag inner field value_text page place = do
   inside ← inside_told tag field page place
@@ -200,7 +200,7 @@ resp_told page place = do
     place = frame.place;
   })
 
--- the page that tells a token, with what follows it; or the fault
+-- the page that explains a token, with what follows it; or the fault
 abbrev pub page_of : {A : Type 0} → Told A → Told (Unit {0})
 page_of (Goes at) = Goes
     (record { page = with_rest at.place at.page; value = tt; place = at.place })

@@ -1,5 +1,5 @@
--- A walk through a message: it goes on with a value, or ends with the first fault, and what it read
--- stands on the page.
+-- A walk through a message: it goes on with a value, or ends with the first fault; what it has read
+-- is on the page.
 use Rattle.std.specs.Prelude.{◌≡◌, ℕ, ◌-◌, List, length, Result, Ok, Err}
 use Rattle.sspi_ber.specs.declared.wire_kind.WireKind.{WireKind}
 use Rattle.sspi_ber.specs.declared.wire_kind.WireKind.TheVariants as kinds
@@ -41,7 +41,7 @@ abbrev pub ◌>>=◌ : {A B : Type 0} → Told A → (At A → Told B) → Told 
 (Goes at) >>= next = next at
 (Ends page fault) >>= next = Ends page fault
 
--- what a reader's own piece gives, and the page that tells its fault
+-- what a reader's own piece gives, or the page that reports its fault
 abbrev pub told : {A : Type 0} → Sheet → Spot → (Fault → Sheet) → Read A → Told A
 told page place refuse (Ok x) =
     Goes (record { page = page; value = x.0; place = record place { rest = x.1 } })
@@ -52,26 +52,26 @@ abbrev pub read_of : {A : Type 0} → Told A → Read A
 read_of (Goes at) = Ok (at.value, at.place.rest)
 read_of (Ends page fault) = Err fault
 
--- a walk over a message in memory does as it is told here, up to out of memory
+-- a walk over a message in memory is as defined here, unless it runs out of memory
 abbrev pub Tells : {X A : Type 0} → (X → A) → Sheet → Spot → Result X Stop → Told A → Type 0
 Tells view page place (Ok x) walk =
     walk ≡ Goes (record { page = page; value = view x; place = place })
 Tells view page place (Err (Refused fault)) walk = walk ≡ Ends page (fault_of fault)
 Tells view page place (Err OutOfMemory) walk = Unit {0}
 
--- the same of a walk that hands out nothing of what it read
+-- the same for a walk that returns nothing of what it read
 abbrev pub TellsSome : {X A : Type 0} → Sheet → Spot → Result X Stop → Told A → Type 0
 TellsSome {A = A} page place (Ok x) walk = (value : A) ×
     (walk ≡ Goes (record { page = page; value = value; place = place }))
 TellsSome page place (Err (Refused fault)) walk = walk ≡ Ends page (fault_of fault)
 TellsSome page place (Err OutOfMemory) walk = Unit {0}
 
--- the walk is refused with this fault, and the page is so; or it is out of memory
+-- the walk is refused with this fault, and this holds of the page; or it ran out of memory
 abbrev pub IsRefused : stop.Fault → Stop → Type 0 → Type 0
 IsRefused fault (Refused other) P = (other ≡ fault) × P
 IsRefused fault OutOfMemory P = Unit {0}
 
--- the fault of a reader's kind
+-- the fault for a reader's error kind
 abbrev pub IsFaultOf : WireKind → stop.Fault → Type 0
 IsFaultOf kinds.UnexpectedEof fault = fault ≡ faults.Ended
 IsFaultOf kinds.InvalidData fault = fault ≡ faults.Invalid

@@ -1,4 +1,4 @@
-//! The names of the codes by which a server tells why it refused.
+//! The names of the codes with which a server reports why it refused.
 ghost use Rattle.std.specs.Prelude.{◌≡◌, string_bytes, option_map, IfOk};
 ghost use Rattle.sspi_explain.specs.Codes;
 ghost use Rattle.sspi_explain.specs.Codes.{code_digits, code_name, code_text, kind_code};
@@ -87,7 +87,7 @@ const KINDS: [ErrorKind; 76] = [
     ErrorKind::ApplicationProtocolMismatch,
 ];
 
-/// A code, and its name where it has one.
+/// A code, and its name if it has one.
 #[tactic(auto, unfolding(crate::specs::Codes::code_text))]
 pub(crate) fn code_text(alloc: Global, code: u32) -> Result<String, AllocError>
     ensures { IfOk result (λ text. string_bytes text ≡ code_text code) }
@@ -109,7 +109,7 @@ fn code_digits(alloc: Global, code: u32) -> Result<String, AllocError>
     hex::encode(alloc, &code.to_be_bytes())
 }
 
-/// The name of an NTSTATUS code, or else of the kind of which a server that refuses makes this
+/// The name of an NTSTATUS code, or else of the kind for which a server that refuses sends this
 /// code.
 #[tactic(auto, unfolding(crate::specs::Codes::code_name))]
 fn code_name(code: u32) -> Option<&'static str>
@@ -128,7 +128,7 @@ fn kind_name(code: u32) -> Option<&'static str>
     name_among(&KINDS, code)
 }
 
-/// The name of the first of these kinds of which a server that refuses makes this code.
+/// The name of the first of these kinds for which a server that refuses sends this code.
 fn name_among(kinds: &[ErrorKind], code: u32) -> Option<&'static str>
     ensures { option_map (λ name. name.now) result ≡ name_among kinds.now code }
 {
@@ -142,7 +142,7 @@ fn name_among(kinds: &[ErrorKind], code: u32) -> Option<&'static str>
     None
 }
 
-/// The code that a server makes of a kind.
+/// The code that a server sends for a kind.
 #[tactic(auto, unfolding(crate::specs::Codes::kind_code))]
 fn kind_code(kind: ErrorKind) -> u32
     ensures { result ≡ kind_code kind }

@@ -2,7 +2,7 @@
 ghost use Rattle.std.specs.Prelude.{◌≡◌};
 ghost use Rattle.sspi_explain.specs.Page;
 
-/// How many levels of a message stand around a line.
+/// How many levels of a message enclose a line.
 #[derive(Clone, Copy)]
 pub(crate) enum Depth {
     One,
@@ -11,7 +11,7 @@ pub(crate) enum Depth {
 }
 
 impl Depth {
-    /// One level more.
+    /// One level deeper.
     pub fn deeper(self) -> Depth
         ensures { result ≡ Page.deeper self }
     {

@@ -5,7 +5,7 @@ ghost use Rattle.sspi_explain.specs.Told.{fault_of};
 
 use crate::stop::Fault;
 
-/// A field of a TSRequest (MS-CSSP 2.2.1) or of a token (RFC 4178 4.2), or what stands around the
+/// A field of a TSRequest (MS-CSSP 2.2.1) or of a token (RFC 4178 4.2), or what encloses the
 /// fields.
 #[derive(Clone, Copy)]
 pub(crate) enum Field {
@@ -56,8 +56,8 @@ pub(crate) enum Form {
 }
 
 impl Form {
-    /// The name of the kind with which the reader refuses a fault in this field. Each fault of a
-    /// request's header counts as its end, and each of a token as an invalid token.
+    /// The name of the reader's error kind for a fault in this field. Any fault of a request's
+    /// header counts as an early end, and any fault of a token as an invalid token.
     pub fn kind(self, field: Field, fault: Fault) -> &'static str
         ensures { result.now ≡ kind_name self field (fault_of fault) }
     {

@@ -1,4 +1,4 @@
-//! What a reader finds in the place of a piece that it refuses.
+//! What a reader finds where it refuses a piece.
 ghost use Rattle.std.specs.Prelude.{◌≡◌, ◌≤◌, length, string_bytes, IfOk};
 ghost use Rattle.sspi_ber.specs.Forms.{big_endian, is_integer_size};
 ghost use Rattle.sspi_explain.specs.Found.{found_text, found_in_header, found_in_integer};
@@ -12,21 +12,21 @@ use std::alloc::{AllocError, Global};
 /// What is wrong with a piece.
 #[derive(Clone, Copy)]
 pub(crate) enum Found {
-    /// Another identifier octet than the one that is wanted.
+    /// An identifier octet other than the expected one.
     Tag(u8, u8),
-    /// No byte where this identifier octet is wanted.
+    /// No byte where this identifier octet is expected.
     NoTag(u8),
-    /// A length whose first octet is none of a length here.
+    /// A length whose first octet is not allowed here.
     LengthOctet(u8),
     /// A length that ends too early.
     NoLength,
     /// A length above the limit.
     LongLength(u32),
-    /// An INTEGER of so many bytes.
+    /// An INTEGER of this many bytes.
     Integer(u32),
-    /// A nonce of so many bytes.
+    /// A nonce of this many bytes.
     Nonce(u32),
-    /// So many bytes where only so many are left.
+    /// How many bytes are needed, and how many are left.
     Short(u32, usize),
 }
 
@@ -86,7 +86,7 @@ fn octet_text(alloc: Global, octet: u8) -> Result<String, AllocError>
     hex::encode(alloc, &[octet])
 }
 
-/// What is wrong with a header of this tag that was refused, and how many bytes are left there.
+/// What is wrong with a refused header of this tag, and how many bytes are left there.
 #[tactic(auto, unfolding(crate::specs::Found::found_in_header))]
 pub(crate) fn found_in_header(tag: u8, bytes: &[u8]) -> (usize, Found)
     ensures { (result.0, result.1) ≡ found_in_header tag bytes.now }
@@ -103,7 +103,7 @@ pub(crate) fn found_in_header(tag: u8, bytes: &[u8]) -> (usize, Found)
     }
 }
 
-/// What is wrong with a length that was refused.
+/// What is wrong with a refused length.
 #[tactic(auto, unfolding(crate::specs::Found::found_in_length))]
 fn found_in_length(bytes: &[u8]) -> Found
     ensures { result ≡ found_in_length bytes.now }
@@ -114,7 +114,7 @@ fn found_in_length(bytes: &[u8]) -> Found
     }
 }
 
-/// What is wrong with a length of so many octets behind its first.
+/// What is wrong with a length that has `count` octets after its first.
 fn found_in_octets(first: u8, count: u8, rest: &[u8]) -> Found
     ensures { result ≡ found_in_octets first count rest.now }
 {
@@ -128,7 +128,7 @@ fn found_in_octets(first: u8, count: u8, rest: &[u8]) -> Found
     Found::LongLength(big_endian(&rest[..count]))
 }
 
-/// The number that a few octets stand for, the first the highest.
+/// The number that up to three octets encode, highest first.
 fn big_endian(octets: &[u8]) -> u32
     requires { length octets.now ≤ 3 }
     ensures { result ≡ big_endian octets.now }
@@ -140,7 +140,7 @@ fn big_endian(octets: &[u8]) -> u32
     number
 }
 
-/// What is wrong with an INTEGER that was refused, and how many bytes are left there.
+/// What is wrong with a refused INTEGER, and how many bytes are left there.
 #[tactic(auto, unfolding(crate::specs::Found::found_in_integer))]
 pub(crate) fn found_in_integer(bytes: &[u8]) -> (usize, Found)
     ensures { (result.0, result.1) ≡ found_in_integer bytes.now }

@@ -1,4 +1,4 @@
-//! Object identifiers as numbers between dots (X.690 8.19), and the mechanisms that they name.
+//! Object identifiers as numbers separated by dots (X.690 8.19), and the mechanisms that they name.
 ghost use Rattle.std.specs.Prelude.{◌≡◌, string_bytes, option_map, Some, IfOk};
 ghost use Rattle.sspi_explain.specs.Identifier.{first_text, identifier_text, mech_name, named};
 ghost use Rattle.sspi_explain.specs.Identifier.{numbers_text};
@@ -7,10 +7,10 @@ ghost use Rattle.sspi_explain.specs.Identifier.{numbers_text_of, subidentifiers_
 use crate::texts::content_text;
 use std::alloc::{AllocError, Global};
 
-/// From this value on one more octet would be the tenth.
+/// From this value on, one more octet would be the tenth.
 const NINE_OCTETS: u64 = 0x100_0000_0000_0000;
 
-/// An identifier: its numbers, and its name where it has one; or that it is none.
+/// An identifier: its numbers, and its name if it has one; or that it is not one.
 #[tactic(auto, unfolding(crate::specs::Identifier::identifier_text))]
 pub(crate) fn identifier_text(alloc: Global, content: &[u8]) -> Result<String, AllocError>
     ensures { IfOk result (λ text. string_bytes text ≡ identifier_text content.now) }
@@ -54,7 +54,7 @@ fn name_of(content: &[u8]) -> Option<&'static str>
     None
 }
 
-/// The numbers of an identifier between dots.
+/// The numbers of an identifier, separated by dots.
 #[tactic(auto, unfolding(crate::specs::Identifier::numbers_text))]
 fn numbers_text(alloc: Global, content: &[u8]) -> Result<Option<String>, AllocError>
     ensures { IfOk result
@@ -81,7 +81,7 @@ fn dotted(alloc: Global, numbers: &[u64]) -> Result<Option<String>, AllocError>
     Ok(Some(text))
 }
 
-/// The first two numbers, which are one subidentifier: forty times the first, and the second.
+/// The first two numbers, encoded as one subidentifier: forty times the first, plus the second.
 fn first_text(alloc: Global, first: u64) -> Result<String, AllocError>
     ensures { IfOk result (λ text. string_bytes text ≡ first_text first) }
 {
@@ -96,8 +96,8 @@ fn first_text(alloc: Global, first: u64) -> Result<String, AllocError>
     format!(in alloc; "2.{second}")
 }
 
-/// The subidentifiers of a content, seven bits an octet; none where one is not the shortest, has
-/// more than nine octets, or does not end.
+/// The subidentifiers of a content, seven bits an octet; `None` if one is not in its shortest form,
+/// has more than nine octets, or does not end.
 #[tactic(auto, using(crate::proofs::Subidentifiers::one_more))]
 fn subidentifiers(alloc: Global, content: &[u8]) -> Result<Option<Vec<u64>>, AllocError>
     ensures { IfOk result

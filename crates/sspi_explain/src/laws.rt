@@ -1,5 +1,5 @@
-//! What follows from the definitions alone: a message is told as its reader reads it. Each law is
-//! the contract of a call that does nothing.
+//! What follows from the definitions alone: a message is explained as its reader reads it. Each law
+//! is the contract of a call that does nothing.
 ghost use Rattle.std.specs.Prelude.{◌≡◌, ℕ, List, [], ◌∷◌, ◌++◌, Ok, Err, Some};
 ghost use Rattle.hex.specs.Hex.{decode_of};
 ghost use Rattle.hex.specs.declared.error.FromHexError.{FromHexError};
@@ -14,24 +14,24 @@ ghost use Rattle.sspi_explain.specs.Request.{request_told};
 ghost use Rattle.sspi_explain.specs.Token.{init_told, resp_told};
 ghost use Rattle.sspi_explain.specs.Told.{Spot, read_of};
 
-/// A request is told exactly as it is read: by its fields exactly where `TsRequest::from_buffer`
-/// accepts it, with the values that it answers, and as refused with its kind where it refuses.
+/// A request is explained exactly as it is read: by fields where `TsRequest::from_buffer` accepts
+/// it, with the values that it returns; as refused, with the same kind, where it refuses.
 pub fn requests_are_told_as_read()
     ensures { (page : Sheet) (place : Spot) →
         read_of (request_told page place) ≡ request_at place.rest }
 {}
 
-/// The same of a NegTokenInit and `NegTokenInit::decode`.
+/// The same for a NegTokenInit and `NegTokenInit::decode`.
 pub fn init_tokens_are_told_as_read()
     ensures { (page : Sheet) (place : Spot) → read_of (init_told page place) ≡ init_at place.rest }
 {}
 
-/// The same of a NegTokenResp and `NegTokenTarg::decode`.
+/// The same for a NegTokenResp and `NegTokenTarg::decode`.
 pub fn resp_tokens_are_told_as_read()
     ensures { (page : Sheet) (place : Spot) → read_of (resp_told page place) ≡ targ_at place.rest }
 {}
 
-/// A line that is no hex of a message stands as it was.
+/// A line that is not the hex of a message is left as it was.
 pub fn other_lines_stand()
     ensures no_hex { (line : List ℕ) (error : FromHexError) → decode_of (digits_of line) ≡ Err error
         → explained_line line ≡ as_it_is line }
@@ -46,7 +46,7 @@ pub fn marks_are_kept()
         → (text : List ℕ) × (explained_line line ≡ mark_of line ++ text) }
 {}
 
-/// The code that a server makes of a kind is told by the name of that kind.
+/// The code that a server sends for a kind is explained by the name of that kind.
 pub fn codes_tell_their_kinds()
     ensures { (kind : ErrorKind) → kind_name (kind_code kind) ≡ Some (error_kind_name kind) }
 {}

@@ -1,7 +1,7 @@
 //! What a message of CredSSP or SPNEGO says, or where and why its reader refuses it.
 //!
-//! - `explain` tells the messages of a text in words; every other line stands as it was.
-//! - `laws`: a message is told as its reader reads it.
+//! - `explain` puts the messages of a text into words; every other line is left as it was.
+//! - `laws`: a message is explained as its reader reads it.
 #![tactic(auto)]
 
 mod codes;

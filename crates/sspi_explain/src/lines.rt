@@ -1,4 +1,4 @@
-//! A text whose lines of hex are told in words.
+//! A text whose lines of hex are explained in words.
 ghost use Rattle.std.specs.Prelude.{◌≡◌, ◌≢◌, ◌<◌, ◌==◌, [], ◌∷◌, ◌++◌, length, IfOk, OnOk};
 ghost use Rattle.sspi_explain.specs.Explained.{as_it_is, digits_of, explained, explained_line};
 ghost use Rattle.sspi_explain.specs.Explained.{lines_of, mark_of};
@@ -7,14 +7,14 @@ use crate::message::push_message;
 use hex::FromHexError;
 use std::alloc::{AllocError, Global};
 
-/// The text with what its messages say in the place of their lines.
+/// The text, with the line of each message replaced by what the message says.
 ///
-/// A message is a line of an even number of hex digits of either case, alone or behind one of `> `,
-/// `< ` and `! `, as reports of this program have it. What it says is a line that names it with its
+/// A message is a line with an even number of hex digits of either case. It may follow one of the
+/// marks `> `, `< ` and `! ` of this program's reports. What it says is a line with its name and
 /// length, and a line for each field: its offset in the message, its name and its value. What a
-/// reader ignores is told as `ignored`; where it refuses the message, the last line tells the
-/// offset, the kind of its error, the field, and what was found. Every other line stands as it was.
-/// Each line that is written ends with LF. Fails only when it is out of memory.
+/// reader ignores is shown as `ignored`. Where it refuses the message, the last line has the
+/// offset, the error kind, the field, and what was found. Every other line is left as it was. Each
+/// line written ends with LF. Fails only when out of memory.
 #[tactic(auto, unfolding(crate::specs::Explained::explained, crate::specs::Explained::lines_of))]
 pub fn explain(alloc: Global, text: &str) -> Result<Vec<u8>, AllocError>
     ensures { IfOk result (λ told. told.items ≡ explained text.now) }
@@ -35,7 +35,7 @@ fn is_end(text: &str) -> bool
     text.is_empty()
 }
 
-/// The first line, and what stands behind its LF.
+/// The first line, and what follows its LF.
 fn first_line(text: &str) -> (&str, &str)
     requires { text.now ≢ [] }
     ensures lines { lines_of text.now ≡ result.0.now ∷ lines_of result.1.now }

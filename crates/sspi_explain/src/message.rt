@@ -16,7 +16,7 @@ use crate::texts::{content_text, count_text};
 use crate::token::{Kind, kind_of, tell_token};
 use std::alloc::{AllocError, Global};
 
-/// Appends what a message says, behind what its line begins with.
+/// Appends what a message says, after the mark of its line.
 #[tactic(auto, unfolding(crate::specs::Message::message_text))]
 pub(crate) fn push_message(
     alloc: Global,
@@ -36,7 +36,7 @@ pub(crate) fn push_message(
     }
 }
 
-/// The first line: what the message is, and how long.
+/// The first line: what the message is, and its length.
 fn push_first(
     alloc: Global,
     text: &mut Vec<u8>,

@@ -1,4 +1,4 @@
-//! The page that an explanation is written on.
+//! The page on which an explanation is written.
 ghost use Rattle.std.specs.Prelude.{◌≡◌, OnOk, IfOk, []};
 ghost use Rattle.sspi_explain.specs.Page.{refused, with_content, with_field, with_ignored};
 ghost use Rattle.sspi_explain.specs.Page.{with_line, with_text};
@@ -12,10 +12,10 @@ use std::alloc::{AllocError, Global};
 use std::fmt::Write;
 use std::marker::Model;
 
-/// How many bytes the lines of most messages take at most.
+/// Enough bytes for the lines of most messages.
 const ROOM: usize = 512;
 
-/// What is told so far of a message, and how its fields are told.
+/// What has been said of a message so far, and how its fields are shown.
 #[derive(Drop)]
 pub(crate) struct Page {
     pub alloc: Global,
@@ -47,7 +47,7 @@ impl Page {
         })
     }
 
-    /// A line: its indentation, an offset, and what stands there.
+    /// A line: its indentation, an offset, and what is there.
     pub fn line(&mut self, depth: Depth, at: usize, said: &str) -> Result<(), AllocError>
         ensures { OnOk result (self.new ≡ with_line depth at said.now self.old) }
     {
@@ -55,7 +55,7 @@ impl Page {
         write!(self.text, "{blanks}{at} {said}\n")
     }
 
-    /// Lines that are told elsewhere.
+    /// Lines that were composed elsewhere.
     pub fn push(&mut self, text: &str) -> Result<(), AllocError>
         ensures { OnOk result (self.new ≡ with_text text.now self.old) }
     {
@@ -79,7 +79,7 @@ impl Page {
         self.field(at, field, &value)
     }
 
-    /// What a reader ignores, where there is something.
+    /// What a reader ignores, if anything.
     pub fn ignored(&mut self, depth: Depth, at: usize, bytes: &[u8]) -> Result<(), AllocError>
         ensures { OnOk result (self.new ≡ with_ignored depth at bytes.now self.old) }
     {
@@ -91,7 +91,7 @@ impl Page {
         write!(self.text, "{blanks}{at} ignored {content}\n")
     }
 
-    /// Tells that the message is refused, where and why.
+    /// Reports that the message is refused, where and why.
     pub fn refuse(&mut self, at: usize, field: Field, fault: Fault, why: &str) -> Stop
         ensures { IsRefused fault result (self.new ≡ refused
             at field (fault_of fault) why.now self.old) }

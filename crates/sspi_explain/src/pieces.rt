@@ -1,5 +1,5 @@
-//! The pieces that every message is read by, each by the reader's own call; one that is refused is
-//! looked at again.
+//! The pieces from which every message is read, each with the reader's own call; a refused piece is
+//! examined again.
 ghost use Rattle.std.specs.Prelude.{◌≡◌, [], ◌∷◌};
 ghost use Rattle.sspi_ber.specs.Pieces.{Ended, Invalid};
 ghost use Rattle.sspi_explain.specs.Pieces.{bytes_told, element_told, header_told, inside_told};
@@ -23,7 +23,7 @@ fn fault_of(kind: WireKind) -> Fault
     }
 }
 
-/// Tells what was found where so many bytes are left of a content that ends at this offset.
+/// Reports what was found, with the number of bytes left there of a content that ends at `end`.
 fn refuse(page: &mut Page, end: usize, field: Field, found: (usize, Found), fault: Fault) -> Stop
     ensures { IsRefused fault result
         (page.new ≡ refused_as page.old end field (found.0, found.1) (fault_of fault)) }
@@ -54,7 +54,7 @@ pub(crate) fn header(
     }
 }
 
-/// So many bytes.
+/// This many bytes.
 #[tactic(auto, unfolding(crate::specs::Pieces::bytes_told))]
 pub(crate) fn bytes<'a>(
     page: &mut Page,
@@ -75,7 +75,7 @@ pub(crate) fn bytes<'a>(
     }
 }
 
-/// A tag, a length, and so many bytes, which are the answer.
+/// A tag, a length, and that many bytes, which are the answer.
 #[tactic(auto, unfolding(crate::specs::Pieces::element_told))]
 pub(crate) fn element<'a>(
     page: &mut Page,
@@ -105,7 +105,7 @@ pub(crate) fn enter<'a>(
     Ok(Place::new(content, place.offset()))
 }
 
-/// The length behind this tag, where it comes next.
+/// The length after this tag, if the tag comes next.
 #[tactic(auto, unfolding(crate::specs::Pieces::there_told))]
 pub(crate) fn there(
     page: &mut Page,

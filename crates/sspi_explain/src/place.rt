@@ -1,4 +1,4 @@
-//! Where a walk stands in a message.
+//! The position of a walk in a message.
 ghost use Rattle.std.specs.Prelude.{◌≡◌};
 ghost use Rattle.sspi_tokens.specs.Reading.{is_next};
 ghost use Rattle.sspi_explain.specs.Told.{offset, spot};

@@ -19,7 +19,7 @@ use crate::texts::count_text;
 use crate::token::{self, Kind};
 use std::alloc::{AllocError, Global};
 
-/// Tells the request that comes next, and what is ignored behind it.
+/// Explains the request that comes next, and what is ignored after it.
 #[tactic(auto, unfolding(crate::specs::Request::request_told))]
 pub(crate) fn tell_request(page: &mut Page, place: &mut Place<'_>) -> Result<(), Stop>
     ensures { TellsSome page.new place.new result (request_told page.old place.old) }
@@ -33,7 +33,7 @@ pub(crate) fn tell_request(page: &mut Page, place: &mut Place<'_>) -> Result<(),
     Ok(())
 }
 
-/// The header of the request. Each of its faults counts as the end.
+/// The header of the request. Any fault of it counts as an early end.
 fn outer_header(page: &mut Page, place: &mut Place<'_>) -> Result<u32, Stop>
     ensures { Tells (λ len. len) page.new place.new result
         (as_ended (header_told 0x30 Field.Header page.old place.old)) }
@@ -71,7 +71,7 @@ fn tell_version(page: &mut Page, place: &mut Place<'_>) -> Result<u32, Stop>
     Ok(version)
 }
 
-/// The first item of the list of tokens, and the fields of the token where it is one of SPNEGO.
+/// The first item of the list of tokens, and its fields if it is an SPNEGO token.
 #[tactic(auto, unfolding(crate::specs::Request::nego_tokens_told))]
 fn tell_nego_tokens(page: &mut Page, place: &mut Place<'_>) -> Result<(), Stop>
     ensures { TellsSome page.new place.new result (nego_tokens_told page.old place.old) }
@@ -134,7 +134,7 @@ fn nested_text(alloc: Global, kind: Kind, content: &[u8]) -> Result<String, Allo
     Ok(text)
 }
 
-/// The fields of the token of this kind that a content begins with, where it does.
+/// The fields of the token of this kind with which a content begins, if it does.
 #[tactic(auto, unfolding(crate::specs::Request::nested_fields))]
 fn nested(
     alloc: Global,

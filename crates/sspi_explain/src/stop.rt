@@ -26,7 +26,7 @@ impl Fault {
 
 #[derive(Clone, Copy)]
 pub(crate) enum Stop {
-    /// The message is refused, and the page tells where and why.
+    /// The message is refused, and the page says where and why.
     Refused(Fault),
     OutOfMemory,
 }

@@ -37,7 +37,7 @@ impl Kind {
     }
 }
 
-/// Which token bytes like these may be, by the first of them.
+/// The kind of token that these bytes may be, by their first.
 pub(crate) fn kind_of(content: &[u8]) -> Option<Kind>
     ensures { result ≡ Token.kind_of content.now }
 {
@@ -48,7 +48,7 @@ pub(crate) fn kind_of(content: &[u8]) -> Option<Kind>
     }
 }
 
-/// Tells the token that comes next, and what is ignored behind it.
+/// Explains the token that comes next, and what is ignored after it.
 #[tactic(auto, unfolding(crate::specs::Token::token_told))]
 pub(crate) fn tell_token(page: &mut Page, place: &mut Place<'_>, kind: Kind) -> Result<(), Stop>
     ensures { Tells (λ it. it) page.new place.new result (token_told kind page.old place.old) }
@@ -67,7 +67,7 @@ pub(crate) fn tell_token(page: &mut Page, place: &mut Place<'_>, kind: Kind) -> 
     }
 }
 
-/// What is ignored behind the elements of a content.
+/// What is ignored after the elements of a content.
 fn tell_rest(page: &mut Page, place: &Place<'_>) -> Result<(), AllocError>
     ensures { OnOk result (page.new ≡ with_rest place.now page.old) }
 {
@@ -201,7 +201,7 @@ fn tell_mech<'a>(page: &mut Page, list: &mut Place<'a>) -> Result<&'a [u8], Stop
     Ok(mech)
 }
 
-/// A field that the reader passes over.
+/// A field that the reader skips.
 #[tactic(auto, unfolding(crate::specs::Token::whole_field))]
 fn tell_whole(page: &mut Page, place: &mut Place<'_>, tag: u8, field: Field) -> Result<(), Stop>
     ensures { TellsSome page.new place.new result
