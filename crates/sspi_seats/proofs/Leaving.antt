@@ -1,4 +1,4 @@
--- What a client and its server are as a seat.
+-- What holds of a client and its server as a seat.
 use Rattle.std.proofs.Common.{◌≡◌, ℕ, suc, ◌+◌, ◌⊎◌, inl, inr, ◌≤◌, List, [], ◌∷◌, ◌++◌, length}
 use Rattle.std.proofs.Common.{reverse, Option, None, Some, Err, refl, sym, ap, ◌∙◌, subst, arith}
 use Rattle.std.proofs.lemmas.List.{reverse-reverse, length-append, length-reverse}
@@ -38,7 +38,7 @@ use Rattle.sspi_seats.specs.declared.seat.SeatOutcome.{SeatOutcome}
 use Rattle.sspi_seats.specs.declared.seat.SeatOutcome.TheVariants as seats
 use Rattle.sspi_seats.proofs.Lists.{last_or_before, get_at, has_element, no_element}
 
--- as many calls as turns
+-- there are as many calls as turns
 pub served_count : (turns : List Turn) (calls : List (List ℕ)) (answers : List _) → AreServed turns calls answers →
     length calls ≡ length turns
 served_count [] [] [] served = refl
@@ -72,7 +72,7 @@ module _ {C D : Type 0} (c : Meaning ContextSetting C) (k : KdcCalls D) (first n
   outcome_cause law p (seats.Write end) fresh others came = tt
   outcome_cause law p seats.TurnsSpent fresh others came = tt
 
-  -- `server` and its proxy are any
+  -- for any `server` and its proxy
   runs_by : {P : Type 0} (law : IsContext c) (p : ProxyMeaning P) (server : ServerView C P) (out : SeatOutcome) → IsFreshClient first →
       AreClients turns → OthersGoOn turns → ClientCame c k first kdc out turns now kdc2 → ClientRuns c k first kdc out turns now kdc2
   runs_by law p server out fresh own others came =
@@ -92,7 +92,7 @@ module _ {C D : Type 0} (c : Meaning ContextSetting C) (k : KdcCalls D) (first n
 
 module _ {N K P D : Type 0} (c : Meaning ContextSetting (SspiContext N K)) (p : ProxyMeaning P) (k : KdcCalls D)
     (came : Place (SspiContext N K) P D) where
-  -- the same of a client that could go on
+  -- the same for a client that could go on
   ended_by : (limit : ℕ) (guest : Guest N K D) (next : Option TsRequest) → StandsBy c p k came next limit guest →
       Shows limit guest.outcome guest.transcript.turns (reverse guest.calls) (reverse guest.answers)
       × ClientCame c k came.client came.kdc guest.outcome guest.transcript.turns guest.client guest.kdc
@@ -145,7 +145,7 @@ module _ {N K P D : Type 0} (c : Meaning ContextSetting (SspiContext N K)) (p : 
     seated = visited.seated;
   }
 
-  -- so many have left, each has the seat of its place, and the others have their sessions
+  -- this many have left, each has the seat of its place, and the others have their sessions
   pub record HaveLeft (first : DeskView (SspiContext N K) P) (gone : ℕ) (seats : List (Seat N K P D))
       (desk : DeskView (SspiContext N K) P) : Type 0 where
     pub count : length seats ≡ gone
@@ -186,7 +186,7 @@ module _ {N K P D : Type 0} (c : Meaning ContextSetting (SspiContext N K)) (p : 
         guest.number ≡ length gone
     next_numbered rest guests parts kept = kept.numbered (length gone) guest (there rest guests parts)
 
-    -- the client that leaves stands with its server
+    -- the session of the client that leaves is kept
     pub next_kept : (rest guests : List (Guest N K D)) → gone ++ guest ∷ rest ≡ guests → AreKept c p k cames limit guests first →
         IsKept c p k came limit guest (session guest.number desk)
     next_kept rest guests parts kept =

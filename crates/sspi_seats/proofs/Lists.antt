@@ -1,4 +1,4 @@
--- Lists, of which one element more or another one is known.
+-- Lists with one more element, or with one replaced.
 use Rattle.std.proofs.Common.{◌≡◌, ◌≢◌, ℕ, suc, ◌<◌, ◌⊎◌, inl, inr, List, [], ◌∷◌, ◌++◌, length, reverse, Some, refl, sym, ap, ◌∙◌}
 use Rattle.std.proofs.Common.{append-nil, arith, slice_set}
 use Rattle.std.specs.List.{slice_get}
@@ -8,7 +8,7 @@ use Rattle.std.proofs.lemmas.List.{reverse-append}
 pub reverse_push : {A : Type 0} (xs : List A) (x : A) → reverse (xs ++ x ∷ []) ≡ x ∷ reverse xs
 reverse_push xs x = reverse-append xs (x ∷ [])
 
--- where nothing is left
+-- if nothing is left
 pub front_is_all : {A : Type 0} (front rest all : List A) → length rest ≡ 0 → front ++ rest ≡ all → front ≡ all
 front_is_all front [] all none parts = sym (append-nil front) ∙ parts
 front_is_all front (x ∷ rest) all none parts = absurd (omega arith)

@@ -1,4 +1,4 @@
--- The kind of outcome that turns, calls and answers show, told from them alone.
+-- The kind of outcome that turns, calls and answers show, found from them alone.
 use Rattle.std.proofs.Common.{◌≡◌, ℕ, ◌+◌, List, [], ◌∷◌, length, Option, None, Some, Result, Ok, Err, refl, sym, ap, ◌∙◌, arith}
 use Rattle.std.specs.Prelude.{◌==◌, if◌then◌else◌}
 use Rattle.std.proofs.lemmas.Bool.{eq-eqb, ne_eqb}
@@ -28,12 +28,12 @@ use Rattle.sspi_seats.proofs.Leaving.{served_count}
 use Rattle.sspi_seats.specs.declared.seat.SeatOutcome.{SeatOutcome}
 use Rattle.sspi_seats.specs.declared.seat.SeatOutcome.TheVariants as seats
 
--- of bytes: no request, or one
+-- of bytes: not a request, or one
 abbrev read_kind : Option Fault → ℕ
 read_kind None = 7
 read_kind (Some f) = 3
 
--- of the newest answer, where every turn was served
+-- of the newest answer, if every turn was served
 abbrev kind_by : Result Served DeskError → ℕ
 kind_by (Ok (Answer text)) = read_kind (fault text)
 kind_by (Ok (Finished identity)) = 0
@@ -47,7 +47,7 @@ abbrev answer_kind : List (Result Served DeskError) → ℕ
 answer_kind [] = 7
 answer_kind (answer ∷ past) = kind_by answer
 
--- of the newest turn, where it was not served
+-- of the newest turn, if it was not served
 abbrev refused_kind : Outcome → ℕ
 refused_kind (outcome.Reply reply) = 5
 refused_kind (outcome.Final reply) = 5

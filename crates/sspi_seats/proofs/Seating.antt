@@ -150,7 +150,7 @@ module _ {N K P D : Type 0} (c : Meaning ContextSetting (SspiContext N K)) (p : 
         subst (λ (x : Guest N K D). x.number ≡ at) is number ∙ sym same
     seat_numbered i g found false equal = visited.numbered i g (sym (apart i (eqb-false i at equal)) ∙ found)
 
-    -- the client of one seat more has had its round
+    -- one more client has had its round
     pub seat_visited : length new.guests.items ≡ length old.guests.items → AreVisited c p k cames rounds (at + 1) new
     seat_visited many = record {
       early = λ i came g place found before. early_seat i came g place found before (eqb i at) refl;
@@ -186,7 +186,7 @@ module _ {N K P D : Type 0} (c : Meaning ContextSetting (SspiContext N K)) (p : 
       seated = visited.seated;
     }
 
-    -- where none runs, further rounds change nothing
+    -- if none runs, further rounds change nothing
     pub rest_over : (rounds later : ℕ) (sessions : Sessions N K P D) → AreVisited c p k cames rounds 0 sessions → rounds ≤ later →
         list_any (λ guest. is_some guest.next) sessions.guests.items ≡ false → AreVisited c p k cames later 0 sessions
     rest_over rounds later sessions visited more none = record {

@@ -1,4 +1,4 @@
--- What a client's message, and the answer that the desk gives to it, make of its seat.
+-- How a client's message, and the desk's answer to it, change its seat.
 use Rattle.std.proofs.Common.{◌≡◌, ℕ, List, [], ◌∷◌, ◌++◌, length, reverse, Option, None, Some, Result, Ok, Err, refl, sym, subst, arith}
 use Rattle.std.specs.Prelude.{false, IfOk, OnOk}
 use Rattle.sspi_mech.specs.Meaning.{Meaning}
@@ -40,7 +40,7 @@ use Rattle.sspi_seats.specs.declared.seat.SeatOutcome.{SeatOutcome}
 use Rattle.sspi_seats.specs.declared.seat.SeatOutcome.TheVariants as seats
 use Rattle.sspi_seats.proofs.Lists.{reverse_push}
 
--- where a call ended well
+-- if a call succeeded
 pub kept_done : {E : Type 0} {P Q : Type 0} (done : Result (Unit {0}) E) → (P → Q) → OnOk done P → OnOk done Q
 kept_done (Ok done) more holds = more holds
 kept_done (Err error) more holds = tt
@@ -68,7 +68,7 @@ sent_by {E} (outcome.Final reply) said bytes goes is speaks = subst (λ (s : Res
 sent_by outcome.Finished said bytes goes is speaks = absurd goes
 sent_by (outcome.Refused kind reply) said bytes goes is speaks = absurd goes
 
--- one turn more was served
+-- one more turn was served
 pub speaks_sent : {E : Type 0} (turns : List Turn) (said : Result (Option (List ℕ)) E) (bytes : List ℕ) (answer : Result Served DeskError) →
     AllGoOn turns → said ≡ Ok (Some bytes) → Speaks turns said → (calls : List (List ℕ)) (answers : List (Result Served DeskError)) →
     AreServedButLast turns calls answers → AreServed turns (bytes ∷ calls) (answer ∷ answers)

@@ -34,7 +34,7 @@ own_more : (end : End) (t : Turn) (past : List Turn) → end ≡ Client → AreC
     (onto_client end t (client_turns past) ≡ t ∷ past) × (onto_server end t (server_turns past) ≡ [])
 own_more end t past is own = rw is (ap (λ (l : List Turn). t ∷ l) own.all, own.none)
 
--- of a turn that was added, of which P holds
+-- for an added turn of which P holds
 pub pushed_own : (d : TsRequest) (P : Outcome → Type 0) (old new : List Turn) → PushedSuch Client d P old new → AreClients old →
     AreClients new
 pushed_own d P old [] pushed own = absurd pushed
@@ -90,7 +90,7 @@ module _ {N K P D : Type 0} (c : Meaning ContextSetting (SspiContext N K)) (p : 
 
   -- ---- a turn
 
-  -- a client that goes on has a message, which was not served yet
+  -- a client that goes on has a message that has not been served yet
   pub turn_speaks : (rounds : ℕ) (request : TsRequest) (guest : Guest N K D) (client : ClientView (SspiContext N K)) (kdc : D)
       (transcript : TranscriptView) (next : Option TsRequest) → Runs c p k came rounds request guest →
       PushedSuch Client request GoesOn guest.transcript.turns transcript.turns →
@@ -167,7 +167,7 @@ module _ {N K P D : Type 0} (c : Meaning ContextSetting (SspiContext N K)) (p : 
         (stands_later rounds later guest guest.next more none visited.stands);
   }
 
-  -- a round changes nothing of it
+  -- a round does not change it
   pub kept_later : (rounds later : ℕ) (guest : Guest N K D) (server : Option (ServerView (SspiContext N K) P)) → rounds ≤ later →
       guest.next ≡ None → IsKept c p k came rounds guest server → IsKept c p k came later guest server
   kept_later rounds later guest None more none kept = absurd kept
@@ -182,7 +182,7 @@ module _ {N K P D : Type 0} (c : Meaning ContextSetting (SspiContext N K)) (p : 
       let same : next ≡ request = cc (is) in
       subst (λ (r : TsRequest). Runs c p k came rounds r guest) same stands
 
-  -- its session is kept, and its server stands with it
+  -- its session is kept, and its server served only its calls
   pub record RunsAt (rounds : ℕ) (request : TsRequest) (guest : Guest N K D) (at : Option (ServerView (SspiContext N K) P)) : Type 0 where
     pub server : ServerView (SspiContext N K) P
     pub found : at ≡ Some server

@@ -1,4 +1,4 @@
--- What holds of a client and its session between two rounds; of lists, the newest is the first.
+-- What holds of a client and its session between two rounds; its turns are newest first.
 use Rattle.std.specs.Prelude.{◌≡◌, ℕ, ◌≤◌, List, [], length, reverse, Option, None, Some}
 use Rattle.sspi_mech.specs.Meaning.{Meaning}
 use Rattle.sspi_tsreq.specs.declared.request.TsRequest.{TsRequest}
@@ -40,7 +40,7 @@ module _ {N K P D : Type 0} (c : Meaning ContextSetting (SspiContext N K)) (p : 
     pub served : AreServed guest.transcript.turns (reverse guest.calls) (reverse guest.answers)
     pub next : IsNext (reverse guest.answers) request
 
-  -- a client that came to its outcome
+  -- a client that has come to its outcome
   pub record HasEnded (rounds : ℕ) (guest : Guest N K D) : Type 0 where
     pub shown : (limit : ℕ) → Shows limit guest.outcome guest.transcript.turns (reverse guest.calls)
         (reverse guest.answers)
@@ -54,7 +54,7 @@ module _ {N K P D : Type 0} (c : Meaning ContextSetting (SspiContext N K)) (p : 
   StandsBy (Some request) rounds guest = Runs rounds request guest
   StandsBy None rounds guest = HasEnded rounds guest
 
-  -- a client and its server after so many rounds
+  -- a client and its server after this many rounds
   pub record IsVisited (rounds : ℕ) (guest : Guest N K D)
       (server : ServerView (SspiContext N K) P) : Type 0 where
     pub alone : Alone c p came.server guest.calls guest.answers server

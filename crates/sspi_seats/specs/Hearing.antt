@@ -30,7 +30,7 @@ use Rattle.sspi_seats.specs.declared.seat.SeatOutcome.TheVariants as seats
 use Rattle.sspi_seats.specs.Guest.{HasTurned}
 use Rattle.sspi_seats.specs.Messages.{AreServedButLast}
 
--- the newest turn's message is encoded, or it is too long; there may be none
+-- the newest turn's message, encoded, unless it is too long or there is none
 abbrev pub SpeaksAs : {E : Type 0} → Option TsRequest → Result (Option (List ℕ)) E → Type 0
 SpeaksAs None said = said ≡ Ok None
 SpeaksAs (Some message) said = Spells message said
@@ -39,13 +39,13 @@ abbrev pub Speaks : {E : Type 0} → List Turn → Result (Option (List ℕ)) E 
 Speaks [] said = said ≡ Ok None
 Speaks (t ∷ past) said = SpeaksAs (message_of t.outcome) said
 
--- bytes of a server's message: the client's next request, or no request
+-- the bytes of a server's message: the client's next request, or not a request
 abbrev pub IsReadAs : List ℕ → Heard → Type 0
 IsReadAs text (Next request) = IsRead text request
 IsReadAs text (Ends (seats.Read Client kind)) = HasFault text kind
 IsReadAs text (Ends other) = ⊥
 
--- what an answer means for a client that has made so many turns
+-- what an answer means for a client that has made this many turns
 abbrev pub IsHeard : ℕ → Result Served DeskError → Heard → Type 0
 IsHeard turns (Ok (Answer text)) heard = IsReadAs text heard
 IsHeard turns (Ok (Finished identity)) heard = heard ≡ Ends (seats.Ok turns identity)
@@ -55,7 +55,7 @@ IsHeard turns (Err (Refused error text)) heard = heard ≡ Ends (seats.Server er
 IsHeard turns (Err TooLong) heard = heard ≡ Ends (seats.Write Server)
 IsHeard turns (Err InsufficientMemory) heard = ⊥
 
--- memory may be wanting for what an answer means, or it was for the answer
+-- memory may run out for what an answer means, or it ran out for the answer
 abbrev pub MayLack : Result Served DeskError → Type 0
 MayLack (Ok served) = Unit {0}
 MayLack (Err NoSession) = Unit {0}
@@ -83,7 +83,7 @@ module _ {N K D : Type 0} where
 module _ {N K P D : Type 0} (c : Meaning ContextSetting (SspiContext N K)) (p : ProxyMeaning P)
     (k : KdcCalls D)
     (came : Place (SspiContext N K) P D) where
-  -- a client whose newest turn has a message that was not served
+  -- a client whose newest turn has a message that has not been served
   pub record IsSpeaking (rounds : ℕ) (guest : Guest N K D) : Type 0 where
     pub turned : HasTurned c p k came rounds guest
     pub served : AreServedButLast guest.transcript.turns (reverse guest.calls)

@@ -20,13 +20,13 @@ use Rattle.sspi_seats.specs.Seat.{IsSeat, Place}
 use Rattle.sspi_seats.specs.declared.seat.Seat.{Seat}
 
 module _ {C P : Type 0} where
-  -- every other session is as it was, and as many were admitted
+  -- every other session is as it was, and so is the number of those admitted
   pub record OthersStay (s : ℕ) (old new : DeskView C P) : Type 0 where
     pub others : (other : ℕ) → other ≢ s → session other new ≡ session other old
     pub admitted : new.admitted ≡ old.admitted
 
--- A call and its answer are kept. Where the answer means the next request, the client takes that
--- next; where it is the end, it came to that outcome.
+-- A call and its answer are kept. If the answer means the next request, the client takes that next;
+-- if it means the end, the client has come to that outcome.
 abbrev pub KeepsCall : {N K D E : Type 0} → List ℕ → Result Served DeskError → Result Heard E →
     Guest N K D → Guest N K D → Type 0
 KeepsCall bytes answer (Ok (Next request)) old new =
@@ -60,7 +60,7 @@ module _ {N K D : Type 0} where
 module _ {N K P D : Type 0} (c : Meaning ContextSetting (SspiContext N K)) (p : ProxyMeaning P)
     (k : KdcCalls D)
     (came : Place (SspiContext N K) P D) where
-  -- the seat of one client more
+  -- the seat of one more client
   pub record HasLeft (limit : ℕ) (old new : List (Seat N K P D)) : Type 0 where
     pub seat : Seat N K P D
     pub added : new ≡ old ++ seat ∷ []
@@ -69,7 +69,7 @@ module _ {N K P D : Type 0} (c : Meaning ContextSetting (SspiContext N K)) (p : 
 module _ {N K P D : Type 0} (c : Meaning ContextSetting (SspiContext N K)) (p : ProxyMeaning P)
     (k : KdcCalls D)
     (cames : List (Place (SspiContext N K) P D)) where
-  -- the client of each place has the session of its number; they have had so many rounds
+  -- the client at each place has the session with its number; each has had this many rounds
   pub record AreKept (rounds : ℕ) (guests : List (Guest N K D))
       (desk : DeskView (SspiContext N K) P) : Type 0 where
     pub each : (i : ℕ) (came : Place (SspiContext N K) P D) (guest : Guest N K D) →

@@ -1,4 +1,4 @@
--- What turns, calls and answers show of an outcome; each is a list, the newest first.
+-- What turns, calls and answers show of an outcome; each is a list, newest first.
 use Rattle.std.specs.Prelude.{◌≡◌, ◌≢◌, ℕ, false, List, [], ◌∷◌, length, Option, Result, Ok, Err}
 use Rattle.sspi_types.specs.declared.error.Error.{Error}
 use Rattle.sspi_types.specs.declared.error_kind.ErrorKind.TheVariants as kinds
@@ -17,7 +17,7 @@ use Rattle.sspi_seats.specs.Messages.{IsNext, AreServed, AreServedButLast}
 use Rattle.sspi_seats.specs.declared.seat.SeatOutcome.{SeatOutcome}
 use Rattle.sspi_seats.specs.declared.seat.SeatOutcome.TheVariants as seats
 
--- the newest answer is such
+-- this holds of the newest answer
 abbrev pub NewestAnswer : (Result Served DeskError → Type 0) → List (Result Served DeskError) →
     Type 0
 NewestAnswer P [] = ⊥
@@ -27,7 +27,7 @@ NewestAnswer P (answer ∷ past) = P answer
 abbrev pub IsRefusedWith : Error → Result Served DeskError → Type 0
 IsRefusedWith error answer = (text : Option (List ℕ)) × (answer ≡ Err (Refused error text))
 
--- the answer's bytes begin with no request, for this reason
+-- the answer's bytes do not begin with a request, for this reason
 abbrev pub IsUnreadable : WireKind → Result Served DeskError → Type 0
 IsUnreadable kind (Ok (Answer text)) = HasFault text kind
 IsUnreadable kind (Ok (Finished identity)) = ⊥
@@ -56,8 +56,8 @@ Shows limit seats.TurnsSpent turns calls answers =
     AreServed turns calls answers × (length calls ≡ limit) × (request : TsRequest) ×
     IsNext answers request
 
--- the kinds of outcomes, as numbers; what an end cannot read or write is a kind of its own for each
--- end
+-- the kinds of outcomes, as numbers; what an end cannot read or write has a kind of its own for
+-- each end
 abbrev pub kind_of : SeatOutcome → ℕ
 kind_of (seats.Ok messages identity) = 0
 kind_of (seats.Client error) = 1

@@ -16,7 +16,7 @@ use Rattle.sspi_seats.specs.declared.seat.Seat.{Seat}
 use Rattle.sspi_seats.specs.declared.seat.SeatOutcome.{SeatOutcome}
 use Rattle.sspi_seats.specs.declared.seat.SeatOutcome.TheVariants as seats
 
--- a client, its KDC and its server, as they came
+-- a client, its KDC and its server, as they joined
 pub record Place (C P D : Type 0) : Type 0 where
   pub client : ClientView C
   pub kdc : D
@@ -26,8 +26,8 @@ abbrev pub place : {C P D : Type 0} → ClientView C → D → ServerView C P �
 place client kdc server = record { client = client; kdc = kdc; server = server }
 
 module _ {C D : Type 0} (c : Meaning ContextSetting C) (k : KdcCalls D) where
-  -- These turns, the newest first, were the client's calls, and nothing moved it between two of
-  -- them; the last one was refused, where that is the outcome.
+  -- These turns, newest first, were the client's calls, and nothing moved it between two of them;
+  -- if that is the outcome, the last one was refused.
   abbrev pub ClientCame : ClientView C → D → SeatOutcome → List Turn → ClientView C → D → Type 0
   ClientCame first kdc (seats.Client error) turns now kdc2 =
       ClientStopped c k first kdc error turns now kdc2
@@ -41,8 +41,8 @@ module _ {C D : Type 0} (c : Meaning ContextSetting C) (k : KdcCalls D) where
       ClientRefused c k first kdc error now kdc2 turns
   OutcomeHasCause first kdc outcome turns now kdc2 = Unit {0}
 
-  -- The turns of a client to which nothing was delivered before, the newest first: each is one over
-  -- the context that it has now, and a server that is too old is refused as that. It seals its
+  -- The turns, newest first, of a client to which nothing had been delivered before: each is a turn
+  -- over the context that it has now, and a server that is too old is refused as such. It seals its
   -- credentials at most once, after it opened the proof that its server owes. Its context is that
   -- of the chain of its turns.
   pub record ClientRuns (first : ClientView C) (kdc : D) (outcome : SeatOutcome) (turns : List Turn)

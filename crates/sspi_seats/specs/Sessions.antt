@@ -1,4 +1,4 @@
--- All clients of a table between two rounds; the client of each place has the session of its
+-- All clients of a table between two rounds; the client at each place has the session with its
 -- number.
 use Rattle.std.specs.Prelude.{◌≡◌, ℕ, ◌+◌, ◌<◌, ◌≤◌, List, [], length, Option, None, Some}
 use Rattle.std.specs.List.{slice_get}
@@ -15,7 +15,7 @@ use Rattle.sspi_seats.specs.declared.guest.Guest.{Guest}
 use Rattle.sspi_seats.specs.declared.sessions.Sessions.{Sessions}
 
 module _ {N K P D : Type 0} where
-  -- nobody was admitted yet
+  -- nobody has been admitted yet
   pub record IsEmpty (sessions : Sessions N K P D) : Type 0 where
     pub guests : sessions.guests.items ≡ []
     pub admitted : sessions.desk.admitted ≡ 0
@@ -23,17 +23,17 @@ module _ {N K P D : Type 0} where
 module _ {N K P D : Type 0} (c : Meaning ContextSetting (SspiContext N K)) (p : ProxyMeaning P)
     (k : KdcCalls D)
     (came : Place (SspiContext N K) P D) where
-  -- the session is kept, and its server stands with its client after so many rounds
+  -- the session exists, and its server and client are as they are after this many rounds
   abbrev pub IsKept : ℕ → Guest N K D → Option (ServerView (SspiContext N K) P) → Type 0
   IsKept rounds guest None = ⊥
   IsKept rounds guest (Some server) = IsVisited c p k came rounds guest server
 
--- `cames`: the places of a table, the first one first
+-- `cames`: the places of a table, in order
 module _ {N K P D : Type 0} (c : Meaning ContextSetting (SspiContext N K)) (p : ProxyMeaning P)
     (k : KdcCalls D)
     (cames : List (Place (SspiContext N K) P D)) where
-  -- The client of each place has the session of its number. They have had so many rounds; those of
-  -- the places below `first` one more.
+  -- The client at each place has the session with its number. Each has had this many rounds; at the
+  -- places below `first`, one more.
   pub record AreVisited (rounds first : ℕ) (sessions : Sessions N K P D) : Type 0 where
     pub early : (i : ℕ) (came : Place (SspiContext N K) P D) (guest : Guest N K D) →
         slice_get cames i ≡ Some came →

@@ -15,7 +15,7 @@ use Rattle.sspi_seats.specs.declared.table.JoinError.TheVariants.{Full, Insuffic
 pub record TableView (C P D : Type 0) : Type 0 where
   -- how many clients may join
   pub limit : ℕ
-  -- the places of those that joined, the first one first
+  -- the places of those that joined, in order
   pub places : List (Place C P D)
 
 -- the place of one that joined
@@ -23,7 +23,7 @@ abbrev pub place_of : {N K P D : Type 0} → Joined N K P D → Place (SspiConte
 place_of joined = place joined.client joined.kdc joined.server
 
 module _ {C P D : Type 0} where
-  -- the table with one place more
+  -- the table with one more place
   abbrev pub with_place : TableView C P D → Place C P D → TableView C P D
   with_place table came = record table { places = table.places ++ came ∷ [] }
 
@@ -32,11 +32,11 @@ module _ {C P D : Type 0} where
   IsRefusedFor Full table = length table.places ≡ table.limit
   IsRefusedFor InsufficientMemory table = length table.places < table.limit
 
--- `cames`: the places of a table, the first one first
+-- `cames`: the places of a table, in order
 module _ {N K P D : Type 0} (c : Meaning ContextSetting (SspiContext N K)) (p : ProxyMeaning P)
     (k : KdcCalls D)
     (cames : List (Place (SspiContext N K) P D)) where
-  -- A seat for each place, in their order; limit: how many turns each client may make.
+  -- A seat for each place, in the same order; limit: how many turns each client may make.
   pub record AreSeats (limit : ℕ) (seats : List (Seat N K P D)) : Type 0 where
     pub seats_are : length seats ≡ length cames
     pub each : (i : ℕ) (came : Place (SspiContext N K) P D) (seat : Seat N K P D) →

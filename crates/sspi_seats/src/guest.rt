@@ -22,7 +22,7 @@ use sspi_tsreq::TsRequest;
 use sspi_types::{Bytes, Rows};
 use std::alloc::{AllocError, Global};
 
-/// A client that has a session, and what it did there so far.
+/// A client that has a session, and what it has done there so far.
 #[derive(Drop)]
 pub(crate) struct Guest<N, K, D> {
     /// The number of the session.
@@ -33,7 +33,7 @@ pub(crate) struct Guest<N, K, D> {
     transcript: Transcript,
     calls: Rows<Bytes>,
     answers: Rows<Result<Served, DeskError>>,
-    /// What the client takes next; none once it came to its outcome.
+    /// What the client takes next; `None` once it has come to its outcome.
     next: Option<TsRequest>,
     outcome: SeatOutcome,
 }
@@ -74,7 +74,7 @@ impl<N, K, D> Guest<N, K, D> {
         self.next.is_some()
     }
 
-    /// The seat, once the desk has handed out the server.
+    /// The seat, once the desk has returned the server.
     pub(crate) fn seat<C>(self, server: CredSspServer<N, K, C>) -> Seat<N, K, C, D>
         ensures { IsSeatOf self server result }
     {
@@ -101,7 +101,7 @@ impl<N, K, D> Guest<N, K, D> {
 }
 
 impl<N: Mechanism, K: Mechanism, D: Kdc> Guest<N, K, D> {
-    /// A round of a client: where it still runs, it makes the turn of this number, and the desk
+    /// A round of a client: if it still runs, it makes the turn with this number, and the desk
     /// serves its message.
     pub(crate) fn visit<C: CredentialsProxy>(
         &mut self,
@@ -138,7 +138,7 @@ impl<N: Mechanism, K: Mechanism, D: Kdc> Guest<N, K, D> {
         }
     }
 
-    /// The desk serves the message of the client's last turn, which is that of this number.
+    /// The desk serves the message of the client's last turn, which has this number.
     fn speak<C: CredentialsProxy>(
         &mut self,
         alloc: Global,
@@ -172,7 +172,7 @@ impl<N: Mechanism, K: Mechanism, D: Kdc> Guest<N, K, D> {
 }
 
 impl<N, K, D> Guest<N, K, D> {
-    /// Keeps a call and its answer, and goes on by what the answer means.
+    /// Keeps a call and its answer, and goes on as the answer says.
     fn keep(
         &mut self,
         bytes: Bytes,
@@ -204,8 +204,8 @@ fn serve<N: Mechanism, K: Mechanism, C: CredentialsProxy>(
     desk.serve(number, bytes.as_slice())
 }
 
-/// Puts a value in the place of another. Generic, as what follows is, since to drop a value of a
-/// type parameter is one step.
+/// Replaces a value. Generic, like the functions below, because dropping a value of a type
+/// parameter is a single step.
 fn put<T: Drop>(place: &mut T, value: T)
     ensures { place.new ≡ value }
 {
@@ -225,7 +225,7 @@ fn push_both<A: Drop, B: Drop>(
     seconds.push(second)
 }
 
-/// Gives up what cannot be kept.
+/// Drops what cannot be kept, and fails.
 pub(crate) fn lost<A: Drop, B: Drop, T, E>(_first: A, _second: B, error: E) -> Result<T, E>
     ensures { result ≡ Err error }
 {

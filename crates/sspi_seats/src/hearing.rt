@@ -21,8 +21,8 @@ pub(crate) enum Heard {
     Ends(SeatOutcome),
 }
 
-/// The bytes of the message of the last turn; none where they would be too long, or where there is
-/// no message.
+/// The bytes of the last turn's message; `None` if they would be too long, or if there is no
+/// message.
 pub(crate) fn message(alloc: Global, transcript: &Transcript) -> Result<Option<Bytes>, AllocError>
     ensures { Speaks transcript.now.turns result }
 {
@@ -35,8 +35,8 @@ pub(crate) fn message(alloc: Global, transcript: &Transcript) -> Result<Option<B
     }
 }
 
-/// What an answer means for a client that has made so many turns. Fails where there was no memory
-/// for what is copied, or for the answer, and where there is no such session.
+/// What an answer means for a client that has made `rounds` turns. Fails if memory runs out for
+/// what is copied, or ran out for the answer, and if there is no such session.
 pub(crate) fn hear(
     alloc: Global,
     rounds: u32,
@@ -67,7 +67,7 @@ fn read(alloc: Global, text: &[u8]) -> Result<Heard, AllocError>
     }
 }
 
-/// A client's refusal. Fails where it is out of memory.
+/// A client's refusal. Fails if the refusal is `InsufficientMemory`.
 pub(crate) fn refusal(error: Error) -> Result<SeatOutcome, AllocError>
     ensures { MatchResult result (λ outcome. IsRefusal error outcome)
         (λ _. error.error_type ≡ ErrorKind.InsufficientMemory) }

@@ -1,7 +1,7 @@
-//! Clients that have a session each at one desk (MS-CSSP 3.1.5), and what each of them comes to.
+//! Clients that each have a session at one desk (MS-CSSP 3.1.5), and what each of them comes to.
 //!
-//! - `Table`: clients and their servers join, each client that still runs makes a turn and is
-//!   served once a round, and the seats are handed out.
+//! - `Table`: clients and their servers join; in each round, every client that still runs makes a
+//!   turn and is served; in the end, the seats are returned.
 //! - `Seat`: a client and its server as they were left, with the client's turns, the calls on the
 //!   desk, and their answers.
 //!

@@ -12,13 +12,13 @@ pub struct Seat<N, K, C, D> {
     pub client: CredSspClient<N, K>,
     /// The KDC that the client asked.
     pub kdc: D,
-    /// The server, as the desk handed it out.
+    /// The server, as the desk returned it.
     pub server: CredSspServer<N, K, C>,
-    /// The turns of the client, the first one first.
+    /// The turns of the client, oldest first.
     pub turns: Rows<Turn>,
-    /// What the session was served, each the bytes of a message of the client, the first one first.
+    /// The calls on the session, oldest first, each the bytes of a message of the client.
     pub calls: Rows<Bytes>,
-    /// What the desk answered to each of them.
+    /// What the desk answered to each call.
     pub answers: Rows<Result<Served, DeskError>>,
     pub outcome: SeatOutcome,
 }
@@ -26,17 +26,17 @@ pub struct Seat<N, K, C, D> {
 /// What a client and its session came to.
 #[derive(Drop)]
 pub enum SeatOutcome {
-    /// The server has these credentials, after so many turns of the client.
+    /// The server has these credentials, after this many turns of the client.
     Ok(u32, AuthIdentity),
     /// The client refused its last turn.
     Client(Error),
     /// The server refused.
     Server(Error),
-    /// What this end was sent is no request. The kind is `UnexpectedEof` where it ends too early or
-    /// its header is at fault, and else `InvalidData`.
+    /// What this end was sent is not a request. The kind is `UnexpectedEof` if it ends too early or
+    /// its header is at fault, otherwise `InvalidData`.
     Read(End, WireKind),
     /// The message of this end has a content of more than `sspi_ber::MAX_CONTENT`, 1048576 octets.
     Write(End),
-    /// The client made as many turns as it may, each was served, and the client could go on.
+    /// The client made all the turns that it may, each was served, and the client could go on.
     TurnsSpent,
 }

@@ -1,4 +1,4 @@
-//! Clients that have a session each at one desk.
+//! Clients that each have a session at one desk.
 
 ghost use Rattle.std.specs.Prelude.{◌≡◌, ◌+◌, ◌++◌, ◌<◌, ◌≤◌, ◌^◌, ℕ, List, [], ◌∷◌, IfOk, OnOk};
 ghost use Rattle.std.specs.Prelude.{is_some, length, map};
@@ -20,7 +20,7 @@ use sspi_mech::{Kdc, Mechanism};
 use sspi_types::Rows;
 use std::alloc::{AllocError, Global};
 
-/// A client that joined a table, with its KDC and its server, as they came.
+/// A client with its KDC and its server, as they joined a table.
 #[derive(Drop)]
 pub(crate) struct Joined<N, K, C, D> {
     pub(crate) client: CredSspClient<N, K>,
@@ -28,7 +28,7 @@ pub(crate) struct Joined<N, K, C, D> {
     pub(crate) server: CredSspServer<N, K, C>,
 }
 
-/// Clients that have a session each at one desk, the first one session 0.
+/// Clients that each have a session at one desk, the first with session 0.
 #[derive(Drop)]
 pub(crate) struct Sessions<N, K, C, D> {
     alloc: Global,
@@ -37,7 +37,7 @@ pub(crate) struct Sessions<N, K, C, D> {
 }
 
 impl<N, K, C, D> Sessions<N, K, C, D> {
-    /// None yet, at a desk for so many.
+    /// No clients yet, at a desk for `limit` sessions.
     fn new(alloc: Global, limit: u32) -> Sessions<N, K, C, D>
         ensures { IsEmpty result }
     {
@@ -50,7 +50,7 @@ impl<N, K, C, D> Sessions<N, K, C, D> {
 }
 
 impl<N: Mechanism, K: Mechanism, C: CredentialsProxy, D: Kdc + Drop> Sessions<N, K, C, D> {
-    /// Admits the servers of these to a desk for so many.
+    /// Admits the servers of these clients to a desk for `limit` sessions.
     pub(crate) fn open(
         alloc: Global,
         limit: u32,
@@ -68,7 +68,7 @@ impl<N: Mechanism, K: Mechanism, C: CredentialsProxy, D: Kdc + Drop> Sessions<N,
         Ok(sessions)
     }
 
-    /// Admits the server of one client more.
+    /// Admits the server of one more client.
     fn admit(&mut self, joined: Joined<N, K, C, D>) -> Result<(), AllocError>
         requires { self.old.desk.admitted + 1 < 2 ^ 64 }
         ensures { let c = either N.REQUESTS N.meaning K.meaning in let k =
@@ -94,7 +94,7 @@ impl<N: Mechanism, K: Mechanism, C: CredentialsProxy, D: Kdc + Drop> Sessions<N,
         }
     }
 
-    /// At most so many rounds.
+    /// Holds at most `limit` rounds.
     pub(crate) fn serve(&mut self, limit: u32) -> Result<(), AllocError>
         ensures { let c = either N.REQUESTS N.meaning K.meaning in let k =
             kdc_calls D.told D.asked D.faults in
@@ -117,7 +117,7 @@ impl<N: Mechanism, K: Mechanism, C: CredentialsProxy, D: Kdc + Drop> Sessions<N,
         self.guests.iter().any(|guest| guest.runs())
     }
 
-    /// The round of this number, from 1.
+    /// The round with this number, counted from 1.
     fn serve_round(&mut self, turn: u32) -> Result<(), AllocError>
         ensures { let c = either N.REQUESTS N.meaning K.meaning in let k =
             kdc_calls D.told D.asked D.faults in
@@ -131,7 +131,7 @@ impl<N: Mechanism, K: Mechanism, C: CredentialsProxy, D: Kdc + Drop> Sessions<N,
         Ok(())
     }
 
-    /// The client of this seat has the round of this number.
+    /// The client at this seat has the round with this number.
     fn serve_guest(&mut self, at: usize, turn: u32) -> Result<(), AllocError>
         ensures { let c = either N.REQUESTS N.meaning K.meaning in let k =
             kdc_calls D.told D.asked D.faults in
@@ -145,7 +145,7 @@ impl<N: Mechanism, K: Mechanism, C: CredentialsProxy, D: Kdc + Drop> Sessions<N,
         }
     }
 
-    /// Closes the sessions, the first one first, and hands out the seats.
+    /// Closes the sessions in order, and returns the seats.
     pub(crate) fn leave(self) -> Result<Rows<Seat<N, K, C, D>>, AllocError>
         ensures { let c = either N.REQUESTS N.meaning K.meaning in let k =
             kdc_calls D.told D.asked D.faults in
@@ -166,8 +166,8 @@ impl<N: Mechanism, K: Mechanism, C: CredentialsProxy, D: Kdc + Drop> Sessions<N,
     }
 }
 
-/// Closes the session of a client, and adds its seat. Fails where there is no memory, or no such
-/// session.
+/// Closes the session of a client, and adds its seat. Fails if out of memory, or if there is no
+/// such session.
 fn leave_one<N: Mechanism, K: Mechanism, C: CredentialsProxy, D: Kdc + Drop>(
     desk: &mut Desk<N, K, C>,
     guest: Guest<N, K, D>,

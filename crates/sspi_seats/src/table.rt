@@ -18,9 +18,9 @@ use std::marker::Model;
 /// Why a client did not join a table.
 #[derive(Clone, Copy, Debug, PartialEq, Eq)]
 pub enum JoinError {
-    /// As many clients joined as may.
+    /// As many clients have joined as are allowed.
     Full,
-    /// There was no memory for one client more.
+    /// There was no memory for one more client.
     InsufficientMemory,
 }
 
@@ -35,8 +35,8 @@ impl From<AllocError> for JoinError {
     }
 }
 
-/// Clients that will have a session each at one desk, the first one session 0. None moves, and none
-/// of their servers is sent anything, before `finish`.
+/// Clients that will each have a session at one desk, the first with session 0. Before `finish`,
+/// none moves, and none of their servers is sent anything.
 #[derive(Drop)]
 pub struct Table<N, K, C, D> {
     alloc: Global,
@@ -57,7 +57,7 @@ impl<N, K, C, D> Model for Table<N, K, C, D> {
 }
 
 impl<N, K, C, D> Table<N, K, C, D> {
-    /// A table that at most `limit` clients may join, and none yet. Takes no memory.
+    /// A table that at most `limit` clients may join, with none yet. Allocates nothing.
     pub fn new(alloc: Global, limit: u32) -> Table<N, K, C, D>
         ensures { result ≡ record { limit = limit; places = [] } }
     {
@@ -68,7 +68,7 @@ impl<N, K, C, D> Table<N, K, C, D> {
         }
     }
 
-    /// Whether as many clients joined as may.
+    /// Whether as many clients have joined as are allowed.
     pub fn is_full(&self) -> bool
         ensures { result ≡ (length self.now.places == self.now.limit) }
     {
@@ -77,10 +77,10 @@ impl<N, K, C, D> Table<N, K, C, D> {
 }
 
 impl<N: Mechanism, K: Mechanism, C: CredentialsProxy, D: Kdc + Drop> Table<N, K, C, D> {
-    /// Seats a client with its KDC and its server, behind those that joined before.
+    /// Seats a client with its KDC and its server, after those that joined before.
     ///
-    /// `Full` exactly where as many joined as may, which `is_full` tells. A refusal changes
-    /// nothing, and drops the client, the KDC and the server.
+    /// Fails with `Full` exactly if `is_full`. A refusal changes nothing, and drops the client, the
+    /// KDC and the server.
     pub fn join(
         &mut self,
         client: CredSspClient<N, K>,
@@ -103,13 +103,13 @@ impl<N: Mechanism, K: Mechanism, C: CredentialsProxy, D: Kdc + Drop> Table<N, K,
         Ok(())
     }
 
-    /// Admits the servers to a desk, and holds at most `limit` rounds, until no client runs: in
-    /// each round every client that still runs makes a turn, and its session is served, one after
-    /// the other. Then the sessions are closed, and the seats handed out in the order in which
+    /// Admits the servers to a desk, and holds at most `limit` rounds, until no client runs. In
+    /// each round, one after the other, every client that still runs makes a turn, and its session
+    /// is served. Then the sessions are closed, and the seats are returned in the order in which
     /// their clients joined.
     ///
-    /// Fails only when out of memory, also where it came up in a turn, in a call on the desk or in
-    /// a KDC. The clients, the KDCs and the servers are dropped then, whatever they did before.
+    /// Fails only when out of memory, be it in a turn, in a call on the desk or in a KDC. The
+    /// clients, the KDCs and the servers are then dropped, whatever they did before.
     pub fn finish(self, limit: u32) -> Result<Rows<Seat<N, K, C, D>>, AllocError>
         ensures { let c = either N.REQUESTS N.meaning K.meaning in let k =
             kdc_calls D.told D.asked D.faults in
