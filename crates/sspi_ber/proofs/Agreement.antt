@@ -59,7 +59,7 @@ one_byte : (n : ℕ) → n < 0x80 → length (len_short n) ≡ 1
 unfolding len_short
 one_byte n lt = rw (lt-ltb n 0x80 lt) refl
 
--- a long form takes one octet more, and a short form no more than that
+-- a long form takes one more octet, and a short form no more than that
 with_first : (n count : ℕ) → 1 ≤ count → length (length_octets n) ≤ count → length (len_short n) ≤ 1 + count
 unfolding len_short
 with_first n count some le = elim (cases_lt n 0x80) [

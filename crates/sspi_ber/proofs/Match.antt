@@ -1,5 +1,5 @@
--- A reader on lists and a form, a relation between a text, its value and what follows it, say the same; and so do readers
--- that are made of such readers.
+-- A reader on lists agrees with a form, a relation between a text, its value and what follows; and
+-- so do readers that are made of such readers.
 use Rattle.std.proofs.Common.{◌≡◌, ℕ, Bool, true, false, cond, List, [], ◌++◌, Result, Ok, Err, refl, sym, ap, ◌∙◌, subst, append_assoc}
 use Rattle.sspi_ber.specs.Pieces.{Fault, Read, ◌>>=◌}
 
@@ -21,7 +21,7 @@ done x = Ok x
 ok_is : {A : Type 0} (x y : A) → done x ≡ done y → x ≡ y
 ok_is x y e = cc
 
--- a value and what follows it, as a reader answers
+-- a value and what follows it, as a reader returns them
 abbrev pub read_of : {A : Type 0} → A → List ℕ → Read A
 read_of x rest = Ok (x, rest)
 
@@ -106,7 +106,7 @@ pub Matches-map : {A B : Type 0} (f : A → B) (p : List ℕ → Read A) (F : Li
     Matches (λ bytes. p bytes >>= changed f) (Mapped f F)
 Matches-map f p F m = record { takes = mapped_takes f p F m; again = mapped_again f p F m }
 
--- ---- a reader behind a test
+-- ---- a reader after a test
 
 if_takes : {A : Type 0} (b : Bool) (fault : Fault) (p : List ℕ → Read A) (F : List ℕ → A → List ℕ → Type 0) → Matches p F
     → (bytes : List ℕ) (x : A) (rest : List ℕ) → cond b (p bytes) (Err fault) ≡ Ok (x, rest) →

@@ -11,7 +11,7 @@ use Rattle.sspi_ber.specs.Pieces.{Ended, Invalid, byte_at, bytes_at, number_at}
 use Rattle.sspi_ber.specs.Forms.{big_endian}
 use Rattle.sspi_ber.specs.Outside.{Answers, Reads}
 
--- i bytes were read, and they stand for this number
+-- i bytes were read, and they represent this number
 abbrev pub ReadSoFar : Option (List ℕ) → Option (List ℕ) → ℕ → ℕ → Type 0
 ReadSoFar None now value i = Unit {0}
 ReadSoFar (Some bytes) now value i = (i ≤ length bytes) × (now ≡ Some (drop i bytes)) × (value ≡ big_endian (take i bytes))

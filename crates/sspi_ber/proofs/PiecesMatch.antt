@@ -1,4 +1,4 @@
--- Each reader of a piece and the form of that piece say the same.
+-- Each reader of a piece agrees with the form of that piece.
 use Rattle.std.proofs.Common.{◌≡◌, ℕ, ◌-◌, ◌<◌, ◌≤◌, Bool, true, false, ◌&&◌, cond, eqb, ltb, leb, List, [], ◌∷◌, ◌++◌}
 use Rattle.std.proofs.Common.{length, take, drop, Option, None, Some, Ok, Err, refl, sym, ap, ◌∙◌, subst, arith, ◌⊎◌, inl, inr}
 use Rattle.std.proofs.lemmas.Bool.{ltb-true, ltb-false, lt-ltb, le-ltb, leb-true, le-leb, eqb-true, eq-eqb, eqb-false}
@@ -64,7 +64,7 @@ number_match n = Matches-map big_endian (bytes_at n) (IsBlock n) (bytes_match n)
 
 -- ---- lengths
 
--- so many octets that stand for a number up to the limit
+-- this many octets that represent a number up to the limit
 abbrev IsLimited : ℕ → List ℕ → ℕ → Type 0
 IsLimited count text n = (length text ≡ count) × (n ≡ big_endian text) × (n ≤ max_content)
 
@@ -259,7 +259,7 @@ integer_match =
     Matches-same integer_at (Then (IsHead 0x02) IsContent) (λ text value rest. IsInteger text value) integer_to integer_from
     (Matches-then (header_at 0x02) sized_at (IsHead 0x02) IsContent (header_match 0x02) sized_match)
 
--- ---- tags round something
+-- ---- tags around something
 
 abbrev Inside : {A : Type 0} → (List ℕ → A → Type 0) → ℕ → List ℕ → A → List ℕ → Type 0
 Inside Inner n text x rest = Inner text x

@@ -1,4 +1,4 @@
--- What a source has left after one read and another is a rest of what it had.
+-- What a source has left after one read and another is a suffix of what it had.
 use Rattle.std.proofs.Common.{ℕ, List, [], ◌∷◌, ◌++◌, Option, None, Some, Result, Ok, Err, refl, sym, ap, ◌∙◌, append_assoc}
 use Rattle.std.specs.Io.KnownBytes.{Consumes, Keeps}
 use Rattle.sspi_ber.specs.declared.source.SourceError.{SourceError}

@@ -151,7 +151,7 @@ short_integer v =
     let le : length (int_content v) ≤ max_content = omega (arith, c.small) in
     record { content = int_content v; element = short_element 0x02 (int_content v) le; sized = c.sized; stands_for = c.stands_for }
 
--- both headers of an OCTET STRING inside another element, where both lengths have one octet
+-- both headers of an OCTET STRING inside another element, when both lengths have one octet
 abbrev pub short_headers : ℕ → ℕ → List ℕ
 short_headers tag n = tag ∷ (n + 2) ∷ 0x04 ∷ n ∷ []
 

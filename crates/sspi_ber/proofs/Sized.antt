@@ -1,4 +1,4 @@
--- A length with how many bytes it took, and the length alone.
+-- A length together with how many bytes it took, and the length alone.
 use Rattle.std.proofs.Common.{◌≡◌, ℕ, ◌+◌, ◌-◌, ◌≤◌, true, List, [], ◌∷◌, length, subst, ◌∙◌}
 use Rattle.std.proofs.Common.{arith, eq-eqb, Option, None, Some, Ok, Err, refl, sym, ap}
 use Rattle.sspi_ber.specs.declared.wire_kind.WireKind.{WireKind}
@@ -49,7 +49,7 @@ unfolding sized_length_at
 length_fault None after kind h = tt
 length_fault (Some bytes) after kind h = half_fault bytes after kind (length_at bytes) h
 
--- ---- one byte more
+-- ---- one more byte
 
 pair : ℕ → ℕ → ℕ × ℕ
 pair a b = (a, b)

@@ -1,5 +1,5 @@
--- What more bytes change in what a reader says: nothing where it read or met a piece that is malformed; and enough zero
--- bytes settle what ended too early.
+-- What more bytes change in a reader's answer: nothing if it read or met a malformed piece; and
+-- enough zero bytes settle what ended too early.
 use Rattle.std.proofs.Common.{◌≡◌, ℕ, ◌≤◌, Bool, true, false, cond, eqb, ltb, leb, List, [], ◌∷◌, ◌++◌, length, take, drop}
 use Rattle.std.proofs.Common.{Option, None, Some, Ok, Err, refl, sym, ap, ◌∙◌, append_assoc, arith, ◌+◌, ◌-◌, inl, inr}
 use Rattle.std.proofs.lemmas.Bool.{ltb-false, le-ltb, cases_Bool}
@@ -197,7 +197,7 @@ pub record Optional {A : Type 0} (read : List ℕ → Read A) : Type 0 where
 abbrev one_of : {A : Type 0} → A → Option A
 one_of x = Some x
 
--- behind the tag of a field
+-- after the tag of a field
 abbrev behind_tag : {A : Type 0} → (List ℕ → Read A) → List ℕ → Read (Option A)
 behind_tag inner bytes = length_at bytes >>= λ n. (inner n.1 >>= changed one_of)
 

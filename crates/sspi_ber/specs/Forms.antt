@@ -1,4 +1,4 @@
--- The pieces of BER, as relations between bytes and what they stand for (X.690 8.1.3, 8.3, 8.7),
+-- The pieces of BER, as relations between bytes and what they represent (X.690 8.1.3, 8.3, 8.7),
 -- and the one limit of all lengths.
 use Rattle.std.specs.Prelude.{ℕ, ◌≡◌, ◌+◌, ◌*◌, ◌<◌, ◌≤◌, Bool, ◌||◌, ◌==◌, IsTrue, List, [], ◌∷◌}
 use Rattle.std.specs.Prelude.{◌++◌, length, fold, Option, None, Some}
@@ -7,16 +7,16 @@ use Rattle.std.specs.Prelude.{◌++◌, length, fold, Option, None, Some}
 abbrev pub max_content : ℕ
 max_content = 1048576
 
--- the most octets that a length may have behind its first: as many as the limit needs
+-- the most octets that a length may have after its first: the number that the limit needs
 abbrev pub max_length_octets : ℕ
 max_length_octets = 3
 
--- the number that bytes stand for, the first byte the highest
+-- the number that bytes represent, the most significant byte first
 abbrev pub big_endian : List ℕ → ℕ
 big_endian bytes = fold (λ high byte. high * 256 + byte) 0 bytes
 
 -- The long form of a length (X.690 8.1.3.5): the low seven bits of its first octet count the octets
--- behind it, and these stand for the length.
+-- after it, and these represent the length.
 pub record IsLongLength (first : ℕ) (octets : List ℕ) (n : ℕ) : Type 0 where
   pub counted : first ≡ 0x80 + length octets
   pub few : length octets ≤ max_length_octets
@@ -24,7 +24,7 @@ pub record IsLongLength (first : ℕ) (octets : List ℕ) (n : ℕ) : Type 0 whe
   pub limited : n ≤ max_content
 
 -- A length: one octet below 0x80, or a long form, which need not be the shortest. An octet 0x80
--- alone, which stands before contents of no stated length (X.690 8.1.3.6), is none.
+-- alone, which is the indefinite form (X.690 8.1.3.6), is no length here.
 abbrev pub IsLength : List ℕ → ℕ → Type 0
 IsLength [] n = ⊥
 IsLength (first ∷ []) n = (first < 0x80) × (n ≡ first)
@@ -42,15 +42,15 @@ pub record IsElement (tag : ℕ) (text content : List ℕ) : Type 0 where
   pub spelled : text ≡ tag ∷ (len ++ content)
   pub measured : IsLength len (length content)
 
--- a tag, a length of any number, which is not compared, and something inside
+-- a tag, a length of any value, which is not compared, and something inside
 pub record IsTagged (tag : ℕ) (text inner : List ℕ) : Type 0 where
   pub len : List ℕ
   pub number : ℕ
   pub spelled : text ≡ tag ∷ (len ++ inner)
   pub measured : IsLength len number
 
--- content bytes that stand for a number which is not negative: the highest bit, the sign, is clear
--- (X.690 8.3.3)
+-- content bytes that represent a nonnegative number: the highest bit, the sign, is clear (X.690
+-- 8.3.3)
 abbrev pub IsNotNegative : List ℕ → Type 0
 IsNotNegative [] = ⊥
 IsNotNegative (high ∷ rest) = high < 0x80
@@ -59,7 +59,7 @@ IsNotNegative (high ∷ rest) = high < 0x80
 abbrev pub is_integer_size : ℕ → Bool
 is_integer_size n = n == 1 || n == 2 || n == 3 || n == 4 || n == 8
 
--- an INTEGER without sign
+-- an unsigned INTEGER
 pub record IsInteger (text : List ℕ) (value : ℕ) : Type 0 where
   pub content : List ℕ
   pub element : IsElement 0x02 text content
@@ -75,8 +75,8 @@ IsNotNext tag (byte ∷ rest) = byte ≡ tag → ⊥
 abbrev pub IsWrapped : {A : Type 0} → ℕ → (List ℕ → A → Type 0) → List ℕ → A → Type 0
 IsWrapped tag Inner text x = (inner : List ℕ) × IsTagged tag text inner × Inner inner x
 
--- An optional field, with what follows it. A field that is absent encodes nothing, and its tag does
--- not come next.
+-- An optional field, with what follows it. An absent field has no bytes, and its tag does not come
+-- next.
 abbrev pub IsField : {A : Type 0} → ℕ → (List ℕ → A → Type 0) → List ℕ → Option A → List ℕ → Type 0
 IsField tag Inner text None following = (text ≡ []) × IsNotNext tag following
 IsField tag Inner text (Some x) following = IsWrapped tag Inner text x

@@ -1,4 +1,4 @@
--- What a failed write is to a writer, and what a wire fault is to a caller that answers `Error`.
+-- The `WireKind` of a failed write, and the `Error` of a wire fault.
 use Rattle.std.specs.Prelude.{None}
 use Rattle.sspi_types.specs.Errors.{memory_error}
 use Rattle.sspi_types.specs.declared.error.Error.{Error}
@@ -15,7 +15,7 @@ abbrev pub kind_of : SinkError → WireKind
 kind_of sink_errors.Failed = WriteFault
 kind_of sink_errors.InsufficientMemory = InsufficientMemory
 
--- an internal error of the outside
+-- an internal error that comes from outside
 abbrev pub io_error : Error
 io_error = record { error_type = InternalError; description = Io; nstatus = None }
 

@@ -1,5 +1,5 @@
--- What a call on a source or a sink says of the world outside: the bytes that are left or written
--- where they are told, and the count of faults of the object.
+-- What a call on a source or a sink says of the outside world: the bytes that are left or written,
+-- if they are exposed, and the object's count of faults.
 use Rattle.std.specs.Prelude.{◌≡◌, ◌≢◌, ℕ, ◌≤◌, Bool, true, false, List, [], ◌∷◌, ◌++◌, Option}
 use Rattle.std.specs.Prelude.{None, Some, Result, Ok, Err}
 use Rattle.std.specs.Io.KnownBytes.{Appends, Consumes, Keeps, IsAtEnd}
@@ -14,22 +14,22 @@ use Rattle.sspi_ber.specs.declared.wire_kind.WireKind.TheVariants.{ReadFault, Wr
 use Rattle.sspi_ber.specs.declared.wire_kind.WireKind.TheVariants.{InsufficientMemory}
 use Rattle.sspi_ber.specs.Pieces.{Ended, Invalid, Read}
 
--- the count of faults rose, or stands at the last value of its counter
+-- the count of faults rose, or is at the last value of its counter
 abbrev pub Rose : ℕ → ℕ → Type 0
 Rose before now = counted_on before ≤ now
 
--- what a call of `read` says of the count: a failure has it rise, and nothing else moves it
+-- what a call of `read` says of the count: a failure raises it, and nothing else changes it
 abbrev pub SourceCause : {X : Type 0} → ℕ → ℕ → Result X SourceError → Type 0
 SourceCause before now (Ok x) = now ≡ before
 SourceCause before now (Err source_errors.Failed) = (before ≤ now) × Rose before now
 
--- what a call of `next_byte` takes: one byte, or nothing where none is left
+-- what a call of `next_byte` takes: one byte, or nothing if none is left
 abbrev pub NextConsumes : Option (List ℕ) → Option (List ℕ) → Result (Option ℕ) SourceError → Type 0
 NextConsumes before after (Ok (Some byte)) = Consumes before after (byte ∷ [])
 NextConsumes before after (Ok None) = Keeps before after × IsAtEnd after
 NextConsumes before after (Err error) = Keeps before after
 
--- what a call of `write` says of the count: a failure has it rise, and nothing else moves it
+-- what a call of `write` says of the count: a failure raises it, and nothing else changes it
 abbrev pub SinkCause : {X : Type 0} → ℕ → ℕ → Result X SinkError → Type 0
 SinkCause before now (Ok x) = now ≡ before
 SinkCause before now (Err sink_errors.Failed) = (before ≤ now) × Rose before now
@@ -37,8 +37,8 @@ SinkCause before now (Err sink_errors.InsufficientMemory) = now ≡ before
 
 -- ---- readers
 
--- What a reader says of the source's count: `ReadFault` only where it rose, and no other fault of
--- the outside comes; at any other answer it did not move, so no failed call was tried again.
+-- What a reader says of the source's count: `ReadFault` only if it rose, and no other fault from
+-- outside. On any other answer the count is unchanged, so no failed call was tried again.
 abbrev pub ReadCause : {X : Type 0} → ℕ → ℕ → Result X WireKind → Type 0
 ReadCause before now (Ok x) = now ≡ before
 ReadCause before now (Err UnexpectedEof) = now ≡ before
@@ -47,7 +47,7 @@ ReadCause before now (Err ReadFault) = (before ≤ now) × Rose before now
 ReadCause before now (Err WriteFault) = ⊥
 ReadCause before now (Err InsufficientMemory) = ⊥
 
--- the same of a reader that takes memory
+-- the same for a reader that allocates
 abbrev pub CopyCause : {X : Type 0} → ℕ → ℕ → Result X WireKind → Type 0
 CopyCause before now (Ok x) = now ≡ before
 CopyCause before now (Err UnexpectedEof) = now ≡ before
@@ -56,7 +56,7 @@ CopyCause before now (Err ReadFault) = (before ≤ now) × Rose before now
 CopyCause before now (Err WriteFault) = ⊥
 CopyCause before now (Err InsufficientMemory) = now ≡ before
 
--- What a source has left after a call, refused or not, is a rest of what it had.
+-- What a source has left after a call, refused or not, is a suffix of what it had.
 pub record LeavesRest (before after : Option (List ℕ)) : Type 0 where
   pub taken : List ℕ
   pub consumed : Consumes before after taken
@@ -72,13 +72,13 @@ Answers view after (Err ReadFault) read = Unit {0}
 Answers view after (Err WriteFault) read = Unit {0}
 Answers view after (Err InsufficientMemory) read = Unit {0}
 
--- the same of a source that may tell nothing of its bytes
+-- the same for a source that may not expose its bytes
 abbrev pub Reads : {X A : Type 0} → (X → A) → Option (List ℕ) → Option (List ℕ) →
     Result X WireKind → (List ℕ → Read A) → Type 0
 Reads view None after result read = Unit {0}
 Reads view (Some bytes) after result read = Answers view after result (read bytes)
 
--- the same over a slice, where no fault of the outside comes; out of memory is free, for readers
+-- the same over a slice, where no fault comes from outside; out of memory is allowed, for readers
 -- that copy
 abbrev pub Gives : {X A : Type 0} → (X → A) → List ℕ → Result X WireKind → Read A → Type 0
 Gives view after (Ok x) read = read ≡ Ok (view x, after)
@@ -88,7 +88,7 @@ Gives view after (Err ReadFault) read = ⊥
 Gives view after (Err WriteFault) read = ⊥
 Gives view after (Err InsufficientMemory) read = Unit {0}
 
--- no out of memory: what a reader that copies nothing says besides
+-- never out of memory: what a reader that copies nothing says in addition
 abbrev pub NeedsNoMemory : {X : Type 0} → Result X WireKind → Type 0
 NeedsNoMemory (Ok x) = Unit {0}
 NeedsNoMemory (Err UnexpectedEof) = Unit {0}
@@ -103,7 +103,7 @@ NeedsNoMemory (Err InsufficientMemory) = ⊥
 pub record Wrote (before after : Option (List ℕ)) (text : List ℕ) : Type 0 where
   pub appended : Appends before after text
 
--- a proper prefix of the text was written: not all of it, so there was a text
+-- a proper prefix of the text was written: not all of it, so the text was not empty
 pub record WroteFront (before after : Option (List ℕ)) (text : List ℕ) : Type 0 where
   pub front : List ℕ
   pub rest : List ℕ
@@ -127,9 +127,9 @@ abbrev pub WritesIf : {X W : Type 0} → Bool → (W → Option (List ℕ)) → 
 WritesIf true written old new result text = Writes (written old) (written new) result text
 WritesIf false written old new result text = (result ≡ Err InvalidData) × (new ≡ old)
 
--- What a writer says of the sink's count: `WriteFault` only where it rose, and after a fault of the
--- sink, which moves the count below its last value, no other answer: out of memory does not stand
--- in its place.
+-- What a writer says of the sink's count: `WriteFault` only if it rose. After a fault of the sink,
+-- which raises a count below its last value, there is no other answer: out of memory does not
+-- replace it.
 abbrev pub WriteCause : {X : Type 0} → ℕ → ℕ → Result X WireKind → Type 0
 WriteCause before now (Ok x) = now ≡ before
 WriteCause before now (Err UnexpectedEof) = now ≡ before

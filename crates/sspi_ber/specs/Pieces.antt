@@ -1,6 +1,6 @@
--- What reading a list of bytes from left to right gives, a value and the bytes behind it, or the
--- first fault; and the pieces of BER read so. What is wrong with a length's first byte, or with the
--- length of an integer, comes before a want of the bytes behind it.
+-- What reading a list of bytes from left to right gives, a value and the bytes after it, or the
+-- first fault; and the pieces of BER read in this way. A fault of a length's first byte, or of an
+-- integer's length, comes before the end of the bytes after it.
 use Rattle.std.specs.Prelude.{ℕ, List, Result, Ok, Err, replicate, Option, None, Some, ◌-◌, nat_lt}
 use Rattle.std.specs.Prelude.{nat_le, Bool, ◌&&◌, ◌==◌, [], ◌∷◌}
 use Rattle.std.specs.Prelude.{length, take, drop, if◌then◌else◌}
@@ -24,12 +24,12 @@ abbrev pub as_ended : {A : Type 0} → Result A Fault → Result A Fault
 as_ended (Ok x) = Ok x
 as_ended (Err fault) = Err Ended
 
--- the fault, where there is one
+-- the fault, if there is one
 abbrev pub fault_of : {A : Type 0} → Result A Fault → Option Fault
 fault_of (Ok x) = None
 fault_of (Err fault) = Some fault
 
--- so many zero bytes
+-- this many zero bytes
 abbrev pub zeros : ℕ → List ℕ
 zeros count = replicate {A = ℕ} count 0
 
@@ -47,7 +47,7 @@ number_at size bytes = do
   content ← bytes_at size bytes
   Ok (big_endian content.0, content.1)
 
--- so many octets as a number up to the limit
+-- this many octets as a number up to the limit
 unfoldable pub limited_at : ℕ → List ℕ → Read ℕ
 limited_at count bytes = do
   n ← number_at count bytes
@@ -85,7 +85,7 @@ integer_at bytes = do
   n ← header_at 0x02 bytes
   if is_integer_size n.0 then number_at n.0 n.1 else Err Invalid
 
--- the length behind a tag, or nothing where another byte comes next, or none
+-- the length after a tag, or nothing if another byte comes next, or none
 unfoldable pub tag_or_absent_at : ℕ → List ℕ → Read (Option ℕ)
 tag_or_absent_at tag [] = Ok (None, [])
 tag_or_absent_at tag (byte ∷ rest) = if byte == tag
@@ -95,8 +95,7 @@ abbrev pub present_at : {A : Type 0} → (List ℕ → Read A) → Option ℕ �
 present_at inner None bytes = Ok (None, bytes)
 present_at inner (Some n) bytes = inner bytes >>= λ x. Ok (Some x.0, x.1)
 
--- an optional field: behind its tag and a length stands what inner reads; the length is not
--- compared
+-- an optional field: after its tag and a length comes what inner reads; the length is not compared
 unfoldable pub field_at : {A : Type 0} → ℕ → (List ℕ → Read A) → List ℕ → Read (Option A)
 field_at tag inner bytes = do
   n ← tag_or_absent_at tag bytes

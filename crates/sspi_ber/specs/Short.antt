@@ -4,7 +4,7 @@ use Rattle.std.specs.Prelude.{length, Result, Ok, Err, if◌then◌else◌}
 use Rattle.sspi_ber.specs.declared.wire_kind.WireKind.{WireKind}
 use Rattle.sspi_ber.specs.declared.wire_kind.WireKind.TheVariants.{InvalidData}
 
--- a number up to the limit in as few octets as hold it, the first one the highest
+-- a number up to the limit in as few octets as hold it, the most significant one first
 unfoldable pub length_octets : ℕ → List ℕ
 length_octets n =
     if nat_lt n 0x100 then n ∷ []
@@ -22,7 +22,7 @@ header tag n = tag ∷ len_short n
 unfoldable pub element : ℕ → List ℕ → List ℕ
 element tag content = header tag (length content) ++ content
 
--- how many bytes an element takes whose content has n
+-- how many bytes an element with n bytes of content takes
 unfoldable pub element_size : ℕ → ℕ
 element_size n = 1 + length (len_short n) + n
 
@@ -37,7 +37,7 @@ int_content v =
 unfoldable pub int_short : ℕ → List ℕ
 int_short v = element 0x02 (int_content v)
 
--- a size where the lengths fit, and `InvalidData` where one does not
+-- a size if the lengths fit, and `InvalidData` if one does not
 abbrev pub IsSizeIf : Bool → Result ℕ WireKind → ℕ → Type 0
 IsSizeIf true result size = result ≡ Ok size
 IsSizeIf false result size = result ≡ Err InvalidData

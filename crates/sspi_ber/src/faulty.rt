@@ -14,7 +14,7 @@ use std::alloc::Global;
 /// A source over bytes in memory whose call numbered `failing`, counted from 0, fails. For tests.
 #[derive(Drop)]
 pub struct FaultySource<'a> {
-    /// What it gives.
+    /// What it reads from.
     pub source: SliceSource<'a>,
     /// The number of the call that fails.
     pub failing: u64,
@@ -25,7 +25,7 @@ pub struct FaultySource<'a> {
 }
 
 impl<'a> FaultySource<'a> {
-    /// A source of these bytes that was not called.
+    /// A source of these bytes that has not been called.
     pub fn new(bytes: &'a [u8], failing: u64) -> FaultySource<'a>
         ensures { result ≡ record { source = bytes.now; failing = failing; calls = 0; faults = 0 } }
     {
@@ -45,7 +45,7 @@ impl Source for FaultySource<'_> {
 
     ghost faults = { λ source. source.faults };
 
-    /// Fails exactly where the number of this call is `failing`.
+    /// Fails exactly when the number of this call is `failing`.
     fn read(&mut self, into: &mut [u8]) -> Result<usize, SourceError>
         // What a source promises.
         ensures bound { IfOk result (λ count. count ≤ length into.new) }
@@ -86,7 +86,7 @@ impl Source for FaultySource<'_> {
 /// A sink in memory whose call numbered `failing`, counted from 0, fails. For tests.
 #[derive(Drop)]
 pub struct FaultySink {
-    /// What it takes.
+    /// What it writes to.
     pub sink: VecSink,
     /// The number of the call that fails.
     pub failing: u64,
@@ -97,7 +97,7 @@ pub struct FaultySink {
 }
 
 impl FaultySink {
-    /// A sink that was not called.
+    /// A sink that has not been called.
     pub fn new(alloc: Global, failing: u64) -> FaultySink
         ensures { result ≡ record { sink = []; failing = failing; calls = 0; faults = 0 } }
     {
@@ -124,7 +124,7 @@ impl Sink for FaultySink {
 
     ghost faults = { λ sink. sink.faults };
 
-    /// Fails exactly where the number of this call is `failing`.
+    /// Fails exactly when the number of this call is `failing`.
     fn write(&mut self, piece: &[u8]) -> Result<usize, SinkError>
         // What a sink promises.
         ensures bound { IfOk result (λ count. count ≤ length piece.now) }

@@ -9,8 +9,8 @@ ghost use Rattle.sspi_ber.specs.Short.{len_short, element, element_size, int_con
 use crate::identifier::{INTEGER, OCTET_STRING, SEQUENCE};
 use crate::limit::{MAX_CONTENT, MAX_LENGTH_OCTETS};
 
-/// A length is read exactly where a form of one begins the bytes, and then exactly that form is
-/// taken.
+/// A length is read exactly when the bytes begin with a form of one, and then exactly that form is
+/// consumed.
 #[tactic(auto, using(crate::proofs::Agreement::agreement))]
 pub fn lengths_agree()
     ensures takes { (bytes : List ℕ) (n : ℕ) (rest : List ℕ) → length_at bytes ≡ Ok (n, rest)
@@ -19,7 +19,7 @@ pub fn lengths_agree()
         length_at (text ++ rest) ≡ Ok (n, rest) }
 {}
 
-/// The same of an INTEGER.
+/// The same for an INTEGER.
 #[tactic(auto, using(crate::proofs::Agreement::agreement))]
 pub fn integers_agree()
     ensures takes { (bytes : List ℕ) (value : ℕ) (rest : List ℕ) →
@@ -29,7 +29,7 @@ pub fn integers_agree()
         integer_at (text ++ rest) ≡ Ok (value, rest) }
 {}
 
-/// The same of a tag, a length and a content.
+/// The same for a tag, a length and a content.
 #[tactic(auto, using(crate::proofs::Agreement::agreement))]
 pub fn elements_agree()
     ensures takes { (tag : ℕ) (bytes content rest : List ℕ) →
@@ -39,7 +39,7 @@ pub fn elements_agree()
         element_at tag (text ++ rest) ≡ Ok (content, rest) }
 {}
 
-/// What is encoded shortest is read again, whatever follows it.
+/// The shortest encodings are read back, whatever follows.
 #[tactic(auto, using(crate::proofs::Agreement::agreement))]
 pub fn shortest_is_read()
     ensures length { (n : ℕ) (more : List ℕ) → n ≤ max_content →
@@ -50,10 +50,10 @@ pub fn shortest_is_read()
         → element_at tag (element tag content ++ more) ≡ Ok (content, more) }
 {}
 
-/// No bytes that form a length are fewer than those that are written. No content bytes of an
-/// INTEGER that stand for a number which is not negative are fewer than those that are written of
-/// it; below 2 ^ 31 these are such bytes, and above they are always four, where X.690 8.3.3 has
-/// five.
+/// No form of a length has fewer bytes than the one that is written. No content bytes of an INTEGER
+/// that represent a nonnegative number are fewer than those that are written for it. Below 2 ^ 31
+/// the written bytes represent such a number; from there on they are always four, where X.690 8.3.3
+/// has five.
 #[tactic(auto, using(crate::proofs::Agreement::agreement))]
 pub fn shortest_is_shortest()
     ensures length { (text : List ℕ) (n : ℕ) → ((i : ℕ) → slice_index text i < 256) →
@@ -66,7 +66,7 @@ pub fn shortest_is_shortest()
     ensures four { (value : ℕ) → 2 ^ 31 ≤ value → length (int_content value) ≡ 4 }
 {}
 
-/// The named constants are the limit of all lengths, the octets that they may need, and the
+/// The named constants are the limit of all lengths, how many octets they may need, and the
 /// identifier octets of X.690 8.1.2 for these types.
 pub fn constants_have_their_numbers()
     // The limits of a length.

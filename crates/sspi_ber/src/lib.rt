@@ -1,18 +1,17 @@
 //! The pieces of BER (X.690) that CredSSP and SPNEGO are encoded in: tags, lengths, integers and
 //! octet strings.
 //!
-//! What is written has its lengths and integers in their shortest form, and a content past the
-//! limit is refused with nothing written; each `sizeof_*` says beforehand how many bytes come. A
+//! Lengths and integers are written in their shortest form, and a content past the limit is
+//! refused with nothing written; each `sizeof_*` says beforehand how many bytes are written. A
 //! writer that is refused later has written a proper prefix of its bytes: never all of them, which
-//! is success. What is read may have a length in a longer form than it needs. A reader goes from
-//! left to right and refuses at the first fault: the bytes end (`UnexpectedEof`), or a tag or a
-//! length is not as it must be (`InvalidData`).
+//! is success. When reading, a length may have a longer form than it needs. A reader goes from left
+//! to right and refuses at the first fault: the bytes end (`UnexpectedEof`), or a tag or a length
+//! is not as it must be (`InvalidData`).
 //!
-//! `Source` and `Sink` are the world outside, with a count of their faults: a read or write fault
-//! is answered only where that count rose, or stands at `u64::MAX`, and after a fault of a sink a
-//! writer answers nothing else. `SliceSource` and `VecSink` stand over memory, `FaultySource` and
-//! `FaultySink` fail once for tests, and `StdSource` and `StdSink` stand over std's readers and
-//! writers.
+//! `Source` and `Sink` are the outside world, with a count of their faults. A read or write fault
+//! is reported only if that count rose or is at `u64::MAX`. After a fault of a sink, a writer
+//! reports nothing else. `SliceSource` and `VecSink` work in memory, `FaultySource` and
+//! `FaultySink` fail once for tests, and `StdSource` and `StdSink` wrap std's readers and writers.
 #![tactic(auto)]
 
 pub mod faulty;

@@ -4,5 +4,5 @@
 /// header has at most 1048581.
 pub const MAX_CONTENT: usize = 1048576;
 
-/// The most octets that a length may have behind its first.
+/// The most octets that a length may have after its first.
 pub const MAX_LENGTH_OCTETS: u32 = 3;

@@ -25,7 +25,7 @@ fn read_byte<S: Source>(source: &mut S) -> Result<u8, WireKind>
     }
 }
 
-/// `size` bytes as a number, the first byte the highest.
+/// Reads `size` bytes as a number, the most significant byte first.
 fn read_number<S: Source>(source: &mut S, size: u32) -> Result<u64, WireKind>
     requires { size ≤ 8 }
     ensures read { Reads (λ n. n) (S.left source.old) (S.left source.new) result (number_at size) }
@@ -40,7 +40,7 @@ fn read_number<S: Source>(source: &mut S, size: u32) -> Result<u64, WireKind>
     Ok(value)
 }
 
-/// `count` octets as a length, which the limit bounds.
+/// Reads `count` octets as a length, which the limit bounds.
 #[tactic(auto, unfolding(crate::specs::Pieces::limited_at))]
 fn read_limited<S: Source>(source: &mut S, count: u32) -> Result<u32, WireKind>
     requires { count ≤ 8 }
@@ -63,7 +63,7 @@ fn is_octet_count(count: u32) -> bool
     1 <= count && count <= MAX_LENGTH_OCTETS
 }
 
-/// A length in one of its four forms, and how many bytes it took.
+/// Reads a length in one of its four forms, and returns it with how many bytes it took.
 #[tactic(auto, unfolding(crate::specs::Sized::sized_length_at, crate::specs::Pieces::length_at))]
 fn read_sized_length<S: Source>(source: &mut S) -> Result<(u32, usize), WireKind>
     ensures read { Reads (λ sized. (sized.0, sized.1)) (S.left source.old) (S.left source.new)
@@ -84,10 +84,10 @@ fn read_sized_length<S: Source>(source: &mut S) -> Result<(u32, usize), WireKind
     Ok((len, 1 + count as usize))
 }
 
-/// A length in one of its four forms, shortest or not (X.690 8.1.3).
+/// Reads a length in one of its four forms, shortest or not (X.690 8.1.3).
 ///
-/// `UnexpectedEof` where the input ends, `InvalidData` for a first octet of 0x80 or above 0x83 and
-/// for a length past the limit, `ReadFault` only where the source failed.
+/// `UnexpectedEof` if the input ends; `InvalidData` for a first octet of 0x80 or above 0x83 and
+/// for a length past the limit; `ReadFault` only if the source failed.
 #[tactic(auto, using(crate::proofs::Sized::length_half, crate::proofs::Sized::length_fault))]
 pub fn read_length<S: Source>(source: &mut S) -> Result<u32, WireKind>
     ensures read { Reads (λ n. n) (S.left source.old) (S.left source.new) result length_at }
@@ -100,8 +100,8 @@ pub fn read_length<S: Source>(source: &mut S) -> Result<u32, WireKind>
     }
 }
 
-/// This identifier octet and a length, which is the answer. `InvalidData` where another byte comes
-/// first; else refused as `read_length`.
+/// Reads this identifier octet and a length, and returns the length. `InvalidData` if another byte
+/// comes first; otherwise refused like `read_length`.
 #[tactic(auto, unfolding(crate::specs::Pieces::header_at))]
 pub fn read_header<S: Source>(source: &mut S, tag: u8) -> Result<u32, WireKind>
     ensures read { Reads (λ n. n) (S.left source.old) (S.left source.new) result (header_at tag) }
@@ -114,7 +114,7 @@ pub fn read_header<S: Source>(source: &mut S, tag: u8) -> Result<u32, WireKind>
     read_length(source)
 }
 
-/// The same as `read_header`, with how many bytes the header took.
+/// The same as `read_header`, but also returns how many bytes the header took.
 #[tactic(auto, unfolding(crate::specs::Pieces::sized_header_at, crate::specs::Pieces::header_at, crate::specs::Sized::sized_length_at))]
 pub fn read_sized_header<S: Source>(source: &mut S, tag: u8) -> Result<(u32, usize), WireKind>
     ensures read { Reads (λ sized. (sized.0, sized.1)) (S.left source.old) (S.left source.new)
@@ -130,8 +130,8 @@ pub fn read_sized_header<S: Source>(source: &mut S, tag: u8) -> Result<(u32, usi
     Ok((len, 1 + size))
 }
 
-/// The header of a SEQUENCE: its identifier octet and a length, which is the answer. Refused as
-/// `read_header`.
+/// Reads the header of a SEQUENCE, its identifier octet and a length, and returns the length.
+/// Refused like `read_header`.
 pub fn read_sequence_tag<S: Source>(source: &mut S) -> Result<u32, WireKind>
     ensures read { Reads (λ n. n) (S.left source.old) (S.left source.new) result (header_at 0x30) }
     ensures cause { ReadCause (S.faults source.old) (S.faults source.new) result }
@@ -140,8 +140,8 @@ pub fn read_sequence_tag<S: Source>(source: &mut S) -> Result<u32, WireKind>
     read_header(source, SEQUENCE)
 }
 
-/// The header of a context-specific element. Of `tagnum` the low five bits count. Refused as
-/// `read_header`.
+/// Reads the header of a context-specific element. Only the low five bits of `tagnum` count.
+/// Refused like `read_header`.
 pub fn read_contextual_tag<S: Source>(source: &mut S, tagnum: u8, pc: Pc) -> Result<u32, WireKind>
     ensures read { Reads (λ n. n) (S.left source.old) (S.left source.new) result
         (header_at (contextual_identifier tagnum pc)) }
@@ -151,7 +151,7 @@ pub fn read_contextual_tag<S: Source>(source: &mut S, tagnum: u8, pc: Pc) -> Res
     read_header(source, contextual_identifier(tagnum, pc))
 }
 
-/// The header of an OCTET STRING. Refused as `read_header`.
+/// Reads the header of an OCTET STRING. Refused like `read_header`.
 pub fn read_octet_string_tag<S: Source>(source: &mut S) -> Result<u32, WireKind>
     ensures read { Reads (λ n. n) (S.left source.old) (S.left source.new) result (header_at 0x04) }
     ensures cause { ReadCause (S.faults source.old) (S.faults source.new) result }
@@ -167,8 +167,8 @@ fn is_integer_size(size: u32) -> bool
     size == 1 || size == 2 || size == 3 || size == 4 || size == 8
 }
 
-/// An INTEGER without sign, whose content has 1, 2, 3, 4 or 8 bytes. A length other than these is
-/// `InvalidData`, whatever stands behind it.
+/// Reads an unsigned INTEGER, whose content has 1, 2, 3, 4 or 8 bytes. Any other length is
+/// `InvalidData`, whatever follows it.
 #[tactic(auto, unfolding(crate::specs::Pieces::integer_at))]
 pub fn read_integer<S: Source>(source: &mut S) -> Result<u64, WireKind>
     ensures read { Reads (λ n. n) (S.left source.old) (S.left source.new) result integer_at }

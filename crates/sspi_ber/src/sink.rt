@@ -1,4 +1,4 @@
-//! The trait of what takes bytes, with a count of its faults.
+//! The trait of byte sinks, with a count of their faults.
 
 ghost use Rattle.std.specs.Prelude.{◌<◌, ◌≤◌, IfOk, length};
 ghost use Rattle.std.specs.Io.KnownBytes.{WriteAppends};
@@ -9,7 +9,7 @@ ghost use Rattle.sspi_ber.specs.Outside.{SinkCause};
 pub enum SinkError {
     /// The sink failed, and its count of faults rose. A later call may succeed.
     Failed,
-    /// There was no memory for the bytes; no fault.
+    /// There was no memory for the bytes, which is not a fault.
     InsufficientMemory,
 }
 
@@ -17,14 +17,14 @@ pub enum SinkError {
 pub trait Sink {
     ghost use Rattle.std.specs.Prelude.{ℕ, List, Option};
 
-    // The bytes that were written, where they are told.
+    // The bytes that were written, if they are exposed.
     ghost written: { Self → Option (List ℕ) };
 
     // How often the sink failed. It never falls, and stays at `u64::MAX` once it is there.
     ghost faults: { Self → ℕ };
 
-    /// Writes a prefix of `piece`, and answers how many bytes: at least one of a nonempty `piece`.
-    /// A refusal wrote nothing.
+    /// Writes a prefix of `piece`, and returns how many bytes: at least one of a nonempty `piece`.
+    /// If the write is refused, nothing was written.
     fn write(&mut self, piece: &[u8]) -> Result<usize, SinkError>
         ensures bound { IfOk result (λ count. count ≤ length piece.now) }
         ensures some { 0 < length piece.now → IfOk result (λ count. 0 < count) }

@@ -25,7 +25,7 @@ pub(crate) fn length_size(len: usize) -> usize
     }
 }
 
-/// How many bytes the shortest length takes. `InvalidData` exactly where `len` passes the limit.
+/// How many bytes the shortest length takes. `InvalidData` exactly when `len` exceeds the limit.
 pub fn sizeof_length(len: usize) -> Result<usize, WireKind>
     ensures { IsSizeIf (nat_le len max_content) result (length (len_short len)) }
 {
@@ -35,7 +35,7 @@ pub fn sizeof_length(len: usize) -> Result<usize, WireKind>
     Ok(length_size(len))
 }
 
-/// How many bytes the header of a SEQUENCE takes whose content has `len` bytes. `InvalidData`
+/// How many bytes the header of a SEQUENCE with `len` bytes of content takes. `InvalidData`
 /// exactly past the limit.
 pub fn sizeof_sequence_tag(len: usize) -> Result<usize, WireKind>
     ensures { IsSizeIf (nat_le len max_content) result (1 + length (len_short len)) }
@@ -54,7 +54,7 @@ pub fn sizeof_contextual_tag(len: usize) -> Result<usize, WireKind>
     sizeof_sequence_tag(len)
 }
 
-/// How many bytes an element takes whose content fits.
+/// How many bytes an element takes with `len` bytes of content, which must fit.
 #[tactic(auto, unfolding(crate::specs::Short::element_size))]
 pub fn size_of_element(len: usize) -> usize
     requires { len ≤ max_content }
@@ -73,8 +73,8 @@ pub(crate) fn fits_in_element(len: usize) -> bool
     len <= MAX_CONTENT && size_of_element(len) <= MAX_CONTENT
 }
 
-/// How many bytes a SEQUENCE takes whose content has `len` bytes. `InvalidData` exactly where `len`
-/// passes the limit.
+/// How many bytes a SEQUENCE with `len` bytes of content takes. `InvalidData` exactly when `len`
+/// exceeds the limit.
 pub fn sizeof_sequence(len: usize) -> Result<usize, WireKind>
     ensures { IsSizeIf (nat_le len max_content) result (element_size len) }
 {
@@ -84,7 +84,7 @@ pub fn sizeof_sequence(len: usize) -> Result<usize, WireKind>
     Ok(size_of_element(len))
 }
 
-/// How many bytes an OCTET STRING of `len` bytes takes. `InvalidData` exactly where `len` passes
+/// How many bytes an OCTET STRING of `len` bytes takes. `InvalidData` exactly when `len` exceeds
 /// the limit.
 pub fn sizeof_octet_string(len: usize) -> Result<usize, WireKind>
     ensures { IsSizeIf (nat_le len max_content) result (element_size len) }
@@ -93,7 +93,7 @@ pub fn sizeof_octet_string(len: usize) -> Result<usize, WireKind>
 }
 
 /// How many bytes an OCTET STRING of `len` bytes takes inside another tag. `InvalidData` exactly
-/// where that tag's content, the whole OCTET STRING, passes the limit.
+/// when that tag's content, the whole OCTET STRING, exceeds the limit.
 pub fn sizeof_sequence_octet_string(len: usize) -> Result<usize, WireKind>
     ensures { IsSizeIf (nat_le (element_size len) max_content) result
         (element_size (element_size len)) }

@@ -1,4 +1,4 @@
-//! Reads optional fields and elements of bytes in memory, without a copy.
+//! Reads optional fields and elements from bytes in memory, without copying.
 
 ghost use Rattle.sspi_ber.specs.Identifier.{contextual_identifier};
 ghost use Rattle.sspi_ber.specs.Outside.{Gives, NeedsNoMemory};
@@ -9,8 +9,8 @@ use crate::reading::{read_header, read_length};
 use crate::slice_source::SliceSource;
 use crate::wire_kind::WireKind;
 
-/// The length behind this identifier octet. Answers `None`, and takes nothing, at the end and where
-/// another byte stands; once the octet is there, refused as `read_length`.
+/// The length after this identifier octet. Returns `None`, and consumes nothing, at the end or if
+/// another byte is next; once the octet is there, refused like `read_length`.
 #[tactic(auto, using(crate::proofs::Absent::absent), unfolding(crate::specs::Pieces::tag_or_absent_at))]
 pub fn read_tag_or_absent(source: &mut SliceSource<'_>, tag: u8) -> Result<Option<u32>, WireKind>
     ensures read { Gives (λ len. len) source.new result (tag_or_absent_at tag source.old) }
@@ -23,8 +23,8 @@ pub fn read_tag_or_absent(source: &mut SliceSource<'_>, tag: u8) -> Result<Optio
     Ok(Some(len))
 }
 
-/// The length behind a context-specific identifier octet, as `read_tag_or_absent`. Of `tagnum` the
-/// low five bits count.
+/// The length after a context-specific identifier octet, like `read_tag_or_absent`. Only the low
+/// five bits of `tagnum` count.
 pub fn read_contextual_tag_or_absent(
     source: &mut SliceSource<'_>,
     tagnum: u8,
@@ -39,8 +39,8 @@ pub fn read_contextual_tag_or_absent(
 
 /// The content of the element with this identifier octet, which is next.
 ///
-/// `InvalidData` where another byte comes first, `UnexpectedEof` where the content is not all
-/// there; else refused as `read_length`.
+/// `InvalidData` if another byte comes first, `UnexpectedEof` if the content is not all there;
+/// otherwise refused like `read_length`.
 #[tactic(auto, unfolding(crate::specs::Pieces::element_at))]
 pub fn read_element<'a>(source: &mut SliceSource<'a>, tag: u8) -> Result<&'a [u8], WireKind>
     ensures read { Gives (λ content. content.now) source.new result (element_at tag source.old) }

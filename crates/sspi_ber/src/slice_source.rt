@@ -9,7 +9,7 @@ use crate::source::{Source, SourceError};
 use crate::wire_kind::WireKind;
 use std::marker::Model;
 
-/// A source over bytes in memory. It never fails and takes no memory.
+/// A source over bytes in memory. It never fails and allocates nothing.
 #[derive(Drop)]
 pub struct SliceSource<'a> {
     rest: &'a [u8],
@@ -38,7 +38,7 @@ impl<'a> SliceSource<'a> {
         self.rest
     }
 
-    /// Takes the next byte where it is this one, and else nothing.
+    /// Takes the next byte if it is this one, otherwise nothing.
     pub fn take_if(&mut self, byte: u8) -> bool
         ensures { MatchBool result (self.old ≡ byte ∷ self.new) ((self.new ≡ self.old) ×
             IsNotNext byte self.old) }
@@ -55,7 +55,7 @@ impl<'a> SliceSource<'a> {
         }
     }
 
-    /// The next `len` bytes. `UnexpectedEof` exactly where fewer are left, and then nothing is
+    /// The next `len` bytes. `UnexpectedEof` exactly when fewer are left, and then nothing is
     /// taken.
     #[tactic(auto, unfolding(crate::specs::Pieces::bytes_at))]
     pub fn take(&mut self, len: usize) -> Result<&'a [u8], WireKind>

@@ -1,4 +1,4 @@
-//! The trait of what gives bytes, with a count of its faults.
+//! The trait of byte sources, with a count of their faults.
 
 ghost use Rattle.std.specs.Prelude.{◌≤◌, IfOk, length};
 ghost use Rattle.std.specs.Io.KnownBytes.{ReadConsumes};
@@ -15,13 +15,13 @@ pub enum SourceError {
 pub trait Source {
     ghost use Rattle.std.specs.Prelude.{ℕ, List, Option};
 
-    // The bytes that are left, where they are told.
+    // The bytes that are left, if they are exposed.
     ghost left: { Self → Option (List ℕ) };
 
     // How often the source failed. It never falls, and stays at `u64::MAX` once it is there.
     ghost faults: { Self → ℕ };
 
-    /// Reads the next bytes into `into`, and answers how many. Where `into` has room, 0 says that
+    /// Reads the next bytes into `into`, and returns how many. If `into` is not empty, 0 means that
     /// nothing is left.
     fn read(&mut self, into: &mut [u8]) -> Result<usize, SourceError>
         ensures bound { IfOk result (λ count. count ≤ length into.new) }

@@ -5,9 +5,9 @@ ghost use Rattle.std.specs.Prelude.{◌≡◌};
 use crate::sink::{Sink, SinkError};
 use std::io::Write;
 
-/// A sink over std's writer. It tells the bytes that the writer tells, asks for one write of it in
-/// a call, never flushes it, and counts each error of the writer, an interruption too, as a fault;
-/// so too a write of no byte of a nonempty piece.
+/// A sink over std's writer. It exposes the bytes that the writer exposes, makes one write per
+/// call, and never flushes. Each error of the writer, an interruption too, counts as a fault; so
+/// does a write of no byte of a nonempty piece.
 #[derive(Drop)]
 pub struct StdSink<W> {
     writer: W,

@@ -5,8 +5,8 @@ ghost use Rattle.std.specs.Prelude.{◌≡◌};
 use crate::source::{Source, SourceError};
 use std::io::Read;
 
-/// A source over std's reader. It tells the bytes that the reader tells, asks for no more than one
-/// read of it in a call, and counts each error of the reader, an interruption too, as a fault.
+/// A source over std's reader. It exposes the bytes that the reader exposes, and makes at most one
+/// read per call. Each error of the reader, an interruption too, counts as a fault.
 #[derive(Drop)]
 pub struct StdSource<R> {
     reader: R,

@@ -1,4 +1,4 @@
-//! A sink that keeps what is written in memory.
+//! A sink in memory, which keeps what is written.
 
 ghost use Rattle.std.specs.Prelude.{◌≡◌, [], IfOk};
 
@@ -6,7 +6,7 @@ use crate::sink::{Sink, SinkError};
 use std::alloc::{AllocError, Global};
 use std::marker::Model;
 
-/// A sink that keeps what was written in memory. It fails only when out of memory, which is no
+/// A sink in memory, which keeps what was written. It fails only when out of memory, which is not a
 /// fault.
 #[derive(Drop)]
 pub struct VecSink {
@@ -22,7 +22,7 @@ impl Model for VecSink {
 }
 
 impl VecSink {
-    /// A sink to which nothing was written. Takes no memory.
+    /// A sink to which nothing was written. Allocates nothing.
     pub fn new(alloc: Global) -> VecSink
         ensures { result ≡ [] }
     {
@@ -31,7 +31,7 @@ impl VecSink {
         }
     }
 
-    /// The same with room for `capacity` bytes, so that writing so many takes memory once.
+    /// The same with room for `capacity` bytes, so that writing that many allocates only once.
     pub fn with_capacity(alloc: Global, capacity: usize) -> Result<VecSink, AllocError>
         ensures { IfOk result (λ sink. sink ≡ []) }
     {

@@ -12,13 +12,13 @@ use std::alloc::{AllocError, AllocFailed};
 pub enum WireKind {
     /// The bytes end before the element does.
     UnexpectedEof,
-    /// A wrong tag or a length that is refused; of a writer, a content that is too long.
+    /// A wrong tag or a refused length; for a writer, a content that is too long.
     InvalidData,
     /// The source failed.
     ReadFault,
     /// The sink failed.
     WriteFault,
-    /// There was no memory.
+    /// Memory ran out.
     InsufficientMemory,
 }
 

@@ -14,9 +14,9 @@ use crate::sink::Sink;
 use crate::sizes::{fits_in_element, length_size, size_of_element, sizeof_integer};
 use crate::wire_kind::WireKind;
 
-/// All of `piece`, in as many writes as the sink needs. `WriteFault` and `InsufficientMemory` only
-/// where not all of it was written: a proper prefix of it was, and of an empty piece nothing is
-/// refused.
+/// Writes all of `piece`, in as many writes as the sink needs. `WriteFault` and
+/// `InsufficientMemory` come only if a proper prefix of it was written, never all of it. So an
+/// empty piece is never refused.
 pub fn write_all<W: Sink>(sink: &mut W, piece: &[u8]) -> Result<(), WireKind>
     ensures wrote { Writes (W.written sink.old) (W.written sink.new) result piece.now }
     ensures cause { WriteCause (W.faults sink.old) (W.faults sink.new) result }
@@ -54,7 +54,7 @@ fn write_short_length<W: Sink>(sink: &mut W, len: usize) -> Result<(), WireKind>
     }
 }
 
-/// An identifier octet, and the shortest length of a content that fits.
+/// Writes an identifier octet, and the shortest length of a content that fits.
 #[inline(always)]
 #[tactic(auto, unfolding(crate::specs::Short::header, crate::specs::Short::len_short, crate::specs::Short::length_octets))]
 pub fn write_header<W: Sink>(sink: &mut W, tag: u8, len: usize) -> Result<(), WireKind>
@@ -82,7 +82,7 @@ pub fn write_header<W: Sink>(sink: &mut W, tag: u8, len: usize) -> Result<(), Wi
     }
 }
 
-/// An identifier octet, the shortest length, and a content that fits.
+/// Writes an identifier octet, the shortest length, and a content that fits.
 #[tactic(auto, using(crate::proofs::Written::writing), unfolding(crate::specs::Short::element))]
 pub fn write_element<W: Sink>(sink: &mut W, tag: u8, content: &[u8]) -> Result<(), WireKind>
     requires { length content.now ≤ max_content }
@@ -94,7 +94,7 @@ pub fn write_element<W: Sink>(sink: &mut W, tag: u8, content: &[u8]) -> Result<(
     write_all(sink, content)
 }
 
-/// An OCTET STRING inside another element, where both fit.
+/// Writes an OCTET STRING inside another element; both must fit.
 #[tactic(auto, using(crate::proofs::Written::writing, crate::proofs::Written::lengths), unfolding(crate::specs::Short::element))]
 pub fn write_wrapped_octets<W: Sink>(sink: &mut W, tag: u8, value: &[u8]) -> Result<(), WireKind>
     requires value { length value.now ≤ max_content }
@@ -112,8 +112,8 @@ pub fn write_wrapped_octets<W: Sink>(sink: &mut W, tag: u8, value: &[u8]) -> Res
     write_element(sink, OCTET_STRING, value)
 }
 
-/// The shortest length, and how many bytes it took. `InvalidData` exactly where it passes the
-/// limit.
+/// Writes the shortest length, and returns how many bytes it took. `InvalidData` exactly when `len`
+/// exceeds the limit.
 pub fn write_length<W: Sink>(sink: &mut W, len: usize) -> Result<usize, WireKind>
     ensures wrote { WritesIf (nat_le len max_content) W.written sink.old sink.new result
         (len_short len) }
@@ -141,8 +141,8 @@ fn write_tag<W: Sink>(sink: &mut W, tag: u8, len: usize) -> Result<usize, WireKi
     Ok(1 + length_size(len))
 }
 
-/// The header of a SEQUENCE whose content has `len` bytes, and how many bytes the header took.
-/// `InvalidData` exactly where `len` passes the limit.
+/// Writes the header of a SEQUENCE with `len` bytes of content, and returns how many bytes the
+/// header took. `InvalidData` exactly when `len` exceeds the limit.
 pub fn write_sequence_tag<W: Sink>(sink: &mut W, len: usize) -> Result<usize, WireKind>
     ensures wrote { WritesIf (nat_le len max_content) W.written sink.old sink.new result
         (header 0x30 len) }
@@ -152,8 +152,8 @@ pub fn write_sequence_tag<W: Sink>(sink: &mut W, len: usize) -> Result<usize, Wi
     write_tag(sink, SEQUENCE, len)
 }
 
-/// The header of a context-specific element, and how many bytes it took. Of `tagnum` the low five
-/// bits count. `InvalidData` exactly where `len` passes the limit.
+/// Writes the header of a context-specific element, and returns how many bytes it took. Only the
+/// low five bits of `tagnum` count. `InvalidData` exactly when `len` exceeds the limit.
 pub fn write_contextual_tag<W: Sink>(
     sink: &mut W,
     tagnum: u8,
@@ -169,8 +169,8 @@ pub fn write_contextual_tag<W: Sink>(
     write_tag(sink, contextual_identifier(tagnum, pc), len)
 }
 
-/// The header of an OCTET STRING of `len` bytes, and how many bytes it took. `InvalidData` exactly
-/// where `len` passes the limit.
+/// Writes the header of an OCTET STRING of `len` bytes, and returns how many bytes it took.
+/// `InvalidData` exactly when `len` exceeds the limit.
 pub fn write_octet_string_tag<W: Sink>(sink: &mut W, len: usize) -> Result<usize, WireKind>
     ensures wrote { WritesIf (nat_le len max_content) W.written sink.old sink.new result
         (header 0x04 len) }
@@ -180,8 +180,8 @@ pub fn write_octet_string_tag<W: Sink>(sink: &mut W, len: usize) -> Result<usize
     write_tag(sink, OCTET_STRING, len)
 }
 
-/// An OCTET STRING, and how many bytes it took. `InvalidData` exactly where the value passes the
-/// limit.
+/// Writes an OCTET STRING, and returns how many bytes it took. `InvalidData` exactly when the value
+/// exceeds the limit.
 #[tactic(auto, using(crate::proofs::Written::lengths))]
 pub fn write_octet_string<W: Sink>(sink: &mut W, value: &[u8]) -> Result<usize, WireKind>
     ensures wrote { WritesIf (nat_le (length value.now) max_content) W.written sink.old sink.new
@@ -196,9 +196,9 @@ pub fn write_octet_string<W: Sink>(sink: &mut W, value: &[u8]) -> Result<usize, 
     Ok(size_of_element(value.len()))
 }
 
-/// An OCTET STRING inside a constructed context-specific tag, and how many bytes both took. Of
-/// `tagnum` the low five bits count. `InvalidData` exactly where the whole OCTET STRING passes the
-/// limit.
+/// Writes an OCTET STRING inside a constructed context-specific tag, and returns how many bytes
+/// both took. Only the low five bits of `tagnum` count. `InvalidData` exactly when the whole OCTET
+/// STRING exceeds the limit.
 #[tactic(auto, using(crate::proofs::Written::writing, crate::proofs::Written::lengths), unfolding(crate::specs::Short::element))]
 pub fn write_sequence_octet_string<W: Sink>(
     sink: &mut W,
@@ -219,7 +219,7 @@ pub fn write_sequence_octet_string<W: Sink>(
     Ok(size_of_element(size_of_element(value.len())))
 }
 
-/// One identifier octet, in the class of its tag.
+/// Writes one identifier octet of the universal class, and returns 1.
 pub fn write_universal_tag<W: Sink>(sink: &mut W, tag: Tag, pc: Pc) -> Result<usize, WireKind>
     ensures wrote { Writes (W.written sink.old) (W.written sink.new) result
         (universal_identifier tag pc ∷ []) }
@@ -250,8 +250,8 @@ fn write_short_integer<W: Sink>(sink: &mut W, value: u32) -> Result<(), WireKind
     }
 }
 
-/// An INTEGER in its shortest encoding of at most four content bytes, and how many bytes it took: 3
-/// to 6.
+/// Writes an INTEGER in its shortest encoding of at most four content bytes, and returns how many
+/// bytes it took: 3 to 6.
 pub fn write_integer<W: Sink>(sink: &mut W, value: u32) -> Result<usize, WireKind>
     ensures wrote { Writes (W.written sink.old) (W.written sink.new) result (int_short value) }
     ensures count { IfOk result (λ count. count ≡ length (int_short value)) }
