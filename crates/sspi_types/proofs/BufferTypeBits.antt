@@ -10,12 +10,12 @@ use Rattle.sspi_types.specs.declared.buffer_type.BufferType.TheVariants as type
 use Rattle.sspi_types.specs.BufferTypes.{buffer_type_number}
 use Rattle.sspi_types.specs.SecurityBufferTypes.{type_bits, flag_bits, IsBufferTypeNumber}
 
--- an equation that computes at each number below a written-out n
+-- an equation that can be computed at each number below a literal n
 equal_below : (f g : ℕ → ℕ) (n k : ℕ) → agree_below (λ x. eqb (f x) (g x)) (λ x. true) n ≡ true → k < n → f k ≡ g k
 equal_below f g n k all below =
     eqb→eq (f k) (g k) (subst T (sym (agree_below_at (λ x. eqb (f x) (g x)) (λ x. true) n k all below)) tt)
 
--- a mask of high bits reads the high part alone
+-- a mask of high bits reads only the high part
 high_bits : (n mask : ℕ) → bit_and n (mask * 2 ^ 28) ≡ bit_and (n / 2 ^ 28) mask * 2 ^ 28
 high_bits n mask =
     let parts : n ≡ n / 2 ^ 28 * 2 ^ 28 + n % 2 ^ 28 = omega arith in
@@ -32,7 +32,7 @@ flag_bits_split n small =
     let others = high_bits n 6 in
     omega arith
 
--- what the known flags keep of them
+-- the named flags among them
 pub named_bits : (n : ℕ) → bit_and (flag_bits n) 0x90000000 ≡ bit_and n 0x90000000
 named_bits n = and_assoc 0x90000000 n 0xf0000000
 
@@ -41,7 +41,7 @@ pub low_number : (kind : BufferType) (n : ℕ) → buffer_type_number kind ≡ t
 low_number type.Empty n e = omega (arith, and_le_r n 0x0fffffff)
 low_number _ n e = omega (arith, and_le_r n 0x0fffffff)
 
--- each number of 0 to 18 is a type's
+-- each number from 0 to 18 is that of a type
 pub no_number : (n : ℕ) → ((kind : BufferType) → buffer_type_number kind ≡ n → ⊥) → 18 < n
 no_number n none =
     omega (
@@ -67,7 +67,7 @@ no_number n none =
       none type.ApplicationProtocol,
     )
 
--- the low bits are the rest
+-- the low bits are the remainder
 low_bits : (n : ℕ) → type_bits n ≡ n % 2 ^ 28
 low_bits n = and_mask n 28
 
@@ -78,7 +78,7 @@ high_part n small =
     let masked = high_bits n 15 in
     omega arith
 
--- a type beside flags
+-- a type together with flags
 joined : (kind high : ℕ) → kind < 2 ^ 28 → bit_or kind (high * 2 ^ 28) ≡ high * 2 ^ 28 + kind
 joined kind high small =
     let left : kind ≡ 0 * 2 ^ 28 + kind = omega arith in
@@ -101,7 +101,7 @@ parts_of_joined kind flags low only =
     ap (λ q. bit_and q 6) quotient ∙ and_assoc 6 (flags / 2 ^ 28) 9 ∙ and_zero_r (flags / 2 ^ 28) in
     ((omega arith, omega arith), omega arith, omega arith)
 
--- a number's parts make it again
+-- the parts of a number make it up again
 pub joined_parts : (n : ℕ) → n < 2 ^ 32 → bit_or (type_bits n) (flag_bits n) ≡ n
 joined_parts n small =
     let rest = low_bits n in

@@ -1,4 +1,4 @@
--- No two values of a number enum have one number, so `==` compares the numbers: each table is computed once, by the lemmas of `Variants`.
+-- The numbers of an enum are distinct, so `==` compares them: by `Variants`, once for each table.
 use Rattle.std.proofs.Common.{◌≡◌, eqb, refl}
 use denote.Enum.Bare.{sameb}
 use Rattle.sspi_types.specs.declared.error_kind.ErrorKind.{ErrorKind}

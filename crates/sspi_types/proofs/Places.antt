@@ -1,4 +1,4 @@
--- The element at the place that a test first passes at is the one that a search finds.
+-- The element at the first place where a test passes is the one that a search finds.
 use Rattle.std.proofs.Common.{◌≡◌, ◌∙◌, ◌<◌, ◌≤◌, ℕ, Bool, true, false, cond, ltb, Some, None}
 use Rattle.std.proofs.Common.{List, length, get_or, position, sym, ap, refl, arith, tests}
 use Rattle.std.proofs.lemmas.List.Folds.{find_at}

@@ -1,4 +1,4 @@
--- An enum without fields whose variants have numbers: that no two numbers are equal is computed once, from the table.
+-- An enum of numbered variants without fields: one computation on its table shows they differ.
 use Rattle.std.proofs.Common.{◌≡◌, ℕ, suc, Bool, true, false, ◌&&◌, cond, eqb, eq-eqb}
 use Rattle.std.proofs.Common.{T, List, [], ◌∷◌, inl, inr, refl, sym, ◌∙◌, ap, subst}
 use lib.Dec.{eqb→eq}
@@ -6,7 +6,7 @@ use denote.Struct.Field.{Field}
 use denote.Enum.Bare.{Bare, sameb, same_true, true_same}
 use denote.Enum.Declared.{Record, Choice, declared}
 
--- the test holds of every choice
+-- the test holds for every choice
 abbrev pub holds_of_all : (Fss : List (List Field)) → (Choice Fss → Bool) → Bool
 holds_of_all [] p = true
 holds_of_all ([] ∷ Fss) p = p (inl tt) && holds_of_all Fss (λ c. p (inr c))
@@ -56,7 +56,7 @@ place_one ((F ∷ Fs) ∷ Fss) bare a b e = absurd bare
 true_eq : (m n : ℕ) → eqb m n ≡ true → m ≡ n
 true_eq m n e = eqb→eq m n (subst T (sym e) tt)
 
--- two values with one number are one value
+-- two values with the same number are the same value
 pub same_number : (N : Record) → Bare N.parts → (number : N.D → ℕ) → are_apart N number ≡ true → (a b : N.D) → number a ≡ number b → a ≡ b
 same_number N bare number apart a b e =
     let f : Choice N.parts → ℕ = λ c. number (N.make c) in
@@ -73,7 +73,7 @@ agree true t f g = sym (f refl)
 agree false true f g = g refl
 agree false false f g = refl
 
--- `==` at the enum compares the numbers
+-- `==` on the enum compares the numbers
 pub same_test : (N : Record) → Bare N.parts → (number : N.D → ℕ) → are_apart N number ≡ true → (a b : N.D) →
     sameb (declared N) a b ≡ eqb (number a) (number b)
 same_test N bare number apart a b =

@@ -25,12 +25,11 @@ unflagged_buffer bytes type = record {
 abbrev pub has_type : BufferType → SecurityBuffer → Bool
 has_type type buffer = buffer_type_number buffer.buffer_type.buffer_type == buffer_type_number type
 
--- what a search answers where no buffer is of the type
+-- what a search answers if no buffer has the type
 abbrev pub no_buffer : Error
 no_buffer = record { error_type = InvalidToken; description = NoBuffer; nstatus = None }
 
--- the buffers end with the first one of the type as it was left, or as they were where there is
--- none
+-- at the end, the first buffer of the type is as the borrower left it; all else is as it was
 abbrev pub LendsFirst : MutBor (List SecurityBuffer) → BufferType → Option (MutBor SecurityBuffer) →
     Fml
 LendsFirst buffers type lent =
@@ -41,7 +40,7 @@ LendsFirst buffers type lent =
 abbrev pub list_row : RattleType
 list_row = vec.the_row the_row global.the_row ghosts
 
--- the same of a list on the heap, by a call that refuses where there is none
+-- the same for a list on the heap, by a call that refuses if there is none
 abbrev pub LendsFound : MutBor list_row.Denot → BufferType → Result (MutBor SecurityBuffer) Error →
     Fml
 LendsFound buffers type lent =

@@ -1,4 +1,4 @@
--- Names and numbers of why a certificate chain is not trusted.
+-- Names and numbers of the trust flags of a certificate chain.
 use Rattle.std.specs.Prelude.{ℕ, List, [], ◌∷◌, codes}
 
 -- why a certificate chain is not trusted (wincrypt.h, dwErrorStatus of CERT_TRUST_STATUS)

@@ -163,7 +163,7 @@ error_kind_number kind = (error_kind_row kind).1
 
 -- ---- an error of such a kind
 
--- what stands in a refusal's text for the status that came with it
+-- the part of a refusal's text that gives the status
 abbrev pub after_reason : Option NStatusCode → List ℕ
 after_reason None = []
 after_reason (Some status) = codes "; status is " ++ status_text status.0
@@ -173,7 +173,7 @@ abbrev pub error_text : Error → List ℕ
 error_text error = error_kind_name error.error_type ++ codes ": " ++
     reason_text error.description ++ after_reason error.nstatus
 
--- a fault that is nobody's input
+-- an internal fault
 abbrev pub internal_error : Reason → Error
 internal_error reason = record { error_type = InternalError; description = reason; nstatus = None }
 

@@ -1,8 +1,8 @@
 -- What reading a number gives, by a table of numbers.
 use Rattle.std.specs.Prelude.{◌≡◌, ◌≢◌, ◌==◌, ℕ, Bool, List, map, Option, Some, IfSome, IfNone}
 
--- What reading a number gives, where each value of K has a number: the value that has it, and
--- `None` where none has.
+-- What reading a number gives, where each value of K has a number: the value that has it, or `None`
+-- if none has it.
 pub record ReadsNumber {K : Type 0} (number_of : K → ℕ) (number : ℕ) (read : Option K) : Type 0
   where
     pub found : IfSome read (λ value. number_of value ≡ number)

@@ -16,7 +16,7 @@ abbrev pub IsOwnName : List ℕ → Type 0
 IsOwnName name = (name ≡ package_text Ntlm) ⊎ (name ≡ package_text Kerberos) ⊎
     (name ≡ package_text Negotiate)
 
--- the package has this name, and is no `Other` by a name of this library
+-- the package has this name, and is not an `Other` with the name of a package of this library
 abbrev pub ReadsName : List ℕ → SecurityPackageType → Type 0
 ReadsName name Ntlm = name ≡ package_text Ntlm
 ReadsName name Kerberos = name ≡ package_text Kerberos

@@ -8,8 +8,8 @@ use Rattle.sspi_types.specs.declared.package.SecurityPackageType.TheVariants.{Nt
 use Rattle.sspi_types.specs.declared.package.SecurityPackageType.TheVariants.{Negotiate, Other}
 use Rattle.sspi_types.specs.declared.reason.Reason.TheVariants.{Package}
 
--- what is known of each package: no capabilities, no identifier for RPC, the longest token, a
--- comment
+-- what is known of each package: no capabilities, no identifier for RPC, the maximum token length,
+-- a comment
 abbrev pub negotiate_entry : PackageInfo
 negotiate_entry = record {
   capabilities = record { 0 = 0 };
@@ -44,6 +44,6 @@ package_entry Kerberos = Some kerberos_entry
 package_entry Negotiate = Some negotiate_entry
 package_entry (Other name) = None
 
--- what a call answers where it is asked for a package that has no entry
+-- what a call answers when asked for a package that has no entry
 abbrev pub unknown_package : Error
 unknown_package = record { error_type = Unknown; description = Package; nstatus = None }

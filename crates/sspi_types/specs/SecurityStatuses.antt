@@ -10,7 +10,7 @@ use Rattle.sspi_types.specs.declared.security_status.SecurityStatus.TheVariants.
 use Rattle.sspi_types.specs.declared.security_status.SecurityStatus.TheVariants.{Renegotiate}
 use Rattle.sspi_types.specs.declared.security_status.SecurityStatus.TheVariants.{NoLsaContext}
 
--- the number of each status (winerror.h, SECURITY_STATUS codes that are no errors)
+-- the number of each status (winerror.h, SECURITY_STATUS codes that are not errors)
 abbrev pub security_status_number : SecurityStatus → ℕ
 security_status_number Ok = 0x00000
 security_status_number ContinueNeeded = 0x90312

@@ -56,7 +56,7 @@ abbrev pub name_in : List (List ℕ × ℕ) → ℕ → Option (List ℕ)
 name_in [] number = None
 name_in (row ∷ rows) number = if number == row.1 then Some row.0 else name_in rows number
 
--- the name of a code, where it has one
+-- the name of a code, if it has one
 abbrev pub status_name : ℕ → Option (List ℕ)
 status_name number = name_in status_codes number
 
@@ -64,7 +64,7 @@ status_name number = name_in status_codes number
 abbrev pub hex_text : ℕ → List ℕ
 hex_text number = codes "0x" ++ digits 16 false number
 
--- how a code is displayed: after its name, or else after what it is
+-- how a code is displayed: after its name, or else after the words `NSTATUS code`
 abbrev pub shown_after : Option (List ℕ) → ℕ → List ℕ
 shown_after (Some name) number = name ++ codes " [" ++ hex_text number ++ codes "]"
 shown_after None number = codes "NSTATUS code " ++ hex_text number

@@ -1,4 +1,4 @@
-//! The trait of values that are texts.
+//! A trait for values that are texts.
 
 /// A value that is a text, borrowed as one.
 pub trait AsStr {

@@ -14,7 +14,7 @@ use crate::reason::Reason;
 use crate::security_buffer_type::SecurityBufferType;
 use std::alloc::{AllocError, Global};
 
-/// A buffer that a caller and a security package hand to each other (SecBuffer).
+/// A buffer that a caller and a security package exchange (SecBuffer).
 #[derive(Drop, PartialEq, Eq)]
 pub struct SecurityBuffer {
     /// The bytes.
@@ -38,7 +38,7 @@ impl SecurityBuffer {
     }
 
     /// The first buffer of this type, whatever its flags.
-    /// `InvalidToken` exactly where there is none.
+    /// `InvalidToken` exactly when there is none.
     #[tactic(auto, using(crate::proofs::Places::found_at, crate::proofs::Places::not_found))]
     pub fn find_buffer(
         buffers: &[SecurityBuffer],
@@ -55,9 +55,8 @@ impl SecurityBuffer {
         Ok(&buffers[place])
     }
 
-    /// The same as `find_buffer`, to change the buffer in its place. Afterwards the list is as
-    /// before, but for what is left there; at a refusal all of it is as before. `first_mut` does
-    /// the same at a slice.
+    /// The same as `find_buffer`, to change the buffer in place. Nothing else in the list changes,
+    /// and a refusal leaves all of it unchanged. `first_mut` does the same on a slice.
     #[tactic(auto, using(crate::proofs::Places::not_found))]
     pub fn find_buffer_mut(
         buffers: &mut Vec<SecurityBuffer>,
@@ -76,8 +75,8 @@ impl SecurityBuffer {
         }
     }
 
-    /// The first buffer of this type at a slice, to change it in its place; `None` exactly where
-    /// there is none. Afterwards the buffers are as before, but for what is left there.
+    /// The first buffer of this type in a slice, to change it in place; `None` exactly when there
+    /// is none. Nothing else in the slice changes.
     #[tactic(auto, using(crate::proofs::Places::found_at, crate::proofs::Places::not_found))]
     pub fn first_mut(
         buffers: &mut [SecurityBuffer],
@@ -93,7 +92,7 @@ impl SecurityBuffer {
         None
     }
 
-    // Where the first buffer of this type stands.
+    // The position of the first buffer of this type.
     fn place(buffers: &[SecurityBuffer], buffer_type: BufferType) -> Option<usize>
         ensures { result ≡ position (has_type buffer_type) buffers.now }
     {

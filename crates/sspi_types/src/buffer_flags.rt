@@ -15,7 +15,7 @@ impl SecurityBufferFlags {
     /// No flag.
     pub const NONE: SecurityBufferFlags = SecurityBufferFlags(0x00000000);
 
-    /// The package reads the buffer and does not write it.
+    /// The package reads the buffer but does not write it.
     pub const SECBUFFER_READONLY: SecurityBufferFlags = SecurityBufferFlags(0x80000000);
 
     /// The same, and the buffer is covered by the checksum of the message.

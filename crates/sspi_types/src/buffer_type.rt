@@ -7,7 +7,7 @@ ghost use Rattle.sspi_types.specs.Numbers.{ReadsNumber};
 /// What a buffer holds (`BufferType` of SecBuffer in sspi.h, without its flags).
 #[derive(Clone, Copy, Debug, PartialEq, Eq)]
 pub enum BufferType {
-    /// Nothing; the buffer is passed over (SECBUFFER_EMPTY).
+    /// Nothing; the buffer is skipped (SECBUFFER_EMPTY).
     Empty = 0,
     /// Data that is signed or sealed (SECBUFFER_DATA).
     Data = 1,
@@ -37,19 +37,19 @@ pub enum BufferType {
     Target = 13,
     /// Channel bindings (SECBUFFER_CHANNEL_BINDINGS).
     ChannelBindings = 14,
-    /// The answer to a change of the password (SECBUFFER_CHANGE_PASS_RESPONSE).
+    /// The answer to a password change (SECBUFFER_CHANGE_PASS_RESPONSE).
     ChangePasswordResponse = 15,
     /// The name of the target's host (SECBUFFER_TARGET_HOST).
     TargetHost = 16,
-    /// An alert of TLS (SECBUFFER_ALERT).
+    /// A TLS alert (SECBUFFER_ALERT).
     Alert = 17,
     /// A list of application protocols (SECBUFFER_APPLICATION_PROTOCOLS).
     ApplicationProtocol = 18,
-    /// The bits that are flags, as a number of the table (SECBUFFER_ATTRMASK).
+    /// The bits that are flags, as a number in the table (SECBUFFER_ATTRMASK).
     AttributeMark = 0xf0000000,
-    /// A flag, as a number of the table (SECBUFFER_READONLY).
+    /// A flag, as a number in the table (SECBUFFER_READONLY).
     ReadOnly = 0x80000000,
-    /// A flag, as a number of the table (SECBUFFER_READONLY_WITH_CHECKSUM).
+    /// A flag, as a number in the table (SECBUFFER_READONLY_WITH_CHECKSUM).
     ReadOnlyWithChecksum = 0x10000000,
 }
 

@@ -41,7 +41,7 @@ impl Eq for Bytes {
 }
 
 impl Bytes {
-    /// No bytes. Takes no memory until bytes are added.
+    /// No bytes. Allocates nothing until bytes are added.
     pub fn new(alloc: Global) -> Bytes
         ensures { result ≡ [] }
     {
@@ -80,7 +80,7 @@ impl Bytes {
         self.content
     }
 
-    /// How many bytes there are.
+    /// The number of bytes.
     pub fn len(&self) -> usize
         ensures { result ≡ length self.now }
     {
@@ -94,7 +94,7 @@ impl Bytes {
         self.content.is_empty()
     }
 
-    /// Appends `piece`, or leaves the list as it was where there is no memory.
+    /// Appends `piece`. If memory runs out, the list stays as it was.
     pub fn push_slice(&mut self, piece: &[u8]) -> Result<(), AllocError>
         ensures ok { OnOk result (self.new ≡ self.old ++ piece.now) }
         ensures err { OnErr result (self.new ≡ self.old) }
@@ -102,8 +102,8 @@ impl Bytes {
         self.content.extend_from_slice(piece)
     }
 
-    /// Appends one byte, or leaves the list as it was where there is no memory. Room grows by
-    /// doubling, from 8 bytes on.
+    /// Appends one byte. If memory runs out, the list stays as it was. Capacity grows by doubling,
+    /// from 8 bytes on.
     pub fn push(&mut self, byte: u8) -> Result<(), AllocError>
         ensures ok { OnOk result (self.new ≡ self.old ++ byte ∷ []) }
         ensures err { OnErr result (self.new ≡ self.old) }
@@ -114,14 +114,14 @@ impl Bytes {
         }
     }
 
-    /// Keeps the first `len` bytes; a longer `len` changes nothing. Takes no memory.
+    /// Keeps the first `len` bytes; a larger `len` changes nothing. Allocates nothing.
     pub fn truncate(&mut self, len: usize)
         ensures { self.new ≡ take len self.old }
     {
         self.content.truncate(len);
     }
 
-    /// Writes `piece` over the bytes from place `at` on. Takes no memory.
+    /// Overwrites the bytes from position `at` on with `piece`. Allocates nothing.
     pub fn overwrite(&mut self, at: usize, piece: &[u8])
         requires { at + length piece.now ≤ length self.old }
         ensures { self.new ≡ take at self.old ++ piece.now ++

@@ -36,17 +36,17 @@ impl CertTrustErrorStatus {
     /// It is not known whether a certificate was revoked (CERT_TRUST_REVOCATION_STATUS_UNKNOWN).
     pub const REVOCATION_STATUS_UNKNOWN: CertTrustErrorStatus = CertTrustErrorStatus(0x00000040);
 
-    /// A certificate stands twice in the chain (CERT_TRUST_IS_CYCLIC).
+    /// A certificate occurs twice in the chain (CERT_TRUST_IS_CYCLIC).
     pub const IS_CYCLIC: CertTrustErrorStatus = CertTrustErrorStatus(0x00000080);
 
-    /// An extension is malformed or critical and not known (CERT_TRUST_INVALID_EXTENSION).
+    /// An extension is malformed, or critical and unknown (CERT_TRUST_INVALID_EXTENSION).
     pub const INVALID_EXTENSION: CertTrustErrorStatus = CertTrustErrorStatus(0x00000100);
 
-    /// The policies of the chain are not as its constraints want
+    /// The policies of the chain do not meet its constraints
     /// (CERT_TRUST_INVALID_POLICY_CONSTRAINTS).
     pub const INVALID_POLICY_CONSTRAINTS: CertTrustErrorStatus = CertTrustErrorStatus(0x00000200);
 
-    /// An issuer is no authority, or the chain is too long (CERT_TRUST_INVALID_BASIC_CONSTRAINTS).
+    /// An issuer is not a CA, or the chain is too long (CERT_TRUST_INVALID_BASIC_CONSTRAINTS).
     pub const INVALID_BASIC_CONSTRAINTS: CertTrustErrorStatus = CertTrustErrorStatus(0x00000400);
 
     /// The name constraints are malformed (CERT_TRUST_INVALID_NAME_CONSTRAINTS).
@@ -83,10 +83,10 @@ impl CertTrustErrorStatus {
     /// A trust list is not for this use (CERT_TRUST_CTL_IS_NOT_VALID_FOR_USAGE).
     pub const CTL_IS_NOT_VALID_FOR_USAGE: CertTrustErrorStatus = CertTrustErrorStatus(0x00080000);
 
-    /// Revocations could not be asked for (CERT_TRUST_IS_OFFLINE_REVOCATION).
+    /// Revocation could not be checked online (CERT_TRUST_IS_OFFLINE_REVOCATION).
     pub const IS_OFFLINE_REVOCATION: CertTrustErrorStatus = CertTrustErrorStatus(0x01000000);
 
-    /// The chain has no policy of issuance, where one is wanted
+    /// The chain has no issuance policy, where one is required
     /// (CERT_TRUST_NO_ISSUANCE_CHAIN_POLICY).
     pub const NO_ISSUANCE_CHAIN_POLICY: CertTrustErrorStatus = CertTrustErrorStatus(0x02000000);
 

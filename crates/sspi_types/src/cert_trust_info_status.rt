@@ -31,7 +31,7 @@ impl CertTrustInfoStatus {
     /// (CERT_TRUST_AUTO_UPDATE_END_REVOCATION).
     pub const AUTO_UPDATE_END_REVOCATION: CertTrustInfoStatus = CertTrustInfoStatus(0x00000020);
 
-    /// Where OCSP failed no list was asked for (CERT_TRUST_NO_OCSP_FAILOVER_TO_CRL).
+    /// When OCSP failed, no revocation list was requested (CERT_TRUST_NO_OCSP_FAILOVER_TO_CRL).
     pub const NO_OCSP_FAILOVER_TO_CRL: CertTrustInfoStatus = CertTrustInfoStatus(0x00000040);
 
     /// The certificate signs the next key of its holder (CERT_TRUST_IS_KEY_ROLLOVER).
@@ -40,46 +40,46 @@ impl CertTrustInfoStatus {
     /// The issuer is the preferred one (CERT_TRUST_HAS_PREFERRED_ISSUER).
     pub const HAS_PREFERRED_ISSUER: CertTrustInfoStatus = CertTrustInfoStatus(0x00000100);
 
-    /// The chain has a policy of issuance (CERT_TRUST_HAS_ISSUANCE_CHAIN_POLICY).
+    /// The chain has an issuance policy (CERT_TRUST_HAS_ISSUANCE_CHAIN_POLICY).
     pub const HAS_ISSUANCE_CHAIN_POLICY: CertTrustInfoStatus = CertTrustInfoStatus(0x00000200);
 
     /// The name constraints hold (CERT_TRUST_HAS_VALID_NAME_CONSTRAINTS).
     pub const HAS_VALID_NAME_CONSTRAINTS: CertTrustInfoStatus = CertTrustInfoStatus(0x00000400);
 
-    /// The certificate is trusted by itself (CERT_TRUST_IS_PEER_TRUSTED).
+    /// The certificate itself is trusted (CERT_TRUST_IS_PEER_TRUSTED).
     pub const IS_PEER_TRUSTED: CertTrustInfoStatus = CertTrustInfoStatus(0x00000800);
 
-    /// A revocation list counts past its time (CERT_TRUST_HAS_CRL_VALIDITY_EXTENDED).
+    /// A revocation list is valid past its time (CERT_TRUST_HAS_CRL_VALIDITY_EXTENDED).
     pub const HAS_CRL_VALIDITY_EXTENDED: CertTrustInfoStatus = CertTrustInfoStatus(0x00001000);
 
-    /// The root is of a store that alone is trusted (CERT_TRUST_IS_FROM_EXCLUSIVE_TRUST_STORE).
+    /// The root is from an exclusive trust store (CERT_TRUST_IS_FROM_EXCLUSIVE_TRUST_STORE).
     pub const IS_FROM_EXCLUSIVE_TRUST_STORE: CertTrustInfoStatus = CertTrustInfoStatus(0x00002000);
 
-    /// The authority is trusted by itself (CERT_TRUST_IS_CA_TRUSTED).
+    /// The authority itself is trusted (CERT_TRUST_IS_CA_TRUSTED).
     pub const IS_CA_TRUSTED: CertTrustInfoStatus = CertTrustInfoStatus(0x00004000);
 
-    /// The settings of weak signatures were updated (CERT_TRUST_HAS_AUTO_UPDATE_WEAK_SIGNATURE).
+    /// The settings for weak signatures were updated (CERT_TRUST_HAS_AUTO_UPDATE_WEAK_SIGNATURE).
     pub const HAS_AUTO_UPDATE_WEAK_SIGNATURE: CertTrustInfoStatus = CertTrustInfoStatus(0x00008000);
 
     /// The chain is more than one simple chain (CERT_TRUST_IS_COMPLEX_CHAIN).
     pub const IS_COMPLEX_CHAIN: CertTrustInfoStatus = CertTrustInfoStatus(0x00010000);
 
-    /// Weak signatures are let through (CERT_TRUST_HAS_ALLOW_WEAK_SIGNATURE).
+    /// Weak signatures are allowed (CERT_TRUST_HAS_ALLOW_WEAK_SIGNATURE).
     pub const HAS_ALLOW_WEAK_SIGNATURE: CertTrustInfoStatus = CertTrustInfoStatus(0x00020000);
 
-    /// OCSP was answered in the handshake of TLS (CERT_TRUST_SSL_HANDSHAKE_OCSP).
+    /// An OCSP response came in the TLS handshake (CERT_TRUST_SSL_HANDSHAKE_OCSP).
     pub const SSL_HANDSHAKE_OCSP: CertTrustInfoStatus = CertTrustInfoStatus(0x00040000);
 
-    /// That answer is valid at this time (CERT_TRUST_SSL_TIME_VALID_OCSP).
+    /// That response is valid at this time (CERT_TRUST_SSL_TIME_VALID_OCSP).
     pub const SSL_TIME_VALID_OCSP: CertTrustInfoStatus = CertTrustInfoStatus(0x00080000);
 
-    /// That answer is of an earlier connection (CERT_TRUST_SSL_RECONNECT_OCSP).
+    /// That response is from an earlier connection (CERT_TRUST_SSL_RECONNECT_OCSP).
     pub const SSL_RECONNECT_OCSP: CertTrustInfoStatus = CertTrustInfoStatus(0x00100000);
 
     /// The chain is valid at this time for TLS (CERT_TRUST_SSL_TIME_VALID).
     pub const SSL_TIME_VALID: CertTrustInfoStatus = CertTrustInfoStatus(0x01000000);
 
-    /// Times were not judged (CERT_TRUST_NO_TIME_CHECK).
+    /// Times were not checked (CERT_TRUST_NO_TIME_CHECK).
     pub const NO_TIME_CHECK: CertTrustInfoStatus = CertTrustInfoStatus(0x02000000);
 
     /// The flags that have a name, in the order of their table.

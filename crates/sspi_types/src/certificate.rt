@@ -10,9 +10,9 @@ use crate::cert_trust_info_status::CertTrustInfoStatus;
 /// How a certificate is encoded (`dwCertEncodingType` of CERT_CONTEXT).
 #[derive(Clone, Copy, Debug, PartialEq, Eq)]
 pub enum CertEncodingType {
-    /// A message of PKCS #7 (PKCS_7_ASN_ENCODING).
+    /// A PKCS #7 message (PKCS_7_ASN_ENCODING).
     Pkcs7AsnEncoding = 0x10000,
-    /// A certificate of X.509 (X509_ASN_ENCODING).
+    /// An X.509 certificate (X509_ASN_ENCODING).
     X509AsnEncoding = 0x00001,
 }
 
@@ -40,7 +40,7 @@ impl CertEncodingType {
 /// Whether a certificate chain is trusted, and what is known of it (CERT_TRUST_STATUS).
 #[derive(Clone, Copy, Debug, PartialEq, Eq)]
 pub struct CertTrustStatus {
-    /// Why the chain is not trusted; empty where it is.
+    /// Why the chain is not trusted; empty if it is.
     pub error_status: CertTrustErrorStatus,
     /// What else is known of it.
     pub info_status: CertTrustInfoStatus,

@@ -18,10 +18,10 @@ impl ClientRequestFlags {
     /// The server has to prove who it is, too (ISC_REQ_MUTUAL_AUTH).
     pub const MUTUAL_AUTH: ClientRequestFlags = ClientRequestFlags(0x00000002);
 
-    /// Messages that come twice are detected (ISC_REQ_REPLAY_DETECT).
+    /// Replayed messages are detected (ISC_REQ_REPLAY_DETECT).
     pub const REPLAY_DETECT: ClientRequestFlags = ClientRequestFlags(0x00000004);
 
-    /// Messages that come out of their order are detected (ISC_REQ_SEQUENCE_DETECT).
+    /// Messages out of order are detected (ISC_REQ_SEQUENCE_DETECT).
     pub const SEQUENCE_DETECT: ClientRequestFlags = ClientRequestFlags(0x00000008);
 
     /// Messages can be sealed (ISC_REQ_CONFIDENTIALITY).
@@ -33,22 +33,22 @@ impl ClientRequestFlags {
     /// The user may be asked for credentials (ISC_REQ_PROMPT_FOR_CREDS).
     pub const PROMPT_FOR_CREDS: ClientRequestFlags = ClientRequestFlags(0x00000040);
 
-    /// Credentials stand in the input buffer (ISC_REQ_USE_SUPPLIED_CREDS).
+    /// Credentials are in the input buffer (ISC_REQ_USE_SUPPLIED_CREDS).
     pub const USE_SUPPLIED_CREDS: ClientRequestFlags = ClientRequestFlags(0x00000080);
 
-    /// The package makes the output buffers (ISC_REQ_ALLOCATE_MEMORY).
+    /// The package allocates the output buffers (ISC_REQ_ALLOCATE_MEMORY).
     pub const ALLOCATE_MEMORY: ClientRequestFlags = ClientRequestFlags(0x00000100);
 
-    /// Three messages are exchanged, as DCE wants it (ISC_REQ_USE_DCE_STYLE).
+    /// Three messages are exchanged, as DCE requires (ISC_REQ_USE_DCE_STYLE).
     pub const USE_DCE_STYLE: ClientRequestFlags = ClientRequestFlags(0x00000200);
 
-    /// Messages go as datagrams (ISC_REQ_DATAGRAM).
+    /// Messages are sent as datagrams (ISC_REQ_DATAGRAM).
     pub const DATAGRAM: ClientRequestFlags = ClientRequestFlags(0x00000400);
 
-    /// Messages go over a connection (ISC_REQ_CONNECTION).
+    /// Messages are sent over a connection (ISC_REQ_CONNECTION).
     pub const CONNECTION: ClientRequestFlags = ClientRequestFlags(0x00000800);
 
-    /// Security is of each call (ISC_REQ_CALL_LEVEL).
+    /// Security applies to each call (ISC_REQ_CALL_LEVEL).
     pub const CALL_LEVEL: ClientRequestFlags = ClientRequestFlags(0x00001000);
 
     /// The input is one fragment of a message (ISC_REQ_FRAGMENT_SUPPLIED).
@@ -57,13 +57,13 @@ impl ClientRequestFlags {
     /// The peer is told of failures (ISC_REQ_EXTENDED_ERROR).
     pub const EXTENDED_ERROR: ClientRequestFlags = ClientRequestFlags(0x00004000);
 
-    /// Messages go as a stream (ISC_REQ_STREAM).
+    /// Messages are sent as a stream (ISC_REQ_STREAM).
     pub const STREAM: ClientRequestFlags = ClientRequestFlags(0x00008000);
 
     /// Messages can be signed and verified (ISC_REQ_INTEGRITY).
     pub const INTEGRITY: ClientRequestFlags = ClientRequestFlags(0x00010000);
 
-    /// The server may learn who the client is, and not act as it (ISC_REQ_IDENTIFY).
+    /// The server may learn who the client is, but not act as it (ISC_REQ_IDENTIFY).
     pub const IDENTIFY: ClientRequestFlags = ClientRequestFlags(0x00020000);
 
     /// The client is anonymous (ISC_REQ_NULL_SESSION).
@@ -75,19 +75,19 @@ impl ClientRequestFlags {
     /// Reserved (ISC_REQ_RESERVED1).
     pub const RESERVED1: ClientRequestFlags = ClientRequestFlags(0x00100000);
 
-    /// Output may be cut into fragments that fit (ISC_REQ_FRAGMENT_TO_FIT).
+    /// Output may be split into fragments that fit (ISC_REQ_FRAGMENT_TO_FIT).
     pub const FRAGMENT_TO_FIT: ClientRequestFlags = ClientRequestFlags(0x00200000);
 
     /// The credentials themselves are forwarded (ISC_REQ_FORWARD_CREDENTIALS).
     pub const FORWARD_CREDENTIALS: ClientRequestFlags = ClientRequestFlags(0x00400000);
 
-    /// No integrity, over what INTEGRITY and the detections ask (ISC_REQ_NO_INTEGRITY).
+    /// No integrity, overriding INTEGRITY and the detections (ISC_REQ_NO_INTEGRITY).
     pub const NO_INTEGRITY: ClientRequestFlags = ClientRequestFlags(0x00800000);
 
-    /// Tokens go by HTTP (ISC_REQ_USE_HTTP_STYLE).
+    /// Tokens are sent over HTTP (ISC_REQ_USE_HTTP_STYLE).
     pub const USE_HTTP_STYLE: ClientRequestFlags = ClientRequestFlags(0x01000000);
 
-    /// The target's name came from a source that is not trusted (ISC_REQ_UNVERIFIED_TARGET_NAME).
+    /// The target's name came from an untrusted source (ISC_REQ_UNVERIFIED_TARGET_NAME).
     pub const UNVERIFIED_TARGET_NAME: ClientRequestFlags = ClientRequestFlags(0x20000000);
 
     /// Messages can be sealed without a signature (ISC_REQ_CONFIDENTIALITY_ONLY).

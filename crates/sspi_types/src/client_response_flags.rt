@@ -18,10 +18,10 @@ impl ClientResponseFlags {
     /// The server proved who it is (ISC_RET_MUTUAL_AUTH).
     pub const MUTUAL_AUTH: ClientResponseFlags = ClientResponseFlags(0x00000002);
 
-    /// Messages that come twice are detected (ISC_RET_REPLAY_DETECT).
+    /// Replayed messages are detected (ISC_RET_REPLAY_DETECT).
     pub const REPLAY_DETECT: ClientResponseFlags = ClientResponseFlags(0x00000004);
 
-    /// Messages that come out of their order are detected (ISC_RET_SEQUENCE_DETECT).
+    /// Messages out of order are detected (ISC_RET_SEQUENCE_DETECT).
     pub const SEQUENCE_DETECT: ClientResponseFlags = ClientResponseFlags(0x00000008);
 
     /// Messages can be sealed (ISC_RET_CONFIDENTIALITY).
@@ -30,40 +30,40 @@ impl ClientResponseFlags {
     /// A new session key was agreed on (ISC_RET_USE_SESSION_KEY).
     pub const USE_SESSION_KEY: ClientResponseFlags = ClientResponseFlags(0x00000020);
 
-    /// Credentials were asked of the user (ISC_RET_USED_COLLECTED_CREDS).
+    /// The user was asked for credentials (ISC_RET_USED_COLLECTED_CREDS).
     pub const USED_COLLECTED_CREDS: ClientResponseFlags = ClientResponseFlags(0x00000040);
 
     /// The credentials of the input buffer were used (ISC_RET_USED_SUPPLIED_CREDS).
     pub const USED_SUPPLIED_CREDS: ClientResponseFlags = ClientResponseFlags(0x00000080);
 
-    /// The package made the output buffers (ISC_RET_ALLOCATED_MEMORY).
+    /// The package allocated the output buffers (ISC_RET_ALLOCATED_MEMORY).
     pub const ALLOCATED_MEMORY: ClientResponseFlags = ClientResponseFlags(0x00000100);
 
-    /// Three messages are exchanged, as DCE wants it (ISC_RET_USED_DCE_STYLE).
+    /// Three messages are exchanged, as DCE requires (ISC_RET_USED_DCE_STYLE).
     pub const USED_DCE_STYLE: ClientResponseFlags = ClientResponseFlags(0x00000200);
 
-    /// Messages go as datagrams (ISC_RET_DATAGRAM).
+    /// Messages are sent as datagrams (ISC_RET_DATAGRAM).
     pub const DATAGRAM: ClientResponseFlags = ClientResponseFlags(0x00000400);
 
-    /// Messages go over a connection (ISC_RET_CONNECTION).
+    /// Messages are sent over a connection (ISC_RET_CONNECTION).
     pub const CONNECTION: ClientResponseFlags = ClientResponseFlags(0x00000800);
 
     /// Not the last step of the exchange (ISC_RET_INTERMEDIATE_RETURN).
     pub const INTERMEDIATE_RETURN: ClientResponseFlags = ClientResponseFlags(0x00001000);
 
-    /// Security is of each call (ISC_RET_CALL_LEVEL).
+    /// Security applies to each call (ISC_RET_CALL_LEVEL).
     pub const CALL_LEVEL: ClientResponseFlags = ClientResponseFlags(0x00002000);
 
     /// The peer is told of failures (ISC_RET_EXTENDED_ERROR).
     pub const EXTENDED_ERROR: ClientResponseFlags = ClientResponseFlags(0x00004000);
 
-    /// Messages go as a stream (ISC_RET_STREAM).
+    /// Messages are sent as a stream (ISC_RET_STREAM).
     pub const STREAM: ClientResponseFlags = ClientResponseFlags(0x00008000);
 
     /// Messages can be signed and verified (ISC_RET_INTEGRITY).
     pub const INTEGRITY: ClientResponseFlags = ClientResponseFlags(0x00010000);
 
-    /// The server may learn who the client is, and not act as it (ISC_RET_IDENTIFY).
+    /// The server may learn who the client is, but not act as it (ISC_RET_IDENTIFY).
     pub const IDENTIFY: ClientResponseFlags = ClientResponseFlags(0x00020000);
 
     /// The client is anonymous (ISC_RET_NULL_SESSION).
@@ -81,13 +81,13 @@ impl ClientResponseFlags {
     /// The credentials themselves are forwarded (ISC_RET_FORWARD_CREDENTIALS).
     pub const FORWARD_CREDENTIALS: ClientResponseFlags = ClientResponseFlags(0x00400000);
 
-    /// Tokens go by HTTP (ISC_RET_USED_HTTP_STYLE).
+    /// Tokens are sent over HTTP (ISC_RET_USED_HTTP_STYLE).
     pub const USED_HTTP_STYLE: ClientResponseFlags = ClientResponseFlags(0x01000000);
 
     /// No further token follows (ISC_RET_NO_ADDITIONAL_TOKEN).
     pub const NO_ADDITIONAL_TOKEN: ClientResponseFlags = ClientResponseFlags(0x02000000);
 
-    /// The context authenticates anew (ISC_RET_REAUTHENTICATION).
+    /// The context authenticates again (ISC_RET_REAUTHENTICATION).
     pub const REAUTHENTICATION: ClientResponseFlags = ClientResponseFlags(0x08000000);
 
     /// Messages can be sealed without a signature (ISC_RET_CONFIDENTIALITY_ONLY).

@@ -78,9 +78,9 @@ impl ConnectionProtocol {
 pub enum ConnectionCipher {
     /// Triple DES (CALG_3DES).
     Calg3des = 26115,
-    /// AES with a key of 128 bits (CALG_AES_128).
+    /// AES with a 128-bit key (CALG_AES_128).
     CalgAes128 = 26126,
-    /// AES with a key of 256 bits (CALG_AES_256).
+    /// AES with a 256-bit key (CALG_AES_256).
     CalgAes256 = 26128,
     /// DES (CALG_DES).
     CalgDes = 26113,
@@ -181,7 +181,7 @@ impl ConnectionKeyExchange {
 /// The algorithms of a connection, with their strengths in bits (SecPkgContext_ConnectionInfo).
 #[derive(Clone, Copy, Debug, PartialEq, Eq)]
 pub struct ConnectionInfo {
-    /// The protocol, and whose end it is.
+    /// The protocol, and which end this is.
     pub protocol: ConnectionProtocol,
     /// The cipher that seals.
     pub cipher: ConnectionCipher,

@@ -1,4 +1,4 @@
-//! Sizes and session keys of a context, as its queries answer them.
+//! Sizes and session keys of a context, as its queries return them.
 
 ghost use Rattle.std.specs.Prelude.{◌≡◌, IfOk};
 
@@ -9,32 +9,32 @@ use std::alloc::{AllocError, Global};
 /// The sizes that matter to users of a context (SecPkgContext_Sizes), in bytes.
 #[derive(Clone, Copy, Debug, PartialEq, Eq)]
 pub struct ContextSizes {
-    /// The most bytes of a token.
+    /// The maximum size of a token.
     pub max_token: u32,
-    /// The most bytes of a signature.
+    /// The maximum size of a signature.
     pub max_signature: u32,
-    /// Sealed bytes come in blocks of so many; 0 where they do not.
+    /// The size of the blocks that sealed bytes come in; 0 if there are no blocks.
     pub block: u32,
-    /// The most bytes that sealing adds to a message.
+    /// The maximum number of bytes that sealing adds to a message.
     pub security_trailer: u32,
 }
 
 /// The sizes of a stream's messages (SecPkgContext_StreamSizes), in bytes; `buffers` is a count.
 #[derive(Clone, Copy, Debug, PartialEq, Eq)]
 pub struct StreamSizes {
-    /// The bytes of a message's header.
+    /// The size of a message's header.
     pub header: u32,
-    /// The most bytes of its trailer.
+    /// The maximum size of its trailer.
     pub trailer: u32,
-    /// The most bytes of its data.
+    /// The maximum size of its data.
     pub max_message: u32,
     /// How many buffers a call takes.
     pub buffers: u32,
-    /// Data comes best in multiples of so many bytes.
+    /// The preferred block size: data comes best in multiples of it.
     pub block_size: u32,
 }
 
-/// A value that is unique on one machine until it starts again (LUID of winnt.h).
+/// A value that is unique on one machine until it restarts (LUID of winnt.h).
 pub type Luid = u64;
 
 /// The session key of a context (SecPkgContext_SessionKey).

@@ -13,7 +13,7 @@ pub enum CredentialUse {
     Outbound = 2,
     /// By either (SECPKG_CRED_BOTH).
     Both = 3,
-    /// As the package's default says (SECPKG_CRED_DEFAULT).
+    /// The package's default (SECPKG_CRED_DEFAULT).
     Default = 4,
 }
 

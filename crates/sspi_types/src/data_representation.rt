@@ -7,9 +7,9 @@ ghost use Rattle.sspi_types.specs.Numbers.{ReadsNumber};
 /// The data representation of the target (`TargetDataRep` of InitializeSecurityContext).
 #[derive(Clone, Copy, Debug, PartialEq, Eq)]
 pub enum DataRepresentation {
-    /// The high byte first (SECURITY_NETWORK_DREP).
+    /// High byte first (SECURITY_NETWORK_DREP).
     Network = 0x00,
-    /// As on the machine (SECURITY_NATIVE_DREP).
+    /// As on this machine (SECURITY_NATIVE_DREP).
     Native = 0x10,
 }
 

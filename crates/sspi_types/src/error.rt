@@ -1,4 +1,4 @@
-//! Refusals as public calls answer them: kind, reason and NTSTATUS code.
+//! Refusals as public calls return them: kind, reason and NTSTATUS code.
 
 ghost use Rattle.std.specs.Prelude.{◌≡◌, None, Some};
 ghost use Rattle.sspi_types.specs.declared.reason.Reason.TheVariants as reason;
@@ -12,15 +12,15 @@ use std::fmt;
 use std::num::TryFromIntError;
 use std::str::Utf8Error;
 
-/// A refusal: its kind, a fixed reason, and the NTSTATUS code that the peer gave, where there is
-/// one. It takes no memory.
+/// A refusal: its kind, a fixed reason, and the NTSTATUS code that the peer gave, if any. It
+/// allocates nothing.
 #[derive(Clone, Copy, Debug, PartialEq, Eq)]
 pub struct Error {
     /// What kind of refusal it is: the code of winerror.h.
     pub error_type: ErrorKind,
     /// Why, as a fixed text; callers decide by `error_type` alone.
     pub description: Reason,
-    /// The code that the peer's request had; none where the refusal is this end's own.
+    /// The code in the peer's request; `None` if the refusal is this end's own.
     pub nstatus: Option<NStatusCode>,
 }
 
@@ -54,8 +54,8 @@ impl Error {
     }
 }
 
-/// Writes the name of the kind, `: ` and the text of the reason. A status follows, where there is
-/// one, behind `; status is `.
+/// Writes the name of the kind, `: ` and the text of the reason. If there is a status, it follows
+/// after `; status is `.
 impl fmt::Display for Error {
     ghost output = { λ error. Some (error_text error) };
 
@@ -71,7 +71,7 @@ impl fmt::Display for Error {
 
 impl std::error::Error for Error {}
 
-/// Out of memory is `InsufficientMemory`, wherever it comes.
+/// Out of memory is `InsufficientMemory`, wherever it happens.
 impl From<AllocError> for Error {
     ghost use Rattle.sspi_types.specs.Errors.{memory_error};
 
@@ -101,7 +101,7 @@ impl From<TryFromIntError> for Error {
     }
 }
 
-/// Bytes that are no UTF-8 are `InternalError`.
+/// Bytes that are not UTF-8 are `InternalError`.
 impl From<Utf8Error> for Error {
     ghost from_gives = { λ _ error. error ≡ internal_error reason.Utf };
 

@@ -1,4 +1,4 @@
-//! The kinds of refusals, with their codes of winerror.h.
+//! The kinds of refusals, with their codes from winerror.h.
 
 ghost use Rattle.std.specs.Prelude.{◌≡◌};
 ghost use Rattle.sspi_types.specs.Errors.{error_kind_name, error_kind_number};
@@ -7,17 +7,17 @@ ghost use Rattle.sspi_types.specs.Numbers.{ReadsNumber};
 /// Why a call was refused: the SECURITY_STATUS codes of winerror.h that SSPI names as errors.
 #[derive(Clone, Copy, Debug, PartialEq, Eq)]
 pub enum ErrorKind {
-    /// No code of winerror.h: what was asked for is not known here, as a package of another name.
+    /// Not a code of winerror.h: what was asked for, such as a package, is not known here.
     Unknown = 0x00000000,
-    /// There was no memory (SEC_E_INSUFFICIENT_MEMORY).
+    /// Memory ran out (SEC_E_INSUFFICIENT_MEMORY).
     InsufficientMemory = 0x80090300,
-    /// The handle of a context or of credentials is none that there is (SEC_E_INVALID_HANDLE).
+    /// The handle of a context or of credentials is not valid (SEC_E_INVALID_HANDLE).
     InvalidHandle = 0x80090301,
-    /// The package does not have the function (SEC_E_UNSUPPORTED_FUNCTION).
+    /// The package does not support the function (SEC_E_UNSUPPORTED_FUNCTION).
     UnsupportedFunction = 0x80090302,
     /// The target is unknown or cannot be reached (SEC_E_TARGET_UNKNOWN).
     TargetUnknown = 0x80090303,
-    /// A fault that is nobody's input, as a length past a limit (SEC_E_INTERNAL_ERROR).
+    /// An internal fault, such as a length above a limit (SEC_E_INTERNAL_ERROR).
     InternalError = 0x80090304,
     /// There is no such package (SEC_E_SECPKG_NOT_FOUND).
     SecurityPackageNotFound = 0x80090305,
@@ -25,7 +25,7 @@ pub enum ErrorKind {
     NotOwned = 0x80090306,
     /// The package cannot be set up (SEC_E_CANNOT_INSTALL).
     CannotInstall = 0x80090307,
-    /// A token is malformed, or not the one that was to come (SEC_E_INVALID_TOKEN).
+    /// A token is malformed, or not the expected one (SEC_E_INVALID_TOKEN).
     InvalidToken = 0x80090308,
     /// The package cannot marshal the logon buffer (SEC_E_CANNOT_PACK).
     CannotPack = 0x80090309,
@@ -35,13 +35,13 @@ pub enum ErrorKind {
     NoImpersonation = 0x8009030b,
     /// The logon failed (SEC_E_LOGON_DENIED).
     LogonDenied = 0x8009030c,
-    /// The credentials are not recognized, as a name of mixed format (SEC_E_UNKNOWN_CREDENTIALS).
+    /// The credentials are not recognized, such as a mixed-format name (SEC_E_UNKNOWN_CREDENTIALS).
     UnknownCredentials = 0x8009030d,
     /// There are no credentials (SEC_E_NO_CREDENTIALS).
     NoCredentials = 0x8009030e,
     /// A message does not verify: it was altered, or another key made it (SEC_E_MESSAGE_ALTERED).
     MessageAltered = 0x8009030f,
-    /// A message or a call came out of its order (SEC_E_OUT_OF_SEQUENCE).
+    /// A message or a call came out of order (SEC_E_OUT_OF_SEQUENCE).
     OutOfSequence = 0x80090310,
     /// No authority could be reached (SEC_E_NO_AUTHENTICATING_AUTHORITY).
     NoAuthenticatingAuthority = 0x80090311,
@@ -51,19 +51,19 @@ pub enum ErrorKind {
     ContextExpired = 0x80090317,
     /// The bytes end before the message does (SEC_E_INCOMPLETE_MESSAGE).
     IncompleteMessage = 0x80090318,
-    /// The credentials are not whole (SEC_E_INCOMPLETE_CREDENTIALS).
+    /// The credentials are not complete (SEC_E_INCOMPLETE_CREDENTIALS).
     IncompleteCredentials = 0x80090320,
     /// A buffer is too small (SEC_E_BUFFER_TOO_SMALL).
     BufferTooSmall = 0x80090321,
-    /// The target has another name than the one asked for (SEC_E_WRONG_PRINCIPAL).
+    /// The target's name is not the one asked for (SEC_E_WRONG_PRINCIPAL).
     WrongPrincipalName = 0x80090322,
-    /// The clocks of both ends differ too much (SEC_E_TIME_SKEW).
+    /// The clocks of the two ends differ too much (SEC_E_TIME_SKEW).
     TimeSkew = 0x80090324,
     /// The root of a chain of certificates is not trusted (SEC_E_UNTRUSTED_ROOT).
     UntrustedRoot = 0x80090325,
     /// A message was malformed or not expected (SEC_E_ILLEGAL_MESSAGE).
     IllegalMessage = 0x80090326,
-    /// A certificate could not be judged (SEC_E_CERT_UNKNOWN).
+    /// A certificate could not be processed (SEC_E_CERT_UNKNOWN).
     CertificateUnknown = 0x80090327,
     /// A certificate has expired (SEC_E_CERT_EXPIRED).
     CertificateExpired = 0x80090328,
@@ -73,11 +73,11 @@ pub enum ErrorKind {
     DecryptFailure = 0x80090330,
     /// The ends have no algorithm in common (SEC_E_ALGORITHM_MISMATCH).
     AlgorithmMismatch = 0x80090331,
-    /// The protection that was asked for could not be had (SEC_E_SECURITY_QOS_FAILED).
+    /// The requested protection could not be provided (SEC_E_SECURITY_QOS_FAILED).
     SecurityQosFailed = 0x80090332,
-    /// A context was deleted before it was made (SEC_E_UNFINISHED_CONTEXT_DELETED).
+    /// A context was deleted before it was complete (SEC_E_UNFINISHED_CONTEXT_DELETED).
     UnfinishedContextDeleted = 0x80090333,
-    /// The peer did not answer with a ticket, as was to come (SEC_E_NO_TGT_REPLY).
+    /// The peer did not answer with the expected ticket (SEC_E_NO_TGT_REPLY).
     NoTgtReply = 0x80090334,
     /// The machine has no IP address (SEC_E_NO_IP_ADDRESSES).
     NoIpAddress = 0x80090335,
@@ -85,7 +85,7 @@ pub enum ErrorKind {
     WrongCredentialHandle = 0x80090336,
     /// The cryptographic system or its checksum is not valid (SEC_E_CRYPTO_SYSTEM_INVALID).
     CryptoSystemInvalid = 0x80090337,
-    /// A ticket was referred too often (SEC_E_MAX_REFERRALS_EXCEEDED).
+    /// A ticket was referred too many times (SEC_E_MAX_REFERRALS_EXCEEDED).
     MaxReferralsExceeded = 0x80090338,
     /// The machine has to be a KDC (SEC_E_MUST_BE_KDC).
     MustBeKdc = 0x80090339,
@@ -113,29 +113,29 @@ pub enum ErrorKind {
     DelegationRequired = 0x80090345,
     /// The channel bindings are not those of the channel (SEC_E_BAD_BINDINGS).
     BadBindings = 0x80090346,
-    /// The certificate is of more than one account (SEC_E_MULTIPLE_ACCOUNTS).
+    /// The certificate belongs to more than one account (SEC_E_MULTIPLE_ACCOUNTS).
     MultipleAccounts = 0x80090347,
     /// There is no key for Kerberos (SEC_E_NO_KERB_KEY).
     NoKerbKey = 0x80090348,
     /// A certificate is not for this use (SEC_E_CERT_WRONG_USAGE).
     CertWrongUsage = 0x80090349,
-    /// The peer was made to choose less than it offers (SEC_E_DOWNGRADE_DETECTED).
+    /// The peer was made to choose something weaker than it offers (SEC_E_DOWNGRADE_DETECTED).
     DowngradeDetected = 0x80090350,
     /// The smart card's certificate was revoked (SEC_E_SMARTCARD_CERT_REVOKED).
     SmartCardCertificateRevoked = 0x80090351,
     /// The authority of the smart card's certificate is not trusted (SEC_E_ISSUING_CA_UNTRUSTED).
     IssuingCAUntrusted = 0x80090352,
-    /// Revocations of that certificate could not be asked for (SEC_E_REVOCATION_OFFLINE_C).
+    /// Revocation of that certificate could not be checked online (SEC_E_REVOCATION_OFFLINE_C).
     RevocationOffline = 0x80090353,
     /// The smart card's certificate is not trusted (SEC_E_PKINIT_CLIENT_FAILURE).
     PkInitClientFailure = 0x80090354,
     /// The smart card's certificate has expired (SEC_E_SMARTCARD_CERT_EXPIRED).
     SmartCardCertExpired = 0x80090355,
-    /// The KDC cannot make a ticket for a user to a service (SEC_E_NO_S4U_PROT_SUPPORT).
+    /// The KDC cannot issue a ticket to a service for a user (SEC_E_NO_S4U_PROT_SUPPORT).
     NoS4uProtSupport = 0x80090356,
     /// Delegation across realms failed (SEC_E_CROSSREALM_DELEGATION_FAILURE).
     CrossRealmDelegationFailure = 0x80090357,
-    /// Revocations of the KDC's certificate could not be asked for (SEC_E_REVOCATION_OFFLINE_KDC).
+    /// Revocation of the KDC's certificate could not be checked (SEC_E_REVOCATION_OFFLINE_KDC).
     RevocationOfflineKdc = 0x80090358,
     /// The authority of the KDC's certificate is not trusted (SEC_E_ISSUING_CA_UNTRUSTED_KDC).
     IssuingCaUntrustedKdc = 0x80090359,
@@ -143,7 +143,7 @@ pub enum ErrorKind {
     KdcCertExpired = 0x8009035a,
     /// The KDC's certificate was revoked (SEC_E_KDC_CERT_REVOKED).
     KdcCertRevoked = 0x8009035b,
-    /// An argument is not one that the call takes (SEC_E_INVALID_PARAMETER).
+    /// An argument is not one that the call accepts (SEC_E_INVALID_PARAMETER).
     InvalidParameter = 0x8009035d,
     /// A policy forbids the delegation (SEC_E_DELEGATION_POLICY).
     DelegationPolicy = 0x8009035e,
@@ -152,7 +152,7 @@ pub enum ErrorKind {
     PolicyNtlmOnly = 0x8009035f,
     /// There is no context (SEC_E_NO_CONTEXT).
     NoContext = 0x80090361,
-    /// A certificate of PKU2U is at fault (SEC_E_PKU2U_CERT_FAILURE).
+    /// A PKU2U certificate is at fault (SEC_E_PKU2U_CERT_FAILURE).
     Pku2uCertFailure = 0x80090362,
     /// The server did not prove who it is (SEC_E_MUTUAL_AUTH_FAILED).
     MutualAuthFailed = 0x80090363,

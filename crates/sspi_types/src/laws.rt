@@ -1,4 +1,4 @@
-//! Laws of the tables. Their functions do nothing: what they say stands in their contracts.
+//! Laws of the tables. Their functions do nothing: each law is the contract of its function.
 
 ghost use Rattle.std.specs.Prelude.{◌≡◌, ◌≤◌, ◌<◌, ◌^◌, ◌==◌, ◌&&◌, ℕ, Result, Ok, map, codes};
 ghost use Rattle.std.specs.Int.RustNames.{bit_and};
@@ -59,7 +59,7 @@ pub fn numbers_are_distinct()
     ensures credential_use { AreDistinct credential_use_number }
 {}
 
-/// Nor have two values of an enum of connections or certificates.
+/// No two values of an enum of connections or certificates have the same number.
 pub fn connection_numbers_are_distinct()
     // Of a connection.
     ensures connection_protocol { AreDistinct connection_protocol_number }
@@ -70,8 +70,8 @@ pub fn connection_numbers_are_distinct()
     ensures cert_encoding_type { AreDistinct cert_encoding_type_number }
 {}
 
-/// What `from_u32` gives at the number of a value is that value, at an enum of errors, statuses,
-/// buffers or credentials.
+/// For an enum of errors, statuses, buffers or credentials, `from_u32` of a value's number gives
+/// that value.
 pub fn values_are_read_back()
     // Of statuses.
     ensures error_kind { AreReadBack error_kind_number }
@@ -82,7 +82,7 @@ pub fn values_are_read_back()
     ensures credential_use { AreReadBack credential_use_number }
 {}
 
-/// So it is at an enum of connections or certificates.
+/// For an enum of connections or certificates, `from_u32` of a value's number gives that value.
 pub fn connection_values_are_read_back()
     // Of a connection.
     ensures connection_protocol { AreReadBack connection_protocol_number }
@@ -93,7 +93,7 @@ pub fn connection_values_are_read_back()
     ensures cert_encoding_type { AreReadBack cert_encoding_type_number }
 {}
 
-/// `==` at an enum of errors, statuses, buffers or credentials, and at `NStatusCode`, compares the
+/// `==` on an enum of errors, statuses, buffers or credentials, and on `NStatusCode`, compares the
 /// numbers.
 pub fn equality_is_of_numbers()
     // Of statuses.
@@ -110,7 +110,7 @@ pub fn equality_is_of_numbers()
     ensures status { ComparesNumbers ⟦<NStatusCode as PartialEq>⟧.eq (λ code. code.0) }
 {}
 
-/// So it does at an enum of connections or certificates.
+/// `==` on an enum of connections or certificates compares the numbers.
 pub fn connection_equality_is_of_numbers()
     // Of a connection.
     ensures connection_protocol { ComparesNumbers ⟦<ConnectionProtocol as PartialEq>⟧.eq
@@ -138,7 +138,7 @@ pub fn context_flags_have_their_numbers()
         ≡ numbers_of server_response_flags }
 {}
 
-/// So have the named flags of packages, certificates, buffers and sealed messages.
+/// Named flags of packages, certificates, buffers and sealed messages have their tables' numbers.
 pub fn other_flags_have_their_numbers()
     // Of packages and certificates.
     ensures capability { map (λ flags. flags.0) capability_constants
@@ -156,7 +156,7 @@ pub fn other_flags_have_their_numbers()
         ≡ numbers_of decryption_flags }
 {}
 
-/// So have the named NTSTATUS codes.
+/// The named NTSTATUS codes have the numbers of their table.
 pub fn status_codes_have_their_numbers()
     ensures { map (λ code. code.0) status_constants ≡ numbers_of status_codes }
 {}
@@ -167,7 +167,7 @@ pub fn name_and_mask_are_fixed()
     ensures mask { SECBUFFER_ATTRMASK ≡ 0xf0000000 }
 {}
 
-/// `==` at `SecurityBufferType` compares both fields.
+/// `==` on `SecurityBufferType` compares both fields.
 pub fn buffer_types_are_compared_by_both_fields()
     ensures { (a b : SecurityBufferType) → ⟦<SecurityBufferType as PartialEq>⟧.eq a b
         ≡ ((buffer_type_number a.buffer_type == buffer_type_number b.buffer_type)
@@ -183,8 +183,8 @@ pub fn defaults_have_no_flags()
         → (t.buffer_type ≡ Empty) × (t.buffer_flags.0 ≡ 0) }
 {}
 
-/// A `SecurityBufferType` as a number is read back, if its type is at most 18 and its flags are
-/// some of the two that have names; and a number that is read is what its parts are as a number.
+/// A `SecurityBufferType` is read back from its number, if its type is at most 18 and its flags are
+/// among the two that have names. A number that can be read is the number of the value read.
 pub fn buffer_types_are_read_back()
     ensures there_and_back { (t : SecurityBufferType) → buffer_type_number t.buffer_type ≤ 18
         → bit_and t.buffer_flags.0 0x90000000 ≡ t.buffer_flags.0

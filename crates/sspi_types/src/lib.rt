@@ -1,16 +1,16 @@
-//! The vocabulary of SSPI: what the calls of a security package speak of.
+//! The vocabulary of SSPI: the types that the calls of a security package use.
 //!
-//! Refusals are an `Error` of an `ErrorKind` and a fixed `Reason` (`error`, `error_kind`,
-//! `reason`), with the peer's `NStatusCode` where it gave one (`nstatus`). Buffers that callers and
-//! packages hand to each other stand in `buffer`, the packages themselves in `package`, what is
-//! asked of a context and what it has in the modules `*_flags`, what is known of it in `context`,
-//! `connection` and `certificate`.
+//! A refusal is an `Error` of an `ErrorKind` and a fixed `Reason` (`error`, `error_kind`,
+//! `reason`), with the peer's `NStatusCode` if it gave one (`nstatus`). `buffer` has the buffers
+//! that callers and packages exchange, and `package` the packages themselves. The modules `*_flags`
+//! have what is asked of a context and what it provides. `context`, `connection` and `certificate`
+//! have what is known of it.
 //!
-//! Promised of every table: the number, name and text of each value are those of its table in
-//! `specs/`, where each table stands once; a number outside it is `None`. What follows from the
-//! tables is in `laws`. `Bytes`, `Text` and `Rows` are a `Vec<u8>`, a `String` and a vector that
-//! contracts see as lists; copies are `clone(alloc)` calls that give an equal value or answer out
-//! of memory, which is `InsufficientMemory` everywhere.
+//! Each value has the number, name and text that its table in `specs/` gives it, and each table is
+//! there once. A number outside its table reads as `None`. What follows from the tables is in
+//! `laws`. `Bytes`, `Text` and `Rows` are a `Vec<u8>`, a `String` and a vector that contracts see
+//! as lists. A `clone(alloc)` call gives an equal value or answers out of memory, which is
+//! `InsufficientMemory` everywhere.
 
 #![tactic(auto)]
 

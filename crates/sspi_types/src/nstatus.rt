@@ -1,12 +1,12 @@
-//! NTSTATUS codes, with their names of ntstatus.h.
+//! NTSTATUS codes, with their names from ntstatus.h.
 
 ghost use Rattle.std.specs.Prelude.{◌≡◌, Some, option_map};
 ghost use Rattle.sspi_types.specs.StatusCodes.{status_name, status_text, status_debug_text};
 
 use std::fmt;
 
-/// An NTSTATUS code, of ntstatus.h. Every number is one; 43 have a name here. The highest two bits
-/// are its severity, of which 0b11 is an error.
+/// An NTSTATUS code (ntstatus.h). Every number is one; 43 have a name here. The highest two bits
+/// are its severity; 0b11 is an error.
 #[derive(Clone, Copy, PartialEq, Eq)]
 pub struct NStatusCode(pub u32);
 
@@ -17,7 +17,7 @@ impl NStatusCode {
     /// No quota is set for the account; no failure.
     pub const NO_QUOTAS_FOR_ACCOUNT: NStatusCode = NStatusCode(0x0000010d);
 
-    /// No server that logs users on could be reached.
+    /// No logon server could be reached.
     pub const NO_LOGON_SERVERS: NStatusCode = NStatusCode(0xc000005e);
 
     /// There is no such logon session, or it has ended.
@@ -29,7 +29,7 @@ impl NStatusCode {
     /// The client lacks a privilege.
     pub const PRIVILEGE_NOT_HELD: NStatusCode = NStatusCode(0xc0000061);
 
-    /// The name is no account's name.
+    /// The name is not a valid account name.
     pub const INVALID_ACCOUNT_NAME: NStatusCode = NStatusCode(0xc0000062);
 
     /// The account exists already.
@@ -50,10 +50,10 @@ impl NStatusCode {
     /// The account is not in the group.
     pub const MEMBER_NOT_IN_GROUP: NStatusCode = NStatusCode(0xc0000068);
 
-    /// The last administrator cannot be taken away.
+    /// The last administrator cannot be removed.
     pub const LAST_ADMIN: NStatusCode = NStatusCode(0xc0000069);
 
-    /// The password is wrong where it is to be changed.
+    /// The current password is wrong in a password change.
     pub const WRONG_PASSWORD: NStatusCode = NStatusCode(0xc000006a);
 
     /// The password has characters that are not allowed.
@@ -65,7 +65,7 @@ impl NStatusCode {
     /// The user name or the password is wrong.
     pub const LOGON_FAILURE: NStatusCode = NStatusCode(0xc000006d);
 
-    /// The account may not log on so, as with an empty password.
+    /// The account may not log on like this, for example with an empty password.
     pub const ACCOUNT_RESTRICTION: NStatusCode = NStatusCode(0xc000006e);
 
     /// The account may not log on at this hour.
@@ -83,28 +83,28 @@ impl NStatusCode {
     /// The operation took too long.
     pub const IO_TIMEOUT: NStatusCode = NStatusCode(0xc00000b5);
 
-    /// The caller is no logon process.
+    /// The caller is not a logon process.
     pub const NOT_LOGON_PROCESS: NStatusCode = NStatusCode(0xc00000ed);
 
     /// The logon session exists already.
     pub const LOGON_SESSION_EXISTS: NStatusCode = NStatusCode(0xc00000ee);
 
-    /// The logon session is not in the state for this.
+    /// The logon session is not in the right state for this.
     pub const BAD_LOGON_SESSION_STATE: NStatusCode = NStatusCode(0xc0000104);
 
     /// The identifier of the logon session is in use.
     pub const LOGON_SESSION_COLLISION: NStatusCode = NStatusCode(0xc0000105);
 
-    /// The type of logon is none that there is.
+    /// There is no such type of logon.
     pub const INVALID_LOGON_TYPE: NStatusCode = NStatusCode(0xc000010b);
 
-    /// The account is built in and cannot be changed so.
+    /// The account is built in and cannot be changed in this way.
     pub const SPECIAL_ACCOUNT: NStatusCode = NStatusCode(0xc0000124);
 
     /// The access token is in use already.
     pub const TOKEN_ALREADY_IN_USE: NStatusCode = NStatusCode(0xc000012b);
 
-    /// The server that logs users on is of another role in the domain.
+    /// The role of the logon server conflicts with that of another in the domain.
     pub const LOGON_SERVER_CONFLICT: NStatusCode = NStatusCode(0xc0000132);
 
     /// The clocks of the machine and of the domain controller differ too much.
@@ -131,7 +131,7 @@ impl NStatusCode {
     /// The account is locked, after too many wrong passwords.
     pub const ACCOUNT_LOCKED_OUT: NStatusCode = NStatusCode(0xc0000234);
 
-    /// What was given does not suffice to log on.
+    /// The information given is not enough to log on.
     pub const INSUFFICIENT_LOGON_INFO: NStatusCode = NStatusCode(0xc0000250);
 
     /// The account logs on with a smart card only.
@@ -140,7 +140,7 @@ impl NStatusCode {
     /// Remote logons are disabled.
     pub const CTX_LOGON_DISABLED: NStatusCode = NStatusCode(0xc00a0037);
 
-    /// The code's name in ntstatus.h, as `STATUS_LOGON_FAILURE`, where it has one here.
+    /// The code's name in ntstatus.h, such as `STATUS_LOGON_FAILURE`, if it has one here.
     pub fn name(self) -> Option<&'static str>
         ensures { option_map (λ name. name.now) result ≡ status_name self.0 }
     {
@@ -193,7 +193,7 @@ impl NStatusCode {
     }
 }
 
-/// Writes `STATUS_LOGON_FAILURE [0xc000006d]`, or `NSTATUS code 0xc00700ea` where the code has no
+/// Writes `STATUS_LOGON_FAILURE [0xc000006d]`, or `NSTATUS code 0xc00700ea` for a code without a
 /// name.
 impl fmt::Display for NStatusCode {
     ghost output = { λ code. Some (status_text code.0) };

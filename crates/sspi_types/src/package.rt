@@ -33,8 +33,8 @@ pub enum SecurityPackageType {
 }
 
 impl SecurityPackageType {
-    /// The package of this name: `NTLM`, `Kerberos` and `Negotiate` are this library's, encoded
-    /// exactly so, and take no memory; any other text names an `Other`.
+    /// The package with this name. `NTLM`, `Kerberos` and `Negotiate`, matched exactly, are this
+    /// library's and allocate nothing. Any other text names an `Other`.
     pub fn from_str(alloc: Global, name: &str) -> Result<SecurityPackageType, Error>
         ensures read { IfOk result (λ read. ReadsName name.now read) }
         ensures own { IsOwnName name.now → IsOk result }
@@ -48,7 +48,7 @@ impl SecurityPackageType {
         })
     }
 
-    /// A copy with memory of its own, equal to this value. Only the name of `Other` takes memory.
+    /// A copy in memory of its own, equal to this value. Only the name of `Other` is allocated.
     pub fn clone(&self, alloc: Global) -> Result<SecurityPackageType, AllocError>
         ensures same { IfOk result (λ copy. copy ≡ self.now) }
         ensures own { IsSome (package_entry self.now) → IsOk result }
@@ -88,20 +88,20 @@ impl fmt::Display for SecurityPackageType {
 /// What is known of a security package (SecPkgInfo).
 #[derive(Drop, PartialEq, Eq)]
 pub struct PackageInfo {
-    /// What the package can do; nothing is claimed of this library's.
+    /// What the package can do; nothing is claimed for this library's packages.
     pub capabilities: PackageCapabilities,
-    /// The identifier of the package for RPC; 0xFFFF where it has none.
+    /// The identifier of the package for RPC; 0xFFFF if it has none.
     pub rpc_id: u16,
-    /// The most bytes that a token of this package has.
+    /// The maximum number of bytes in a token of this package.
     pub max_token_len: u32,
     /// Which package it is.
     pub name: SecurityPackageType,
-    /// A text for people.
+    /// A text for human readers.
     pub comment: Text,
 }
 
 impl PackageInfo {
-    /// A copy with memory of its own, equal to this entry.
+    /// A copy in memory of its own, equal to this entry.
     pub fn clone(&self, alloc: Global) -> Result<PackageInfo, AllocError>
         ensures { IfOk result (λ copy. copy ≡ self.now) }
     {

@@ -21,10 +21,10 @@ impl PackageCapabilities {
     /// Only the token buffer of a message is read (SECPKG_FLAG_TOKEN_ONLY).
     pub const TOKEN_ONLY: PackageCapabilities = PackageCapabilities(0x00000004);
 
-    /// Messages can go as datagrams (SECPKG_FLAG_DATAGRAM).
+    /// Messages can be sent as datagrams (SECPKG_FLAG_DATAGRAM).
     pub const DATAGRAM: PackageCapabilities = PackageCapabilities(0x00000008);
 
-    /// Messages can go over a connection (SECPKG_FLAG_CONNECTION).
+    /// Messages can be sent over a connection (SECPKG_FLAG_CONNECTION).
     pub const CONNECTION: PackageCapabilities = PackageCapabilities(0x00000010);
 
     /// The client sends more than one message (SECPKG_FLAG_MULTI_REQUIRED).
@@ -39,16 +39,16 @@ impl PackageCapabilities {
     /// A server can act as its client (SECPKG_FLAG_IMPERSONATION).
     pub const IMPERSONATION: PackageCapabilities = PackageCapabilities(0x00000100);
 
-    /// Names of Win32 are taken for targets (SECPKG_FLAG_ACCEPT_WIN32_NAME).
+    /// Win32 names are accepted for targets (SECPKG_FLAG_ACCEPT_WIN32_NAME).
     pub const ACCEPT_WIN32_NAME: PackageCapabilities = PackageCapabilities(0x00000200);
 
-    /// Messages can go as a stream (SECPKG_FLAG_STREAM).
+    /// Messages can be sent as a stream (SECPKG_FLAG_STREAM).
     pub const STREAM: PackageCapabilities = PackageCapabilities(0x00000400);
 
     /// Negotiate can choose the package (SECPKG_FLAG_NEGOTIABLE).
     pub const NEGOTIABLE: PackageCapabilities = PackageCapabilities(0x00000800);
 
-    /// The package speaks with GSS-API (SECPKG_FLAG_GSS_COMPATIBLE).
+    /// The package interoperates with GSS-API (SECPKG_FLAG_GSS_COMPATIBLE).
     pub const GSS_COMPATIBLE: PackageCapabilities = PackageCapabilities(0x00001000);
 
     /// The package can log a user on (SECPKG_FLAG_LOGON).
@@ -57,7 +57,7 @@ impl PackageCapabilities {
     /// Tokens are ASCII texts (SECPKG_FLAG_ASCII_BUFFERS).
     pub const ASCII_BUFFERS: PackageCapabilities = PackageCapabilities(0x00004000);
 
-    /// Tokens can be cut into fragments (SECPKG_FLAG_FRAGMENT).
+    /// Tokens can be split into fragments (SECPKG_FLAG_FRAGMENT).
     pub const FRAGMENT: PackageCapabilities = PackageCapabilities(0x00008000);
 
     /// The server can prove who it is (SECPKG_FLAG_MUTUAL_AUTH).
@@ -69,16 +69,16 @@ impl PackageCapabilities {
     /// Read-only buffers can be covered by a checksum (SECPKG_FLAG_READONLY_WITH_CHECKSUM).
     pub const READONLY_WITH_CHECKSUM: PackageCapabilities = PackageCapabilities(0x00040000);
 
-    /// A caller with a restricted token is let in (SECPKG_FLAG_RESTRICTED_TOKENS).
+    /// A caller with a restricted token is accepted (SECPKG_FLAG_RESTRICTED_TOKENS).
     pub const RESTRICTED_TOKENS: PackageCapabilities = PackageCapabilities(0x00080000);
 
     /// The package extends Negotiate (SECPKG_FLAG_NEGO_EXTENDER).
     pub const NEGO_EXTENDER: PackageCapabilities = PackageCapabilities(0x00100000);
 
-    /// The Negotiate of extenders can choose the package (SECPKG_FLAG_NEGOTIABLE2).
+    /// A package that extends Negotiate can choose this one (SECPKG_FLAG_NEGOTIABLE2).
     pub const NEGOTIABLE2: PackageCapabilities = PackageCapabilities(0x00200000);
 
-    /// A caller in an app container is let in (SECPKG_FLAG_APPCONTAINER_PASSTHROUGH).
+    /// A caller in an app container is accepted (SECPKG_FLAG_APPCONTAINER_PASSTHROUGH).
     pub const APP_CONTAINER_PASSTHROUGH: PackageCapabilities = PackageCapabilities(0x00400000);
 
     /// A caller in an app container is checked (SECPKG_FLAG_APPCONTAINER_CHECKS).

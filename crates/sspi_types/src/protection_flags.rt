@@ -12,10 +12,10 @@ use std::ops::BitOr;
 pub struct EncryptionFlags(u32);
 
 impl EncryptionFlags {
-    /// Data out of band is sent (SECQOP_WRAP_OOB_DATA).
+    /// Out-of-band data is sent (SECQOP_WRAP_OOB_DATA).
     pub const WRAP_OOB_DATA: EncryptionFlags = EncryptionFlags(0x40000000);
 
-    /// The message is signed and not sealed (SECQOP_WRAP_NO_ENCRYPT).
+    /// The message is signed but not sealed (SECQOP_WRAP_NO_ENCRYPT).
     pub const WRAP_NO_ENCRYPT: EncryptionFlags = EncryptionFlags(0x80000001);
 
     /// The flags that have a name, in the order of their table.
@@ -69,10 +69,10 @@ impl BitOr for EncryptionFlags {
 pub struct DecryptionFlags(u32);
 
 impl DecryptionFlags {
-    /// The message was signed and not sealed (SIGN_ONLY).
+    /// The message was signed but not sealed (SIGN_ONLY).
     pub const SIGN_ONLY: DecryptionFlags = DecryptionFlags(0x80000000);
 
-    /// The same, as a package says it that signs alone (SECQOP_WRAP_NO_ENCRYPT).
+    /// The same, as reported by a package that only signs (SECQOP_WRAP_NO_ENCRYPT).
     pub const WRAP_NO_ENCRYPT: DecryptionFlags = DecryptionFlags(0x80000001);
 
     /// The flags that have a name, in the order of their table.

@@ -3,93 +3,92 @@
 ghost use Rattle.std.specs.Prelude.{◌≡◌};
 ghost use Rattle.sspi_types.specs.Reasons.{reason_text};
 
-/// Why a call refused, in words that are fixed, so that a refusal takes no memory.
+/// Why a call refused, in fixed words, so that a refusal allocates nothing.
 #[derive(Clone, Copy, Debug, PartialEq, Eq)]
 pub enum Reason {
-    /// The peer's request has an error code (MS-CSSP 2.2.1, `errorCode`), which `nstatus` is.
+    /// The peer's request has an error code (MS-CSSP 2.2.1, `errorCode`), given in `nstatus`.
     ErrorStatus,
-    /// The peer's version is another than in its request before.
+    /// The peer's version differs from the one in its earlier request.
     PeerVersion,
-    /// The peer speaks a version that is too old for the end.
+    /// The peer speaks a version that is too old for this end.
     OldPeer,
-    /// A request lacks `pubKeyAuth` (MS-CSSP 2.2.1) where it has to come.
+    /// A request lacks `pubKeyAuth` (MS-CSSP 2.2.1) where it is required.
     NoPubKey,
-    /// A request lacks `authInfo` (MS-CSSP 2.2.1) where it has to come.
+    /// A request lacks `authInfo` (MS-CSSP 2.2.1) where it is required.
     NoAuthInfo,
     /// A request lacks `clientNonce` (MS-CSSP 2.2.1), and the version is 5 or above.
     NoNonce,
-    /// Sealed bytes are fewer than a tag's 16.
+    /// There are fewer sealed bytes than the 16 of a tag.
     ShortBlob,
-    /// The package's token is empty where one has to go.
+    /// The package's token is empty where one must be sent.
     EmptyToken,
-    /// The opened proof of the key is not the prescribed one, below version 5 (MS-CSSP 3.1.5).
+    /// Below version 5, the opened proof of the key is not the prescribed one (MS-CSSP 3.1.5).
     EchoDiffers,
-    /// The opened proof of the key is not the prescribed one, from version 5 on (MS-CSSP 3.1.5).
+    /// From version 5 on, the opened proof of the key is not the prescribed one (MS-CSSP 3.1.5).
     HashDiffers,
-    /// The call does not come in the state that the object is in.
+    /// The call is not allowed in the state that the object is in.
     Sequence,
-    /// The authentication ended before any request of the peer came, so no version is known.
+    /// The authentication ended before any request came from the peer, so no version is known.
     NoVersion,
-    /// A step answered a status that may not come there.
+    /// A step answered a status that is not allowed there.
     Status,
-    /// A content has more bytes than its limit.
+    /// A content is longer than its limit.
     TooLong,
-    /// The credentials are malformed or of a type that there is not (MS-CSSP 2.2.1.2).
+    /// The credentials are malformed or of an unknown type (MS-CSSP 2.2.1.2).
     CredType,
-    /// The credentials are of a smart card (MS-CSSP 2.2.1.2.2).
+    /// The credentials are those of a smart card (MS-CSSP 2.2.1.2.2).
     SmartCard,
     /// The credentials are a keytab, which cannot be delegated.
     Keytab,
     /// The client was made without credentials.
     NoAuthData,
-    /// No package is left that may be used.
+    /// No package that may be used is left.
     NoPackage,
     /// The package that was chosen is disabled in the package list.
     Disabled,
-    /// A mechanism's OID is none of those known here.
+    /// A mechanism's OID is not one of those known here.
     MechUnknown,
-    /// The offered mechanisms (RFC 4178 4.2.1) have none that may be used.
+    /// None of the offered mechanisms (RFC 4178 4.2.1) may be used.
     NoSharedMech,
     /// A token lacks `mechTypes` (RFC 4178 4.2.1).
     NoMechTypes,
-    /// `negState` (RFC 4178 4.2.2) is one that may not come there.
+    /// `negState` (RFC 4178 4.2.2) is one that is not allowed there.
     NegResult,
-    /// A token lacks `mechListMIC` (RFC 4178 5) where it has to come.
+    /// A token lacks `mechListMIC` (RFC 4178 5) where it is required.
     NoMic,
-    /// Neither the look-up of the peer nor the server's list has an identity of its name.
+    /// Neither the lookup of the peer nor the server's list has an identity with its name.
     NoIdentity,
-    /// The list of identities that was told is empty, or has none with a password where one is
-    /// needed.
+    /// The given list of identities is empty.
     NoCandidate,
-    /// The credentials are not a name and a password.
+    /// The credentials are not a name and a password, or a list has only such credentials.
     NotPassword,
-    /// The look-up of credentials failed.
+    /// The lookup of credentials failed.
     Proxy,
     /// A token is malformed.
     TokenForm,
     /// No buffer is of the type that is needed.
     NoBuffer,
-    /// A number does not stand for a value.
+    /// A number has no value in its table, or does not fit its type.
     Number,
-    /// Bytes are no text in their encoding.
+    /// Bytes are not a text in their encoding.
     Utf,
     /// A user name mixes the forms of a name.
     UserName,
-    /// The peer's proof is that of no candidate.
+    /// The peer's proof matches no candidate.
     Proof,
-    /// A tag or a MIC is not the one that the bytes have.
+    /// A tag or a MIC does not match its bytes.
     Tag,
-    /// A refusal of the KDC, or one that was not reached.
+    /// The KDC refused, or was not reached.
     Kdc,
     /// A count of calls or messages is used up.
     Spent,
-    /// The function is not there.
+    /// The function is not supported.
     Unsupported,
-    /// The package is none of this library.
+    /// The package is not one of this library's.
     Package,
-    /// Reading or writing failed, for whatever cause.
+    /// Reading or writing failed, for any cause.
     Io,
-    /// There was no memory.
+    /// Memory ran out.
     Memory,
     /// The mechanism refused.
     Mechanism,

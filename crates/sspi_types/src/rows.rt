@@ -1,4 +1,4 @@
-//! Lists of any elements.
+//! Lists of elements of any type.
 
 ghost use Rattle.std.specs.Prelude.{◌≡◌, ◌==◌, ◌++◌, [], ◌∷◌, length, OnOk, OnErr};
 
@@ -20,14 +20,14 @@ impl<T> Model for Rows<T> {
 }
 
 impl<T> Rows<T> {
-    /// The elements of this vector. Takes no memory.
+    /// The elements of this vector. Allocates nothing.
     pub fn from_vec(rows: Vec<T>) -> Rows<T>
         ensures { result ≡ rows.items }
     {
         Rows { rows }
     }
 
-    /// No elements. Takes no memory until elements are added.
+    /// No elements. Allocates nothing until elements are added.
     pub fn new(alloc: Global) -> Rows<T>
         ensures { result ≡ [] }
     {
@@ -43,7 +43,7 @@ impl<T> Rows<T> {
         self.rows.is_empty()
     }
 
-    /// The elements, the first one first. Takes no memory.
+    /// The elements, in order. Allocates nothing.
     pub fn as_slice(&self) -> &[T]
         ensures { result.now ≡ self.now }
     {
@@ -59,8 +59,8 @@ impl<T> Rows<T> {
 }
 
 impl<T: Drop> Rows<T> {
-    /// Adds an element at the end. Where there is no memory the element is dropped and the list
-    /// stays.
+    /// Adds an element at the end. If memory runs out, the element is dropped and the list stays as
+    /// it was.
     pub fn push(&mut self, row: T) -> Result<(), AllocError>
         ensures ok { OnOk result (self.new ≡ self.old ++ row ∷ []) }
         ensures err { OnErr result (self.new ≡ self.old) }

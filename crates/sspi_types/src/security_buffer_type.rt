@@ -22,9 +22,9 @@ pub struct SecurityBufferType {
     pub buffer_flags: SecurityBufferFlags,
 }
 
-/// Reads the type from the low 28 bits and the flags from the high 4. `InternalError` exactly where
-/// the type is past the last one (18), or one of the four flag bits is set that neither
-/// `SECBUFFER_READONLY` nor `SECBUFFER_READONLY_WITH_CHECKSUM` has.
+/// Reads the type from the low 28 bits and the flags from the high 4. `InternalError` exactly when
+/// the type is above 18, the last one, or a flag bit is set other than `SECBUFFER_READONLY` and
+/// `SECBUFFER_READONLY_WITH_CHECKSUM`.
 impl TryFrom<u32> for SecurityBufferType {
     type Error = Error;
 

@@ -1,22 +1,22 @@
-//! How a successful step left its context.
+//! The outcome of a successful step of a security context.
 
 ghost use Rattle.std.specs.Prelude.{◌≡◌};
 ghost use Rattle.sspi_types.specs.SecurityStatuses.{security_status_number};
 ghost use Rattle.sspi_types.specs.Numbers.{ReadsNumber};
 
-/// How a successful step of a security context stands: the SECURITY_STATUS codes of winerror.h that
-/// are no errors.
+/// The outcome of a successful step of a security context: the SECURITY_STATUS codes of winerror.h
+/// that are not errors.
 #[derive(Clone, Copy, Debug, PartialEq, Eq)]
 pub enum SecurityStatus {
     /// The step was the last one (SEC_E_OK).
     Ok = 0x00000,
-    /// The token has to go to the peer, and its answer into another step (SEC_I_CONTINUE_NEEDED).
+    /// The token must go to the peer, and its answer into another step (SEC_I_CONTINUE_NEEDED).
     ContinueNeeded = 0x90312,
-    /// The token has to be completed before it goes (SEC_I_COMPLETE_NEEDED).
+    /// The token must be completed before it is sent (SEC_I_COMPLETE_NEEDED).
     CompleteNeeded = 0x90313,
     /// Both of these (SEC_I_COMPLETE_AND_CONTINUE).
     CompleteAndContinue = 0x90314,
-    /// The logon was done on the machine, for want of a server (SEC_I_LOCAL_LOGON).
+    /// No server was available, so the logon was local (SEC_I_LOCAL_LOGON).
     LocalLogon = 0x90315,
     /// The peer ended the connection (SEC_I_CONTEXT_EXPIRED).
     ContextExpired = 0x90317,

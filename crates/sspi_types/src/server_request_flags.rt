@@ -18,10 +18,10 @@ impl ServerRequestFlags {
     /// The server proves who it is, too (ASC_REQ_MUTUAL_AUTH).
     pub const MUTUAL_AUTH: ServerRequestFlags = ServerRequestFlags(0x00000002);
 
-    /// Messages that come twice are detected (ASC_REQ_REPLAY_DETECT).
+    /// Replayed messages are detected (ASC_REQ_REPLAY_DETECT).
     pub const REPLAY_DETECT: ServerRequestFlags = ServerRequestFlags(0x00000004);
 
-    /// Messages that come out of their order are detected (ASC_REQ_SEQUENCE_DETECT).
+    /// Messages out of order are detected (ASC_REQ_SEQUENCE_DETECT).
     pub const SEQUENCE_DETECT: ServerRequestFlags = ServerRequestFlags(0x00000008);
 
     /// Messages can be sealed (ASC_REQ_CONFIDENTIALITY).
@@ -33,58 +33,58 @@ impl ServerRequestFlags {
     /// A session ticket may resume the session (ASC_REQ_SESSION_TICKET).
     pub const SESSION_TICKET: ServerRequestFlags = ServerRequestFlags(0x00000040);
 
-    /// The package makes the output buffers (ASC_REQ_ALLOCATE_MEMORY).
+    /// The package allocates the output buffers (ASC_REQ_ALLOCATE_MEMORY).
     pub const ALLOCATE_MEMORY: ServerRequestFlags = ServerRequestFlags(0x00000100);
 
-    /// Three messages are exchanged, as DCE wants it (ASC_REQ_USE_DCE_STYLE).
+    /// Three messages are exchanged, as DCE requires (ASC_REQ_USE_DCE_STYLE).
     pub const USE_DCE_STYLE: ServerRequestFlags = ServerRequestFlags(0x00000200);
 
-    /// Messages go as datagrams (ASC_REQ_DATAGRAM).
+    /// Messages are sent as datagrams (ASC_REQ_DATAGRAM).
     pub const DATAGRAM: ServerRequestFlags = ServerRequestFlags(0x00000400);
 
-    /// Messages go over a connection (ASC_REQ_CONNECTION).
+    /// Messages are sent over a connection (ASC_REQ_CONNECTION).
     pub const CONNECTION: ServerRequestFlags = ServerRequestFlags(0x00000800);
 
-    /// Security is of each call (ASC_REQ_CALL_LEVEL).
+    /// Security applies to each call (ASC_REQ_CALL_LEVEL).
     pub const CALL_LEVEL: ServerRequestFlags = ServerRequestFlags(0x00001000);
 
     /// The input is one fragment of a message (ASC_REQ_FRAGMENT_SUPPLIED).
     pub const FRAGMENT_SUPPLIED: ServerRequestFlags = ServerRequestFlags(0x00002000);
 
-    /// The peer is told of failures (ASC_REQ_EXTENDED_ERROR; another bit than at a client).
+    /// The peer is told of failures (ASC_REQ_EXTENDED_ERROR; a different bit than for a client).
     pub const EXTENDED_ERROR: ServerRequestFlags = ServerRequestFlags(0x00008000);
 
-    /// Messages go as a stream (ASC_REQ_STREAM; another bit than at a client).
+    /// Messages are sent as a stream (ASC_REQ_STREAM; a different bit than for a client).
     pub const STREAM: ServerRequestFlags = ServerRequestFlags(0x00010000);
 
-    /// Messages can be signed and verified (ASC_REQ_INTEGRITY; another bit than at a client).
+    /// Messages can be signed and verified (ASC_REQ_INTEGRITY; a different bit than for a client).
     pub const INTEGRITY: ServerRequestFlags = ServerRequestFlags(0x00020000);
 
     /// The context is for licensing (ASC_REQ_LICENSING).
     pub const LICENSING: ServerRequestFlags = ServerRequestFlags(0x00040000);
 
-    /// The server learns who the client is, and does not act as it (ASC_REQ_IDENTIFY).
+    /// The server learns who the client is, but does not act as it (ASC_REQ_IDENTIFY).
     pub const IDENTIFY: ServerRequestFlags = ServerRequestFlags(0x00080000);
 
-    /// An anonymous client is let in (ASC_REQ_ALLOW_NULL_SESSION).
+    /// An anonymous client is accepted (ASC_REQ_ALLOW_NULL_SESSION).
     pub const ALLOW_NULL_SESSION: ServerRequestFlags = ServerRequestFlags(0x00100000);
 
-    /// A client that is no user, as a machine, is let in (ASC_REQ_ALLOW_NON_USER_LOGONS).
+    /// A client that is not a user, such as a machine, is accepted (ASC_REQ_ALLOW_NON_USER_LOGONS).
     pub const ALLOW_NON_USER_LOGONS: ServerRequestFlags = ServerRequestFlags(0x00200000);
 
-    /// A context that was seen before is let in (ASC_REQ_ALLOW_CONTEXT_REPLAY).
+    /// A context that was seen before is accepted (ASC_REQ_ALLOW_CONTEXT_REPLAY).
     pub const ALLOW_CONTEXT_REPLAY: ServerRequestFlags = ServerRequestFlags(0x00400000);
 
-    /// Output may be cut into fragments that fit (ASC_REQ_FRAGMENT_TO_FIT).
+    /// Output may be split into fragments that fit (ASC_REQ_FRAGMENT_TO_FIT).
     pub const FRAGMENT_TO_FIT: ServerRequestFlags = ServerRequestFlags(0x00800000);
 
-    /// No access token is made of the client (ASC_REQ_NO_TOKEN).
+    /// No access token is made for the client (ASC_REQ_NO_TOKEN).
     pub const NO_TOKEN: ServerRequestFlags = ServerRequestFlags(0x01000000);
 
     /// Channel bindings are those of a proxy (ASC_REQ_PROXY_BINDINGS).
     pub const PROXY_BINDINGS: ServerRequestFlags = ServerRequestFlags(0x04000000);
 
-    /// A client without channel bindings is let in (ASC_REQ_ALLOW_MISSING_BINDINGS).
+    /// A client without channel bindings is accepted (ASC_REQ_ALLOW_MISSING_BINDINGS).
     pub const ALLOW_MISSING_BINDINGS: ServerRequestFlags = ServerRequestFlags(0x10000000);
 
     /// The flags that have a name, in the order of their table.

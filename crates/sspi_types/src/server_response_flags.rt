@@ -18,10 +18,10 @@ impl ServerResponseFlags {
     /// The server proves who it is, too (ASC_RET_MUTUAL_AUTH).
     pub const MUTUAL_AUTH: ServerResponseFlags = ServerResponseFlags(0x00000002);
 
-    /// Messages that come twice are detected (ASC_RET_REPLAY_DETECT).
+    /// Replayed messages are detected (ASC_RET_REPLAY_DETECT).
     pub const REPLAY_DETECT: ServerResponseFlags = ServerResponseFlags(0x00000004);
 
-    /// Messages that come out of their order are detected (ASC_RET_SEQUENCE_DETECT).
+    /// Messages out of order are detected (ASC_RET_SEQUENCE_DETECT).
     pub const SEQUENCE_DETECT: ServerResponseFlags = ServerResponseFlags(0x00000008);
 
     /// Messages can be sealed (ASC_RET_CONFIDENTIALITY).
@@ -33,19 +33,19 @@ impl ServerResponseFlags {
     /// A session ticket may resume the session (ASC_RET_SESSION_TICKET).
     pub const SESSION_TICKET: ServerResponseFlags = ServerResponseFlags(0x00000040);
 
-    /// The package made the output buffers (ASC_RET_ALLOCATED_MEMORY).
+    /// The package allocated the output buffers (ASC_RET_ALLOCATED_MEMORY).
     pub const ALLOCATED_MEMORY: ServerResponseFlags = ServerResponseFlags(0x00000100);
 
-    /// Three messages are exchanged, as DCE wants it (ASC_RET_USED_DCE_STYLE).
+    /// Three messages are exchanged, as DCE requires (ASC_RET_USED_DCE_STYLE).
     pub const USED_DCE_STYLE: ServerResponseFlags = ServerResponseFlags(0x00000200);
 
-    /// Messages go as datagrams (ASC_RET_DATAGRAM).
+    /// Messages are sent as datagrams (ASC_RET_DATAGRAM).
     pub const DATAGRAM: ServerResponseFlags = ServerResponseFlags(0x00000400);
 
-    /// Messages go over a connection (ASC_RET_CONNECTION).
+    /// Messages are sent over a connection (ASC_RET_CONNECTION).
     pub const CONNECTION: ServerResponseFlags = ServerResponseFlags(0x00000800);
 
-    /// Security is of each call (ASC_RET_CALL_LEVEL; another bit than in what is asked).
+    /// Security applies to each call (ASC_RET_CALL_LEVEL; a different bit than in the request).
     pub const CALL_LEVEL: ServerResponseFlags = ServerResponseFlags(0x00002000);
 
     /// The third message of the exchange was refused (ASC_RET_THIRD_LEG_FAILED).
@@ -54,7 +54,7 @@ impl ServerResponseFlags {
     /// The peer is told of failures (ASC_RET_EXTENDED_ERROR).
     pub const EXTENDED_ERROR: ServerResponseFlags = ServerResponseFlags(0x00008000);
 
-    /// Messages go as a stream (ASC_RET_STREAM).
+    /// Messages are sent as a stream (ASC_RET_STREAM).
     pub const STREAM: ServerResponseFlags = ServerResponseFlags(0x00010000);
 
     /// Messages can be signed and verified (ASC_RET_INTEGRITY).
@@ -63,22 +63,22 @@ impl ServerResponseFlags {
     /// The context is for licensing (ASC_RET_LICENSING).
     pub const LICENSING: ServerResponseFlags = ServerResponseFlags(0x00040000);
 
-    /// The server learns who the client is, and does not act as it (ASC_RET_IDENTIFY).
+    /// The server learns who the client is, but does not act as it (ASC_RET_IDENTIFY).
     pub const IDENTIFY: ServerResponseFlags = ServerResponseFlags(0x00080000);
 
     /// The client is anonymous (ASC_RET_NULL_SESSION).
     pub const NULL_SESSION: ServerResponseFlags = ServerResponseFlags(0x00100000);
 
-    /// A client that is no user, as a machine, is let in (ASC_RET_ALLOW_NON_USER_LOGONS).
+    /// A client that is not a user, such as a machine, is accepted (ASC_RET_ALLOW_NON_USER_LOGONS).
     pub const ALLOW_NON_USER_LOGONS: ServerResponseFlags = ServerResponseFlags(0x00200000);
 
-    /// A context that was seen before is let in (ASC_RET_ALLOW_CONTEXT_REPLAY).
+    /// A context that was seen before is accepted (ASC_RET_ALLOW_CONTEXT_REPLAY).
     pub const ALLOW_CONTEXT_REPLAY: ServerResponseFlags = ServerResponseFlags(0x00400000);
 
     /// The output is one fragment of a message (ASC_RET_FRAGMENT_ONLY).
     pub const FRAGMENT_ONLY: ServerResponseFlags = ServerResponseFlags(0x00800000);
 
-    /// No access token was made of the client (ASC_RET_NO_TOKEN).
+    /// No access token was made for the client (ASC_RET_NO_TOKEN).
     pub const NO_TOKEN: ServerResponseFlags = ServerResponseFlags(0x01000000);
 
     /// No further token follows (ASC_RET_NO_ADDITIONAL_TOKEN).

@@ -1,4 +1,4 @@
-//! Texts of UTF-8.
+//! UTF-8 texts.
 
 ghost use Rattle.std.specs.Prelude.{◌≡◌, ◌↔◌, [], length, string_bytes, IsTrue, IfOk};
 
@@ -70,7 +70,7 @@ impl Text {
         self.content
     }
 
-    /// How many bytes of UTF-8 the text has.
+    /// The number of UTF-8 bytes in the text.
     pub fn len(&self) -> usize
         ensures { result ≡ length self.now }
     {
