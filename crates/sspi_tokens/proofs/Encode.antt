@@ -1,4 +1,4 @@
--- The answer of `encode` by whether the content fits.
+-- The answer of `encode`, depending on whether the content fits.
 use Rattle.std.proofs.Common.{◌≡◌, ℕ, ◌<◌, ◌≤◌, true, false, cond, leb, List, length, None, Some, Ok, Err, refl, sym, subst}
 use Rattle.std.specs.Global.{Vec}
 use Rattle.std.proofs.lemmas.Bool.{le-leb, lt-leb, leb-true}
@@ -26,7 +26,7 @@ pub written : (tag : ℕ) (content : List ℕ) (bytes : Vec ℕ) → length cont
     WritesAs (whole tag content) (Ok bytes)
 written tag content bytes le is = subst (λ text. WritesAs text (Ok bytes)) (sym (whole_some tag content le)) is
 
--- a encoding that is there
+-- an encoding that exists
 pub whole_is : (tag : ℕ) (content text : List ℕ) → whole tag content ≡ Some text → (length content ≤ max_content)
     × (text ≡ element tag content)
 unfolding whole

@@ -1,4 +1,4 @@
--- The readers of the tokens and the grammar say the same.
+-- The readers of the tokens agree with the grammar.
 use Rattle.std.proofs.Common.{◌≡◌, ℕ, true, cond, List, ◌++◌, Option, Some, Ok, Err, refl, sym, ap, ◌∙◌, subst, append_assoc}
 use lib.Pointwise.{bytes_decides}
 use Rattle.std.specs.Str.{bytes_eq}
@@ -17,7 +17,7 @@ use Rattle.sspi_tokens.specs.declared.neg_token_init.NegTokenInit.{NegTokenInit}
 use Rattle.sspi_tokens.specs.declared.neg_token_targ.NegTokenTarg.{NegTokenTarg}
 use Rattle.sspi_tokens.proofs.NestedMatch.{around_match, optional_match, element_begins, around_begins, oids_match}
 
--- ---- four readers in a row, whose values make one
+-- ---- four readers in a row, whose values make up one value
 
 module _ {A B C D T : Type 0} (f : Option A → Option B → Option C → Option D → T)
     (p : List ℕ → Read (Option A)) (q : List ℕ → Read (Option B)) (r : List ℕ → Read (Option C)) (s : List ℕ → Read (Option D))
@@ -47,7 +47,7 @@ module _ {A B C D T : Type 0} (f : Option A → Option B → Option C → Option
   abbrev Row : List ℕ → T → List ℕ → Type 0
   Row = Then F Second
 
-  -- the four in order, and what they make
+  -- the four in order, and the value that they make up
   abbrev pub Made : List ℕ → T → List ℕ → Type 0
   Made text x following = (a : Option A) × (b : Option B) × (c : Option C) × (d : Option D)
       × InOrder F G H K text a b c d following × (x ≡ f a b c d)

@@ -1,4 +1,4 @@
--- The kind of an identifier tells the identifiers that are known.
+-- Each known kind of mechanism has exactly one identifier.
 use Rattle.std.proofs.Common.{◌≡◌, ℕ, Bool, true, false, cond, List, Some, refl, sym, ap}
 use lib.Pointwise.{bytes_decides}
 use Rattle.std.specs.Str.{bytes_eq}

@@ -1,4 +1,4 @@
--- How long the pieces are.
+-- The lengths of the parts of a token.
 use Rattle.std.proofs.Common.{◌≡◌, ℕ, ◌+◌, ◌<◌, ◌≤◌, List, [], ◌∷◌, ◌++◌, length, get_or, take}
 use Rattle.std.proofs.Common.{drop, append_assoc, Option, None, Some, refl, sym, ap, ◌∙◌, arith}
 use Rattle.std.specs.Option.{option_map, option_map_or}
@@ -60,7 +60,7 @@ oids_text-one : (oid : List ℕ) → oids_text (oid ∷ []) ≡ element 0x06 oid
 unfolding oids_text
 oids_text-one oid = append-nil (element 0x06 oid)
 
--- the text so far and the next
+-- the text so far, and the next identifier
 pub oids_text-take : (oids : List (List ℕ)) (k : ℕ) (oid : List ℕ) → k < length oids → oid ≡ get_or oids k oid →
     oids_text (take (k + 1) oids) ≡ oids_text (take k oids) ++ element 0x06 oid
 oids_text-take oids k oid lt is =
@@ -75,7 +75,7 @@ oids_more oids k oid lt is =
     ∙ length-append (oids_text (take k oids)) (element 0x06 oid)
     ∙ ap (λ (n : ℕ). length (oids_text (take k oids)) + n) (length-element 0x06 oid)
 
--- is no more than the whole
+-- a prefix of the list is no longer than the whole
 pub oids_front : (oids : List (List ℕ)) (k : ℕ) → length (oids_text (take k oids)) ≤ length (oids_text oids)
 oids_front oids k =
     omega (

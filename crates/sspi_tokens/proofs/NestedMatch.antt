@@ -1,4 +1,4 @@
--- Each reader of a nested form and that form say the same.
+-- Each reader of a nested form agrees with that form.
 use Rattle.std.proofs.Common.{◌≡◌, ℕ, ◌≤◌, true, false, cond, List, [], ◌∷◌, ◌++◌, length, Option, None}
 use Rattle.std.proofs.Common.{Some, Ok, refl, sym, ap, ◌∙◌, subst, append_assoc, arith, inl, inr}
 use Prim.Native.Nat.{zero, suc}

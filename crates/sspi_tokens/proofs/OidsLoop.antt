@@ -12,7 +12,7 @@ use Rattle.sspi_ber.proofs.Match.{read_of}
 use Rattle.sspi_tokens.specs.Parts.{list_or_none, oids_in}
 use Rattle.sspi_tokens.specs.Reading.{is_next, oids_up_to, oids_at}
 
--- what is read so far, before what is still read
+-- what was read so far, before what is still to be read
 abbrev pub before : List (List ℕ) → List (List ℕ) × List ℕ → Read (List (List ℕ))
 before oids more = Ok (oids ++ more.0, more.1)
 
@@ -26,13 +26,13 @@ nothing_before (Err fault) = refl
 pub reading_start : (bytes : List ℕ) → Reading bytes [] bytes
 reading_start bytes = record { read = nothing_before (oids_at bytes) }
 
--- an element takes a byte at least
+-- an element takes at least one byte
 pub shorter : (bytes content rest : List ℕ) → element_at 0x06 bytes ≡ Ok (content, rest) → length rest < length bytes
 shorter bytes content rest e =
     let t = (element_match 0x06).takes bytes content rest e in
     omega (arith, ap length t.2 ∙ length-append t.0 rest, ap length t.1.spelled)
 
--- one identifier, and then as many as fit
+-- one identifier, and then at most the given number more
 abbrev then_at : ℕ → List ℕ × List ℕ → Read (List (List ℕ))
 then_at most oid = oids_up_to most oid.1 >>= λ oids. Ok (oid.0 ∷ oids.0, oids.1)
 
@@ -41,7 +41,7 @@ then_same : (n m : ℕ) (r : Read (List ℕ)) →
 then_same n m (Ok oid) same = ap (λ (q : Read (List (List ℕ))). q >>= λ oids. Ok (oid.0 ∷ oids.0, oids.1)) (same oid.0 oid.1 refl)
 then_same n m (Err fault) same = refl
 
--- more room than bytes changes nothing
+-- a limit at or above the number of bytes changes nothing
 room : (n m : ℕ) (bytes : List ℕ) → length bytes ≤ n → length bytes ≤ m → oids_up_to n bytes ≡ oids_up_to m bytes
 room zero zero bytes le le2 = refl
 room zero (suc m) [] le le2 = refl
@@ -99,7 +99,7 @@ pub reading_fault : {bytes : List ℕ} {oids : List (List ℕ)} {left : List ℕ
 reading_fault {bytes} {oids} {left} fault reading next e = reading.read ∙ ap (λ (r : Read (List (List ℕ))). r >>= before oids)
     (bad_oid left fault next e)
 
--- the same where what was read so far is not kept
+-- the same, without keeping what was read so far
 pub record Passed (bytes left : List ℕ) : Type 0 where
   pub oids : List (List ℕ)
   pub reading : Reading bytes oids left
@@ -119,7 +119,7 @@ passed_end {bytes} {left} passed next =
     let e = reading_end passed.reading next in
     e ∙ ap (λ (l : List (List ℕ)). read_of l left) (sym (ap list_or_none e))
 
--- a fault is passed on, whatever would have been the value
+-- a fault is passed on, whatever the value would have been
 pub fault_given : (kind : WireKind) (read : Read (List ℕ)) (read2 : Read (List (List ℕ))) →
     ((fault : Fault) → read ≡ Err fault → read2 ≡ Err fault)
     → Gives {X = List ℕ} (λ x. x) [] (Err kind) read → Gives {X = List (List ℕ)} (λ x. x) [] (Err kind) read2

@@ -1,4 +1,4 @@
--- What was encoded is of the grammar again.
+-- What was encoded is in the grammar again.
 use Rattle.std.proofs.Common.{◌≡◌, ℕ, ◌+◌, ◌≤◌, List, [], ◌∷◌, ◌++◌, length, Option, None, Some, Ok, refl, sym, ap, subst, lit≤, arith}
 use Rattle.std.specs.Option.{option_map}
 use Rattle.std.proofs.lemmas.List.{append-nil, length-append}
@@ -21,7 +21,7 @@ use Rattle.sspi_tokens.proofs.Encode.{whole_is}
 use Rattle.sspi_tokens.proofs.GrammarMatch.{mech_types_match}
 use Rattle.sspi_tokens.proofs.Lengths.{element_size_more}
 
--- an element whose content is of a form, with nothing left over
+-- an element whose content has a form, with nothing left over
 around_short : {A : Type 0} (tag : ℕ) (Form : List ℕ → A → List ℕ → Type 0) (content : List ℕ) (x : A) (following : List ℕ) →
     length content ≤ max_content → Form content x [] → IsAround tag Form (element tag content) x following
 around_short tag Form content x following le form = record {
@@ -30,7 +30,7 @@ around_short tag Form content x following le form = record {
   inside = record { text = content; rest = []; parts = sym (append-nil content); form = form };
 }
 
--- an element fits where one around it does
+-- a content fits if an element around it does
 inner_fits : (tag : ℕ) (content : List ℕ) → length (element tag content) ≤ max_content → length content ≤ max_content
 inner_fits tag content le = omega (arith, length-element tag content, element_size_more (length content))
 
@@ -59,7 +59,7 @@ list_fits oids le = inner_fits 0x30 (oids_text oids) le
 
 -- ---- optional fields
 
--- a field that is there, or is not and then is not next
+-- a field that is present, or is absent and whose tag is not next
 field_short : {A : Type 0} (tag : ℕ) (Form : List ℕ → A → List ℕ → Type 0) (spell : A → List ℕ) (x : Option A)
     (following : List ℕ) → IsNotNext tag following
     → ((y : A) → length (spell y) ≤ max_content → Form (spell y) y []) → length (field tag (option_map spell x)) ≤ max_content →
@@ -69,7 +69,7 @@ field_short tag Form spell None following other form le = (refl, other)
 field_short tag Form spell (Some y) following other form le = let fits = inner_fits tag (spell y) le in
     around_short tag Form (spell y) y following fits (form y fits)
 
--- a tag is not next in front of a field with another tag, where it is not next behind that either
+-- if a tag is not next after a field with another tag, it is not next before that field either
 behind_field : {A : Type 0} (tag other : ℕ) (spell : A → List ℕ) (x : Option A) (following : List ℕ) → (other ≡ tag → ⊥) →
     IsNotNext tag following → IsNotNext tag (field other (option_map spell x) ++ following)
 unfolding field

@@ -1,4 +1,4 @@
--- What a writer put behind what was written before.
+-- What a writer appended to what was written before.
 use Rattle.std.proofs.Common.{◌≡◌, ℕ, List, [], ◌∷◌, ◌++◌, length, None, Some, Result, Ok, Err, refl, sym, ap, ◌∙◌, append_assoc}
 use Rattle.std.proofs.lemmas.List.{append-nil}
 use Rattle.std.specs.declared.alloc.AllocError.{AllocError}
@@ -25,7 +25,7 @@ put_then {before} {mid} {after} {a} {b} first second = record {
       ∙ ap (λ (l : List ℕ). l ++ b) first.appended ∙ append_assoc before a b;
 }
 
--- the same with what a writer of the content did
+-- the same with the result of a writer of the content
 pub puts_around : {before mid : List ℕ} (after : List ℕ) (tag n : ℕ) (content : List ℕ) (result : Result (Unit {0}) AllocError) →
     Put before mid (header tag n) → n ≡ length content → Puts mid after result content
     → Puts before after result (element tag content)

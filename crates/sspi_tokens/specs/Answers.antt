@@ -6,7 +6,7 @@ use Rattle.sspi_types.specs.declared.error.Error.{Error}
 use Rattle.sspi_types.specs.declared.error_kind.ErrorKind.TheVariants.{InvalidToken, InternalError}
 use Rattle.sspi_types.specs.declared.reason.Reason.TheVariants.{TokenForm, TooLong}
 
--- the bytes begin with no such token
+-- the bytes do not begin with such a token
 abbrev pub malformed : Error
 malformed = record { error_type = InvalidToken; description = TokenForm; nstatus = None }
 
@@ -14,15 +14,15 @@ malformed = record { error_type = InvalidToken; description = TokenForm; nstatus
 abbrev pub too_long : Error
 too_long = record { error_type = InternalError; description = TooLong; nstatus = None }
 
--- The token that the bytes begin with, for which memory may be wanting; exactly `malformed` where
--- they begin with none.
+-- The token that the bytes begin with, or out of memory; exactly `malformed` if they do not begin
+-- with one.
 abbrev pub ReadsAs : {T : Type 0} → Option T → Result T Error → Type 0
 ReadsAs (Some token) (Ok x) = x ≡ token
 ReadsAs (Some token) (Err error) = error ≡ memory_error
 ReadsAs None (Ok x) = ⊥
 ReadsAs None (Err error) = error ≡ malformed
 
--- the encoding, for which memory may be wanting; where there is none, `too_long`
+-- the encoding, or out of memory; `too_long` if there is no encoding
 abbrev pub WritesAs : Option (List ℕ) → Result (Vec ℕ) Error → Type 0
 WritesAs (Some text) (Ok bytes) = bytes.items ≡ text
 WritesAs (Some text) (Err error) = error ≡ memory_error

@@ -25,14 +25,14 @@ abbrev pub IsOctets : ℕ → List ℕ → List ℕ → List ℕ → Type 0
 IsOctets tag = IsAround tag (IsWhole 0x04)
 
 -- The fields of NegTokenInit: mechTypes, flags of any content, mechToken, and any [3] (mechListMIC
--- of RFC 4178, negHints of MS-SPNG 2.2.1). What stands behind them is not looked at.
+-- of RFC 4178, negHints of MS-SPNG 2.2.1). What follows them is ignored.
 abbrev pub IsInitFields : List ℕ → NegTokenInit → List ℕ → Type 0
 IsInitFields text token following = (flags hints : Option (List ℕ))
     × InOrder (IsOptional 0xA0 (IsAround 0xA0 IsMechTypes)) (IsOptional 0xA1 (IsWhole 0xA1))
     (IsOptional 0xA2 (IsOctets 0xA2)) (IsOptional 0xA3 (IsWhole 0xA3))
     text token.mech_types flags token.mech_token hints following
 
--- the OBJECT IDENTIFIER of SPNEGO, and behind it [0] around the SEQUENCE of the fields
+-- the OBJECT IDENTIFIER of SPNEGO, followed by [0] around the SEQUENCE of the fields
 pub record IsInitContent (text : List ℕ) (token : NegTokenInit) (following : List ℕ) : Type 0 where
   pub mech : List ℕ
   pub body : List ℕ
@@ -40,7 +40,7 @@ pub record IsInitContent (text : List ℕ) (token : NegTokenInit) (following : L
   pub mech_is : IsElement 0x06 mech spnego
   pub body_is : IsAround 0xA0 (IsAround 0x30 IsInitFields) body token following
 
--- NegTokenInit in the frame of an initial token of the GSS-API (RFC 2743, section 3.1)
+-- NegTokenInit in the GSS-API frame of an initial token (RFC 2743, section 3.1)
 abbrev pub IsInit : List ℕ → NegTokenInit → List ℕ → Type 0
 IsInit = IsAround 0x60 IsInitContent
 

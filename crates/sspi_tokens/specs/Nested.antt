@@ -1,6 +1,5 @@
--- Forms inside forms: what stands in an element is read inside its content alone, and what is left
--- over there is not looked at. A form says what the text, the value and what follows the text have
--- to do with one another.
+-- Forms inside forms: what is inside an element is read from its content alone, and what is left
+-- over there is ignored. A form relates the text, the value and what follows the text.
 use Rattle.std.specs.Prelude.{◌≡◌, ℕ, List, [], ◌++◌, Option, None, Some}
 use Rattle.sspi_ber.specs.Forms.{IsElement, IsNotNext}
 
@@ -19,12 +18,12 @@ pub record IsAround {A : Type 0} (tag : ℕ) (Form : List ℕ → A → List ℕ
   pub element : IsElement tag text content
   pub inside : Begins Form content x
 
--- an element that is its content
+-- an element, with its content as the value
 abbrev pub IsWhole : ℕ → List ℕ → List ℕ → List ℕ → Type 0
 IsWhole tag text content following = IsElement tag text content
 
--- An optional text, which begins with this tag where it is there. Where it is absent, that tag does
--- not come next.
+-- An optional text, which begins with this tag if it is present. If it is absent, that tag does not
+-- come next.
 abbrev pub IsOptional : {A : Type 0} → ℕ → (List ℕ → A → List ℕ → Type 0) → List ℕ → Option A →
     List ℕ → Type 0
 IsOptional tag Form text None following = (text ≡ []) × IsNotNext tag following

@@ -1,4 +1,4 @@
--- The token that the parts of its bytes stand for.
+-- The token that the parts of its bytes make up.
 use Rattle.std.specs.Prelude.{ℕ, List, [], Ok, Err}
 use Rattle.std.specs.Option.{option_copied, option_map}
 use Rattle.sspi_ber.specs.Pieces.{Read}

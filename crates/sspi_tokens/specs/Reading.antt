@@ -1,4 +1,4 @@
--- The tokens read from left to right: the grammar as functions.
+-- The tokens as read from left to right: the grammar as functions.
 use Rattle.std.specs.Prelude.{ℕ, Bool, false, ◌==◌, List, [], ◌∷◌, length, Option, None, Some, Ok}
 use Rattle.std.specs.Prelude.{Err, if◌then◌else◌}
 use Rattle.std.specs.Str.{bytes_eq}
@@ -15,19 +15,19 @@ abbrev pub is_next : ℕ → List ℕ → Bool
 is_next tag [] = false
 is_next tag (byte ∷ rest) = byte == tag
 
--- an element, and what inner reads in its content
+-- an element, and what inner reads from its content
 unfoldable pub around_at : {A : Type 0} → ℕ → (List ℕ → Read A) → List ℕ → Read A
 around_at tag inner bytes = do
   content ← element_at tag bytes
   x ← inner content.0
   Ok (x.0, content.1)
 
--- what element reads, where this tag comes next
+-- what element reads, if this tag comes next
 unfoldable pub optional_at : {A : Type 0} → ℕ → (List ℕ → Read A) → List ℕ → Read (Option A)
 optional_at tag element bytes = if is_next tag bytes
     then (element bytes >>= λ x. Ok (Some x.0, x.1)) else Ok (None, bytes)
 
--- at most so many object identifiers
+-- at most this number of object identifiers
 abbrev pub oids_up_to : ℕ → List ℕ → Read (List (List ℕ))
 oids_up_to zero bytes = Ok ([], bytes)
 oids_up_to (suc most) bytes =
@@ -36,7 +36,7 @@ oids_up_to (suc most) bytes =
     (oid.0 ∷ oids.0, oids.1))
     else Ok ([], bytes)
 
--- each takes a byte at least
+-- each takes at least one byte
 unfoldable pub oids_at : List ℕ → Read (List (List ℕ))
 oids_at bytes = oids_up_to (length bytes) bytes
 
@@ -91,7 +91,7 @@ abbrev pub value_of : {A : Type 0} → Read A → Option A
 value_of (Ok x) = Some x.0
 value_of (Err fault) = None
 
--- the token that the bytes begin with, where there is one
+-- the token that the bytes begin with, if there is one
 abbrev pub init_of : List ℕ → Option NegTokenInit
 init_of bytes = value_of (init_at bytes)
 

@@ -1,4 +1,4 @@
--- The shortest encoding of the tokens. There is none where a length passes the limit.
+-- The shortest encoding of the tokens. There is none if a length passes the limit.
 use Rattle.std.specs.Prelude.{ℕ, nat_le, List, [], ◌∷◌, ◌++◌, length, Option, None, Some}
 use Rattle.std.specs.Prelude.{if◌then◌else◌}
 use Rattle.std.specs.Option.{option_map}
@@ -11,12 +11,12 @@ use Rattle.sspi_tokens.specs.declared.neg_result.NegResult.TheVariants.{AcceptIn
 use Rattle.sspi_tokens.specs.declared.neg_token_init.NegTokenInit.{NegTokenInit}
 use Rattle.sspi_tokens.specs.declared.neg_token_targ.NegTokenTarg.{NegTokenTarg}
 
--- a tag around a encoded value, or nothing
+-- a tag around an encoded value, or nothing
 unfoldable pub field : ℕ → Option (List ℕ) → List ℕ
 field tag None = []
 field tag (Some inner) = element tag inner
 
--- an element whose content is this, where that fits
+-- an element with this content, if it fits
 unfoldable pub whole : ℕ → List ℕ → Option (List ℕ)
 whole tag content = if nat_le (length content) max_content then Some (element tag content) else None
 

@@ -1,4 +1,4 @@
-//! A token of its parts, in memory of its own.
+//! Copies a token from its parts, into memory of its own.
 
 ghost use Rattle.std.specs.Prelude.{◌≡◌, IfOk};
 ghost use Rattle.std.specs.Option.{option_copied, option_map};
@@ -35,7 +35,7 @@ fn copy_oid(alloc: Global, content: Option<&[u8]>) -> Result<Option<Oid>, AllocE
     }
 }
 
-/// Object identifiers up to the first other tag.
+/// Copies object identifiers up to the first other tag.
 fn read_oids(alloc: Global, source: &mut SliceSource<'_>) -> Result<Vec<Oid>, WireKind>
     ensures { Gives (λ oids. oids.items) source.new result (oids_at source.old) }
 {
@@ -47,8 +47,8 @@ fn read_oids(alloc: Global, source: &mut SliceSource<'_>) -> Result<Vec<Oid>, Wi
     Ok(oids)
 }
 
-/// The identifiers that the content of a list begins with. They were read before, so memory alone
-/// can run out.
+/// The identifiers that the content of a list begins with. They were read before, so only an
+/// allocation can fail.
 fn copy_oids(alloc: Global, content: &[u8]) -> Result<MechTypeList, AllocError>
     ensures { IfOk result (λ list. list ≡ oids_in content.now) }
 {

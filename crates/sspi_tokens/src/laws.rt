@@ -1,4 +1,4 @@
-//! What follows from the definitions alone. Each law is the contract of a call that does nothing.
+//! What follows from the definitions alone. Each law is the contract of an empty function.
 
 ghost use Rattle.std.specs.Prelude.{◌≡◌, ◌↔◌, ℕ, List, ◌++◌, Some};
 ghost use Rattle.sspi_tokens.specs.Grammar.{IsInit, IsTarg};
@@ -11,38 +11,38 @@ ghost use Rattle.sspi_tokens.specs.declared.neg_token_targ.NegTokenTarg.{NegToke
 
 use crate::oid::MechKind;
 
-/// What `NegTokenInit::decode` reads is the grammar: the bytes begin with that token, and with no
-/// other.
+/// `NegTokenInit::decode` follows the grammar: it reads a token exactly when the bytes begin with
+/// that token, and they begin with no other.
 pub fn init_is_grammar()
     ensures { (bytes : List ℕ) (token : NegTokenInit) → (init_of bytes ≡ Some token) ↔
         Begins IsInit bytes token }
 {}
 
-/// The same of `NegTokenTarg::decode`.
+/// The same for `NegTokenTarg::decode`.
 pub fn targ_is_grammar()
     ensures { (bytes : List ℕ) (token : NegTokenTarg) → (targ_of bytes ≡ Some token) ↔
         Begins IsTarg bytes token }
 {}
 
-/// A token that was encoded reads back, whatever follows it.
+/// An encoded `NegTokenInit` reads back, whatever follows it.
 pub fn init_reads_back()
     ensures { (token : NegTokenInit) (text more : List ℕ) → spelled_init token ≡ Some text →
         init_of (text ++ more) ≡ Some token }
 {}
 
-/// The same of the other token.
+/// An encoded `NegTokenTarg` reads back, whatever follows it.
 pub fn targ_reads_back()
     ensures { (token : NegTokenTarg) (text more : List ℕ) → spelled_targ token ≡ Some text →
         targ_of (text ++ more) ≡ Some token }
 {}
 
-/// An encoding is that of one mechanism list at most, so a MIC over it is one over the list.
+/// An encoding is that of at most one mechanism list, so a MIC over it is a MIC over the list.
 pub fn list_is_known_by_spelling()
     ensures { (list other : List (List ℕ)) (text : List ℕ) → spelled_list list ≡ Some text →
         spelled_list other ≡ Some text → list ≡ other }
 {}
 
-/// Each known mechanism has one identifier, by which it is known.
+/// Each known mechanism has exactly one identifier, which is recognized as that mechanism.
 pub fn kinds_are_identifiers()
     ensures ms_kerberos { (oid : List ℕ) → (kind_of oid ≡ MechKind.MsKerberos) ↔ (oid ≡ ms_krb5) }
     ensures kerberos { (oid : List ℕ) → (kind_of oid ≡ MechKind.Kerberos) ↔ (oid ≡ krb5) }

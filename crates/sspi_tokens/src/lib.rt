@@ -2,14 +2,14 @@
 //! lists in them.
 //!
 //! `NegTokenInit` and `NegTokenTarg` (NegTokenResp in RFC 4178) are read from bytes and written to
-//! bytes; `Oid` names a mechanism and `MechTypeList` lists them in the order of preference.
-//! `encode_mech_types` encodes a list alone, which is the text that the MICs of a negotiation are
-//! made over.
+//! bytes; `Oid` names a mechanism and `MechTypeList` lists mechanisms in the order of preference.
+//! `encode_mech_types` encodes a list alone, which is the text that the MICs of a negotiation
+//! cover.
 //!
-//! `decode` reads whatever bytes begin with a token and refuses all others; `encode` refuses where
-//! a length passes the limit, and there alone. Neither takes memory before it refuses. The grammar
-//! is `specs/Grammar.antt`, the encoding `specs/Spelling.antt`. `laws.rt` has what follows: a token
-//! that was written reads back, whatever follows it, and a list is known by its encoding.
+//! `decode` reads any bytes that begin with a token and refuses all others; `encode` refuses only
+//! when a length passes the limit. Neither allocates before it refuses. The grammar is
+//! `specs/Grammar.antt`, the encoding `specs/Spelling.antt`. `laws.rt` has what follows: a token
+//! that was written reads back, whatever follows it, and an encoding identifies its list.
 #![tactic(auto)]
 
 mod copying;

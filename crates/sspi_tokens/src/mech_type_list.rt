@@ -77,10 +77,9 @@ impl MechTypeList {
     }
 }
 
-/// The list alone as a SEQUENCE, over which the MICs of a negotiation are made (RFC 4178, section
-/// 5).
+/// The list alone as a SEQUENCE, which the MICs of a negotiation cover (RFC 4178, section 5).
 ///
-/// `InternalError` with the reason `TooLong` exactly where its content passes
+/// `InternalError` with the reason `TooLong` exactly when its content passes
 /// `sspi_ber::MAX_CONTENT`, 1048576 octets.
 #[tactic(auto, using(crate::proofs::Encode::refused, crate::proofs::Encode::unwritten, crate::proofs::Encode::written))]
 pub fn encode_mech_types(alloc: Global, list: &MechTypeList) -> Result<Vec<u8>, Error>

@@ -4,10 +4,10 @@ ghost use Rattle.std.specs.Prelude.{◌≡◌};
 ghost use Rattle.sspi_tokens.specs.Grammar.{result_of};
 ghost use Rattle.sspi_tokens.specs.Spelling.{result_code};
 
-/// What a token says of the negotiation (negState, RFC 4178, section 4.2.2).
+/// What a token says about the negotiation (negState, RFC 4178, section 4.2.2).
 #[derive(Clone, Copy, Debug, PartialEq, Eq)]
 pub enum NegResult {
-    /// The sender is content, and expects no further token: content 0.
+    /// The sender is satisfied, and expects no further token: content 0.
     AcceptComplete,
     /// A further token is needed: content 1.
     AcceptIncomplete,

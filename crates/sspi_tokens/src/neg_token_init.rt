@@ -18,27 +18,26 @@ use sspi_types::{Bytes, Error};
 use std::alloc::{AllocError, Global};
 
 /// The first token of a client (RFC 4178, section 4.2.1; MS-SPNG 2.2.1): the mechanisms that it
-/// offers, and the first token of the one that it likes best.
+/// offers, and the first token of the one that it prefers.
 #[derive(Drop, PartialEq, Eq)]
 pub struct NegTokenInit {
     /// The mechanisms that are offered (`mechTypes`), in the order of the client's preference.
     pub mech_types: Option<MechTypeList>,
-    /// The first token of the mechanism that comes first (`mechToken`), as its octets.
+    /// The first token of the first mechanism (`mechToken`), as its octets.
     pub mech_token: Option<Bytes>,
 }
 
 impl NegTokenInit {
-    /// Reads the token that `bytes` begin with; what follows it is not looked at.
+    /// Reads the token that `bytes` begin with; what follows it is ignored.
     ///
-    /// A field that is absent, or whose place another field has, is `None`. The flags and the field
-    /// with tag 3 (the MIC of RFC 4178, the hints of MS-SPNG) are passed over by their lengths, and
-    /// whatever is left over in an element is ignored. Mechanisms that are not known stay in the
-    /// list.
+    /// A field that is absent, or has another field in its place, is `None`. The flags and the
+    /// field with tag 3 (the MIC of RFC 4178, the hints of MS-SPNG) are skipped by their lengths.
+    /// Anything left over in an element is ignored. Unknown mechanisms stay in the list.
     ///
-    /// `InvalidToken` with the reason `TokenForm` exactly where the bytes begin with no such token:
-    /// where one is cut off or another tag stands in its place, and where its mechanism is another
-    /// than SPNEGO. Memory is taken only once the whole token was found there, so out of memory
-    /// never comes in place of that refusal.
+    /// `InvalidToken` with the reason `TokenForm` exactly when the bytes do not begin with such a
+    /// token: one is cut off, another tag is in its place, or its mechanism is not SPNEGO.
+    /// Allocates only once the whole token is read, so out of memory never comes in place of that
+    /// refusal.
     #[tactic(auto, using(crate::proofs::Decode::read_refused, crate::proofs::Decode::read_unkept, crate::proofs::Decode::read_kept))]
     pub fn decode(alloc: Global, bytes: &[u8]) -> Result<NegTokenInit, Error>
         ensures { ReadsAs (init_of bytes.now) result }
@@ -51,8 +50,8 @@ impl NegTokenInit {
 
     /// The token in its shortest encoding.
     ///
-    /// `InternalError` with the reason `TooLong` exactly where a length passes the limit; that
-    /// takes no memory.
+    /// `InternalError` with the reason `TooLong` exactly when a length passes the limit; that
+    /// allocates nothing.
     #[tactic(auto, using(crate::proofs::Encode::refused, crate::proofs::Encode::unwritten, crate::proofs::Encode::written))]
     pub fn encode(&self, alloc: Global) -> Result<Vec<u8>, Error>
         ensures { WritesAs (spelled_init self.now) result }

@@ -22,9 +22,9 @@ use std::alloc::{AllocError, Global};
 /// Every later token, of either side (NegTokenResp, RFC 4178, section 4.2.2).
 #[derive(Drop, PartialEq, Eq)]
 pub struct NegTokenTarg {
-    /// What the sender says of the negotiation (`negState`).
+    /// What the sender says about the negotiation (`negState`).
     pub neg_result: Option<NegResult>,
-    /// The mechanism that a server picked (`supportedMech`).
+    /// The mechanism that a server selected (`supportedMech`).
     pub supported_mech: Option<Oid>,
     /// The next token of the mechanism (`responseToken`), as its octets.
     pub response_token: Option<Bytes>,
@@ -34,14 +34,14 @@ pub struct NegTokenTarg {
 }
 
 impl NegTokenTarg {
-    /// Reads the token that `bytes` begin with; what follows it is not looked at.
+    /// Reads the token that `bytes` begin with; what follows it is ignored.
     ///
-    /// A field that is absent, or whose place another field has, is `None`, and whatever is left
-    /// over in an element is ignored.
+    /// A field that is absent, or has another field in its place, is `None`. Anything left over in
+    /// an element is ignored.
     ///
-    /// `InvalidToken` with the reason `TokenForm` exactly where the bytes begin with no such token.
-    /// Memory is taken only once the whole token was found there, so out of memory never comes in
-    /// place of that refusal.
+    /// `InvalidToken` with the reason `TokenForm` exactly when the bytes do not begin with such a
+    /// token. Allocates only once the whole token is read, so out of memory never comes in place of
+    /// that refusal.
     #[tactic(auto, using(crate::proofs::Decode::read_refused, crate::proofs::Decode::read_unkept, crate::proofs::Decode::read_kept))]
     pub fn decode(alloc: Global, bytes: &[u8]) -> Result<NegTokenTarg, Error>
         ensures { ReadsAs (targ_of bytes.now) result }
@@ -54,8 +54,8 @@ impl NegTokenTarg {
 
     /// The token in its shortest encoding.
     ///
-    /// `InternalError` with the reason `TooLong` exactly where a length passes the limit; that
-    /// takes no memory.
+    /// `InternalError` with the reason `TooLong` exactly when a length passes the limit; that
+    /// allocates nothing.
     #[tactic(auto, using(crate::proofs::Encode::refused, crate::proofs::Encode::unwritten, crate::proofs::Encode::written))]
     pub fn encode(&self, alloc: Global) -> Result<Vec<u8>, Error>
         ensures { WritesAs (spelled_targ self.now) result }

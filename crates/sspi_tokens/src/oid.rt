@@ -15,8 +15,8 @@ const KRB5: [u8; 9] = [0x2a, 0x86, 0x48, 0x86, 0xf7, 0x12, 0x01, 0x02, 0x02];
 
 const NTLM_SSP: [u8; 10] = [0x2b, 0x06, 0x01, 0x04, 0x01, 0x82, 0x37, 0x02, 0x02, 0x0a];
 
-/// An OBJECT IDENTIFIER as its content bytes (X.690 8.19), which are not looked into. Contracts see
-/// it as this list.
+/// An OBJECT IDENTIFIER as its content bytes (X.690 8.19), which are not interpreted. Contracts see
+/// it as the list of these bytes.
 #[derive(Drop)]
 pub struct Oid {
     content: Bytes,
@@ -50,8 +50,8 @@ impl Eq for Oid {
     ghost laws = { nat_list_eq_equiv };
 }
 
-/// The mechanisms that a negotiation here knows, by their identifiers. It is `Copy`, and stands for
-/// an `Oid` where memory is not to be taken.
+/// The mechanisms that a negotiation here knows, by their identifiers. It is `Copy`, and used in
+/// place of an `Oid` where nothing may be allocated.
 #[derive(Clone, Copy, Debug, PartialEq, Eq)]
 pub enum MechKind {
     /// Kerberos under the identifier with the bit error of Windows 2000 (MS-SPNG 1.9).
@@ -60,13 +60,12 @@ pub enum MechKind {
     Kerberos,
     /// NTLM (MS-NLMP 1.9).
     Ntlm,
-    /// Any other, SPNEGO itself among them.
+    /// Any other, including SPNEGO itself.
     Other,
 }
 
 impl MechKind {
-    /// The identifier that names this mechanism, as a token says it (`supported_mech`); `None` for
-    /// `Other`.
+    /// The identifier that names this mechanism in a token (`supported_mech`); `None` for `Other`.
     pub fn identifier(self, alloc: Global) -> Result<Option<Oid>, AllocError>
         ensures { IfOk result (λ oid. oid ≡ identifier_of self) }
     {
@@ -125,7 +124,7 @@ impl Oid {
         Oid::from_content(alloc, &NTLM_SSP)
     }
 
-    /// Which mechanism this identifier names. Takes no memory.
+    /// Which mechanism this identifier names. Allocates nothing.
     #[tactic(auto, unfolding(crate::specs::Oids::kind_of))]
     pub fn kind(&self) -> MechKind
         ensures { result ≡ kind_of self.now }

@@ -1,5 +1,4 @@
-//! Tokens read where they stand, without memory. So every refusal is reached before memory is
-//! taken.
+//! Reads tokens in place, without allocating, so that every refusal comes before any allocation.
 
 ghost use Rattle.std.specs.Prelude.{◌≡◌};
 ghost use Rattle.std.specs.Option.{option_copied, option_map};
@@ -29,7 +28,7 @@ pub(crate) fn is_next(source: &SliceSource<'_>, tag: u8) -> bool
     }
 }
 
-/// The content of the element that is next, to be read in turn.
+/// The content of the next element, as a source to read from.
 fn enter<'a>(source: &mut SliceSource<'a>, tag: u8) -> Result<SliceSource<'a>, WireKind>
     ensures read { Gives (λ inside. inside) source.new result (element_at tag source.old) }
     ensures memory { NeedsNoMemory result }
@@ -57,7 +56,7 @@ fn read_field<'a>(
     Ok(Some(content))
 }
 
-/// Passes over an optional field by its length.
+/// Skips an optional field by its length.
 #[tactic(auto, unfolding(crate::specs::Reading::optional_at))]
 fn skip_field<'a>(source: &mut SliceSource<'a>, tag: u8) -> Result<Option<&'a [u8]>, WireKind>
     ensures read { Gives (λ content. option_copied content) source.new result
@@ -79,7 +78,7 @@ fn read_octets<'a>(source: &mut SliceSource<'a>, tag: u8) -> Result<Option<&'a [
     read_field(source, tag, OCTET_STRING)
 }
 
-/// Passes over object identifiers up to the first other tag.
+/// Skips object identifiers up to the first other tag.
 fn pass_oids(source: &mut SliceSource<'_>) -> Result<(), WireKind>
     ensures read { Gives (λ _. oids_in source.old) source.new result (oids_at source.old) }
     ensures memory { NeedsNoMemory result }

@@ -16,7 +16,7 @@ use crate::oid::Oid;
 use sspi_ber::{MAX_CONTENT, size_of_element};
 use sspi_types::Bytes;
 
-/// A length, where it fits.
+/// A length, if it fits.
 fn short(len: usize) -> Option<usize>
     ensures { Measures result len }
 {
@@ -26,7 +26,7 @@ fn short(len: usize) -> Option<usize>
     Some(len)
 }
 
-/// The length of an element, where it fits.
+/// The length of an element, if it fits.
 fn around(content: usize) -> Option<usize>
     requires { content ≤ max_content }
     ensures { Measures result (element_size content) }
@@ -34,7 +34,7 @@ fn around(content: usize) -> Option<usize>
     short(size_of_element(content))
 }
 
-/// The length of an element in an element, where it fits.
+/// The length of an element in an element, if it fits.
 #[tactic(auto, using(crate::proofs::Lengths::element_size_more))]
 fn wrapped(content: usize) -> Option<usize>
     ensures { Measures result (element_size (element_size content)) }
@@ -44,7 +44,7 @@ fn wrapped(content: usize) -> Option<usize>
     around(inner)
 }
 
-/// The length of object identifiers one after the other, where it fits.
+/// The length of object identifiers one after the other, if it fits.
 pub(crate) fn oids_len(oids: &[Oid]) -> Option<usize>
     ensures { Measures result (length (oids_text oids.now)) }
 {
@@ -65,7 +65,7 @@ fn list_len(list: &Option<MechTypeList>) -> Option<usize>
     }
 }
 
-/// The length of the field of a list whose identifiers have this length, where it fits.
+/// The length of the field of a list whose identifiers have this length, if it fits.
 #[tactic(auto, using(crate::proofs::Lengths::sizing))]
 fn mech_types_len(list: &Option<MechTypeList>, len: usize) -> Option<usize>
     requires { len ≡ list_length list.now }
@@ -108,18 +108,18 @@ fn result_len(neg_result: Option<NegResult>) -> usize
     }
 }
 
-/// The lengths that the headers of a `NegTokenInit` say.
+/// The lengths in the headers of a `NegTokenInit`.
 #[derive(Clone, Copy)]
 pub(crate) struct InitLengths {
     /// of the identifiers in the list
     pub mech_types: usize,
     /// of the fields
     pub fields: usize,
-    /// of what the outermost frame holds
+    /// of the content of the outermost frame
     pub content: usize,
 }
 
-/// The lengths of a `NegTokenInit`, where they fit.
+/// The lengths of a `NegTokenInit`, if they fit.
 #[tactic(auto, using(crate::proofs::Lengths::sizing))]
 pub(crate) fn init_lengths(token: &NegTokenInit) -> Option<InitLengths>
     ensures { MatchOption result (max_content < length (init_content token.now))
@@ -138,7 +138,7 @@ pub(crate) fn init_lengths(token: &NegTokenInit) -> Option<InitLengths>
     })
 }
 
-/// The length of the fields of a `NegTokenTarg`, where the SEQUENCE of them fits.
+/// The length of the fields of a `NegTokenTarg`, if the SEQUENCE of them fits.
 #[tactic(auto, using(crate::proofs::Lengths::sizing))]
 pub(crate) fn targ_fields_len(token: &NegTokenTarg) -> Option<usize>
     ensures { SomeIff result (length (targ_content token.now) ≤ max_content)

@@ -8,7 +8,7 @@ pub(crate) const OBJECT_IDENTIFIER: u8 = 0x06;
 /// The identifier octet of an ENUMERATED.
 pub(crate) const ENUMERATED: u8 = 0x0A;
 
-/// The identifier octet of the GSS-API's frame of an initial token (RFC 2743, section 3.1).
+/// The identifier octet of the GSS-API frame of an initial token (RFC 2743, section 3.1).
 pub(crate) const INITIAL_TOKEN: u8 = 0x60;
 
 /// The identifier octets of the constructed context-specific tags.

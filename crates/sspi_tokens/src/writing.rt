@@ -44,7 +44,7 @@ fn put_element(sink: &mut VecSink, tag: u8, content: &[u8]) -> Result<(), AllocE
     }
 }
 
-/// An element inside a field.
+/// Writes an element inside a field.
 #[tactic(auto, using(crate::proofs::Written::putting, crate::proofs::Lengths::sizing))]
 fn put_field(sink: &mut VecSink, tag: u8, inner: u8, content: &[u8]) -> Result<(), AllocError>
     requires { length (element tag (element inner content.now)) ≤ max_content }
@@ -86,7 +86,7 @@ fn put_result(sink: &mut VecSink, neg_result: Option<NegResult>) -> Result<(), A
     }
 }
 
-/// Object identifiers one after the other.
+/// Writes object identifiers one after the other.
 pub(crate) fn put_oids(sink: &mut VecSink, oids: &[Oid]) -> Result<(), AllocError>
     requires { length (oids_text oids.now) ≤ max_content }
     ensures { Puts sink.old sink.new result (oids_text oids.now) }
@@ -97,7 +97,7 @@ pub(crate) fn put_oids(sink: &mut VecSink, oids: &[Oid]) -> Result<(), AllocErro
     Ok(())
 }
 
-/// A mechanism list, whose identifiers have this length.
+/// Writes a mechanism list, whose identifiers have this length.
 #[tactic(auto, using(crate::proofs::Written::putting, crate::proofs::Lengths::sizing), unfolding(sspi_ber::specs::Short::element))]
 pub(crate) fn put_mech_types(sink: &mut VecSink, oids: &[Oid], len: usize) -> Result<(), AllocError>
     requires size { len ≡ length (oids_text oids.now) }
@@ -148,7 +148,7 @@ fn put_init_fields(
     put_octets(sink, FIELD_2, &token.mech_token)
 }
 
-/// The SEQUENCE of the fields.
+/// Writes the SEQUENCE of the fields.
 #[tactic(auto, using(crate::proofs::Written::putting, crate::proofs::Lengths::sizing), unfolding(sspi_ber::specs::Short::element))]
 fn put_init_sequence(
     sink: &mut VecSink,
@@ -162,7 +162,7 @@ fn put_init_sequence(
     put_init_fields(sink, token, lengths.mech_types)
 }
 
-/// [0] around that SEQUENCE.
+/// Writes [0] around that SEQUENCE.
 #[tactic(auto, using(crate::proofs::Written::putting, crate::proofs::Lengths::sizing))]
 fn put_init_body(
     sink: &mut VecSink,
@@ -176,7 +176,7 @@ fn put_init_body(
     put_init_sequence(sink, token, lengths)
 }
 
-/// The identifier of SPNEGO, and that behind it.
+/// Writes the identifier of SPNEGO, and that [0] after it.
 #[tactic(auto, using(crate::proofs::Written::putting, crate::proofs::Lengths::sizing), unfolding(crate::specs::Spelling::init_content))]
 fn put_init_content(
     sink: &mut VecSink,
@@ -190,7 +190,7 @@ fn put_init_content(
     put_init_body(sink, token, lengths)
 }
 
-/// A whole `NegTokenInit`.
+/// Writes a whole `NegTokenInit`.
 #[tactic(auto, using(crate::proofs::Written::putting, crate::proofs::Lengths::sizing), unfolding(sspi_ber::specs::Short::element))]
 pub(crate) fn put_init(
     sink: &mut VecSink,
@@ -231,7 +231,7 @@ fn put_targ_fields(sink: &mut VecSink, token: &NegTokenTarg) -> Result<(), Alloc
     put_last_fields(sink, token)
 }
 
-/// The SEQUENCE of the fields, which have this length.
+/// Writes the SEQUENCE of the fields, which have this length.
 #[tactic(auto, using(crate::proofs::Written::sized), unfolding(crate::specs::Spelling::targ_content, sspi_ber::specs::Short::element))]
 fn put_targ_content(
     sink: &mut VecSink,
@@ -246,7 +246,7 @@ fn put_targ_content(
     put_targ_fields(sink, token)
 }
 
-/// A whole `NegTokenTarg`, whose fields have this length.
+/// Writes a whole `NegTokenTarg`, whose fields have this length.
 #[tactic(auto, using(crate::proofs::Written::putting, crate::proofs::Lengths::sizing))]
 pub(crate) fn put_targ(
     sink: &mut VecSink,
