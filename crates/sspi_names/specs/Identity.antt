@@ -15,7 +15,7 @@ use Rattle.sspi_names.specs.declared.identity.AuthIdentityBuffers.{AuthIdentityB
 use Rattle.sspi_names.specs.Name.{Name, IsName, inner_of, new_name, bad_name}
 use Rattle.sspi_names.specs.Utf16.{units_of, text_of, IsUtf16}
 
--- a user principal name goes whole into the user; a down-level name keeps its parts apart
+-- a user principal name goes whole into the user; a down-level name keeps its parts separate
 abbrev pub user_text : UserNameFormat → Name → List ℕ
 user_text UserPrincipalName name = inner_of name
 user_text DownLevelLogonName name = name.account

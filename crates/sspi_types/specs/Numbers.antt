@@ -17,7 +17,7 @@ AreDistinct {K} number_of = (a b : K) → number_of a ≡ number_of b → a ≡ 
 abbrev pub ComparesNumbers : {K : Type 0} → (K → K → Bool) → (K → ℕ) → Type 0
 ComparesNumbers {K} eq number_of = (a b : K) → eq a b ≡ (number_of a == number_of b)
 
--- what is read at the number of a value is that value
+-- what is read from the number of a value is that value
 abbrev pub AreReadBack : {K : Type 0} → (K → ℕ) → Type 0
 AreReadBack {K} number_of = (value : K) (read : Option K) →
     ReadsNumber number_of (number_of value) read → read ≡ Some value

@@ -54,7 +54,7 @@ pub enum BufferType {
 }
 
 impl BufferType {
-    /// The value with this number, or `None` where the table has no such number.
+    /// The value with this number, or `None` if the table has no such number.
     #[tactic(auto, using(crate::proofs::Numbers::same_buffer_type))]
     pub fn from_u32(number: u32) -> Option<Self>
         ensures { ReadsNumber buffer_type_number number result }

@@ -17,7 +17,7 @@ pub enum CertEncodingType {
 }
 
 impl CertEncodingType {
-    /// The value with this number, or `None` where the table has no such number.
+    /// The value with this number, or `None` if the table has no such number.
     #[tactic(auto, using(crate::proofs::Numbers::same_cert_encoding_type))]
     pub fn from_u32(number: u32) -> Option<Self>
         ensures { ReadsNumber cert_encoding_type_number number result }

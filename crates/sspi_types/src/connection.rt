@@ -41,7 +41,7 @@ pub enum ConnectionProtocol {
 }
 
 impl ConnectionProtocol {
-    /// The value with this number, or `None` where the table has no such number.
+    /// The value with this number, or `None` if the table has no such number.
     #[tactic(auto, using(crate::proofs::Numbers::same_connection_protocol))]
     pub fn from_u32(number: u32) -> Option<Self>
         ensures { ReadsNumber connection_protocol_number number result }
@@ -93,7 +93,7 @@ pub enum ConnectionCipher {
 }
 
 impl ConnectionCipher {
-    /// The value with this number, or `None` where the table has no such number.
+    /// The value with this number, or `None` if the table has no such number.
     #[tactic(auto, using(crate::proofs::Numbers::same_connection_cipher))]
     pub fn from_u32(number: u32) -> Option<Self>
         ensures { ReadsNumber connection_cipher_number number result }
@@ -128,7 +128,7 @@ pub enum ConnectionHash {
 }
 
 impl ConnectionHash {
-    /// The value with this number, or `None` where the table has no such number.
+    /// The value with this number, or `None` if the table has no such number.
     #[tactic(auto, using(crate::proofs::Numbers::same_connection_hash))]
     pub fn from_u32(number: u32) -> Option<Self>
         ensures { ReadsNumber connection_hash_number number result }
@@ -158,7 +158,7 @@ pub enum ConnectionKeyExchange {
 }
 
 impl ConnectionKeyExchange {
-    /// The value with this number, or `None` where the table has no such number.
+    /// The value with this number, or `None` if the table has no such number.
     #[tactic(auto, using(crate::proofs::Numbers::same_connection_key_exchange))]
     pub fn from_u32(number: u32) -> Option<Self>
         ensures { ReadsNumber connection_key_exchange_number number result }

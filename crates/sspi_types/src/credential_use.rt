@@ -18,7 +18,7 @@ pub enum CredentialUse {
 }
 
 impl CredentialUse {
-    /// The value with this number, or `None` where the table has no such number.
+    /// The value with this number, or `None` if the table has no such number.
     #[tactic(auto, using(crate::proofs::Numbers::same_credential_use))]
     pub fn from_u32(number: u32) -> Option<Self>
         ensures { ReadsNumber credential_use_number number result }

@@ -14,7 +14,7 @@ pub enum DataRepresentation {
 }
 
 impl DataRepresentation {
-    /// The value with this number, or `None` where the table has no such number.
+    /// The value with this number, or `None` if the table has no such number.
     #[tactic(auto, using(crate::proofs::Numbers::same_data_representation))]
     pub fn from_u32(number: u32) -> Option<Self>
         ensures { ReadsNumber data_representation_number number result }

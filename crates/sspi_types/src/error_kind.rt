@@ -163,7 +163,7 @@ pub enum ErrorKind {
 }
 
 impl ErrorKind {
-    /// The value with this number, or `None` where the table has no such number.
+    /// The value with this number, or `None` if the table has no such number.
     #[tactic(auto, using(crate::proofs::Numbers::same_error_kind))]
     pub fn from_u32(number: u32) -> Option<Self>
         ensures { ReadsNumber error_kind_number number result }

@@ -53,7 +53,7 @@ pub fn numbers_are_distinct()
     // Of statuses.
     ensures error_kind { AreDistinct error_kind_number }
     ensures security_status { AreDistinct security_status_number }
-    // Of what is handed in.
+    // Of arguments.
     ensures buffer_type { AreDistinct buffer_type_number }
     ensures data_representation { AreDistinct data_representation_number }
     ensures credential_use { AreDistinct credential_use_number }
@@ -76,7 +76,7 @@ pub fn values_are_read_back()
     // Of statuses.
     ensures error_kind { AreReadBack error_kind_number }
     ensures security_status { AreReadBack security_status_number }
-    // Of what is handed in.
+    // Of arguments.
     ensures buffer_type { AreReadBack buffer_type_number }
     ensures data_representation { AreReadBack data_representation_number }
     ensures credential_use { AreReadBack credential_use_number }
@@ -100,7 +100,7 @@ pub fn equality_is_of_numbers()
     ensures error_kind { ComparesNumbers ⟦<ErrorKind as PartialEq>⟧.eq error_kind_number }
     ensures security_status { ComparesNumbers ⟦<SecurityStatus as PartialEq>⟧.eq
         security_status_number }
-    // Of what is handed in.
+    // Of arguments.
     ensures buffer_type { ComparesNumbers ⟦<BufferType as PartialEq>⟧.eq buffer_type_number }
     ensures data_representation { ComparesNumbers ⟦<DataRepresentation as PartialEq>⟧.eq
         data_representation_number }

@@ -29,7 +29,7 @@ pub enum SecurityStatus {
 }
 
 impl SecurityStatus {
-    /// The value with this number, or `None` where the table has no such number.
+    /// The value with this number, or `None` if the table has no such number.
     #[tactic(auto, using(crate::proofs::Numbers::same_security_status))]
     pub fn from_u32(number: u32) -> Option<Self>
         ensures { ReadsNumber security_status_number number result }
