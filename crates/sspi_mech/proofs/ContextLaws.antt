@@ -5,7 +5,7 @@ use Rattle.sspi_mech.specs.Context.{IsContext, NeitherSealsNorOpens}
 use Rattle.sspi_mech.specs.Laws.{IsMechanism}
 use Rattle.sspi_mech.specs.Meaning.{Meaning}
 
--- what keeps its counts seals and opens nothing
+-- a call that keeps the counts neither seals nor opens
 pub silent_by : (n k : Counts) → k ≡ n → NeitherSealsNorOpens n k
 silent_by n k same = inl (ap (λ (i : Counts). i.sealings) same, ap (λ (i : Counts). i.unsealings) same)
 

@@ -1,4 +1,4 @@
--- What an end of plain Kerberos or its KDC writes is read.
+-- What an end of plain Kerberos or its KDC writes can be read.
 use Rattle.std.proofs.Common.{◌≡◌, ℕ, ◌<◌, ◌^◌, List, length, Some, Ok, refl}
 use Rattle.std.proofs.lemmas.Str.{is_utf8-from_IsUtf8}
 use Rattle.sspi_names.specs.Name.{Name, IsName, inner_of}

@@ -9,7 +9,7 @@ use Rattle.sspi_mech.specs.KerberosStage.{KerberosState, own_direction, peer_dir
 use Rattle.sspi_mech.specs.Protection.{SealsBy, SignsBy}
 use Rattle.sspi_mech.proofs.Opened as opened
 
--- of what opens, the text is all that stands behind the tag
+-- of what opens, the text is all that follows the tag
 pub opened_is_body : (m : KerberosState) (n : ℕ) (blob text : List ℕ) → kerberos_meaning.opens m n blob text → text ≡ drop 16 blob
 opened_is_body m n blob text opens = opened.opened_is_body m.protection.key (peer_direction m.stage) n blob text opens
 
@@ -27,7 +27,7 @@ signed_verifies m p n text mic peer signed =
     (subst (λ (d : Direction). SignsBy p.protection.key d n text mic) peer.direction
     (subst (λ (k : Option (List ℕ)). SignsBy k (own_direction m.stage) n text mic) peer.key signed))
 
--- what opens at the number that is next is not refused, but at the last number
+-- what opens at the next number is not refused, except at the last number
 pub opened_is_taken : (m : KerberosState) (blob text : List ℕ) →
     kerberos_meaning.opens m m.protection.unsealings blob text → m.protection.unsealings < 2 ^ 64 - 1 →
     kerberos_meaning.permits m (ToUnseal blob)
@@ -40,7 +40,7 @@ pub verified_is_taken : (m : KerberosState) (mic text : List ℕ) →
 verified_is_taken m mic text verified below =
     opened.verified_is_taken m.protection.key (peer_direction m.stage) m.protection.verifications mic text verified below
 
--- a call that is permitted is refused with no kind, and a refused one with one kind
+-- no call is both permitted and refused
 pub one_refusal : (m : KerberosState) (call : Call) (kind : ErrorKind) →
     kerberos_meaning.permits m call → kerberos_meaning.refuses m call kind → ⊥
 one_refusal m call kind permitted refused = let never : None ≡ Some kind = sym permitted ∙ refused in cc

@@ -1,4 +1,4 @@
--- What is written is read again.
+-- Messages that are written can be read back.
 use Rattle.std.proofs.Common.{◌≡◌, ℕ, ◌+◌, ◌*◌, ◌/◌, ◌%◌, ◌<◌, ◌^◌, List, ◌++◌, length, Some, arith, length-append, eq-eqb}
 use Rattle.std.proofs.Math.Seq.{take-append_seam, drop-append_seam}
 use Rattle.sspi_mech.specs.Named.{named_at, named_in, u16_le}
@@ -13,7 +13,7 @@ joined name body long =
     let whole : length (name ++ body) ≡ length name + 32 = omega (arith, length-append name body) in
     rw (eq-eqb _ _ whole, take-append_seam name body, drop-append_seam name body)
 
--- of a name and 32 bytes, behind the two letters
+-- a name and 32 bytes, after the two letters
 pub named_is_read : (name body : List ℕ) → length name < 2 ^ 16 → length body ≡ 32 →
     named_in (Some (u16_le (length name) ++ name ++ body)) ≡ Some (record { name = name; body = body })
 named_is_read name body short long =

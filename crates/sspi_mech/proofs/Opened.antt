@@ -9,7 +9,7 @@ use Rattle.sspi_mech.specs.declared.protection.Direction.{Direction}
 use Rattle.sspi_mech.specs.Protection.{seal_tag, mic_of, SealsBy, OpensBy, SignsBy, VerifiesBy, unseal_refusal, verify_refusal}
 use Rattle.sspi_mech.specs.Tags.{length-seal_tag, long_blob}
 
--- of what opens, the text is all that stands behind the tag
+-- of what opens, the text is all that follows the tag
 pub opened_is_body : (key : Option (List ℕ)) (direction : Direction) (n : ℕ) (blob text : List ℕ) → OpensBy key direction n blob text →
     text ≡ drop 16 blob
 opened_is_body None direction n blob text opened = absurd opened

@@ -9,7 +9,7 @@ use Rattle.sspi_mech.specs.NtlmStage.{NtlmState, own_direction, peer_direction}
 use Rattle.sspi_mech.specs.Protection.{SealsBy, SignsBy}
 use Rattle.sspi_mech.proofs.Opened as opened
 
--- of what opens, the text is all that stands behind the tag
+-- of what opens, the text is all that follows the tag
 pub opened_is_body : (m : NtlmState) (n : ℕ) (blob text : List ℕ) → ntlm_meaning.opens m n blob text → text ≡ drop 16 blob
 opened_is_body m n blob text opens = opened.opened_is_body m.protection.key (peer_direction m.stage) n blob text opens
 
@@ -27,7 +27,7 @@ signed_verifies m p n text mic peer signed =
     (subst (λ (d : Direction). SignsBy p.protection.key d n text mic) peer.direction
     (subst (λ (k : Option (List ℕ)). SignsBy k (own_direction m.stage) n text mic) peer.key signed))
 
--- what opens at the number that is next is not refused, but at the last number
+-- what opens at the next number is not refused, except at the last number
 pub opened_is_taken : (m : NtlmState) (blob text : List ℕ) →
     ntlm_meaning.opens m m.protection.unsealings blob text → m.protection.unsealings < 2 ^ 64 - 1 → ntlm_meaning.permits m (ToUnseal blob)
 opened_is_taken m blob text opens below =
@@ -39,6 +39,6 @@ pub verified_is_taken : (m : NtlmState) (mic text : List ℕ) →
 verified_is_taken m mic text verified below =
     opened.verified_is_taken m.protection.key (peer_direction m.stage) m.protection.verifications mic text verified below
 
--- a call that is permitted is refused with no kind, and a refused one with one kind
+-- no call is both permitted and refused
 pub one_refusal : (m : NtlmState) (call : Call) (kind : ErrorKind) → ntlm_meaning.permits m call → ntlm_meaning.refuses m call kind → ⊥
 one_refusal m call kind permitted refused = let never : None ≡ Some kind = sym permitted ∙ refused in cc

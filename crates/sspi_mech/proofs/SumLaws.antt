@@ -1,4 +1,4 @@
--- What holds of two meanings holds of their sum; what holds of one holds of what is handed some identities, and of what is seen as it.
+-- Laws of two meanings hold for their sum; laws of one hold for `taking` and `seen` of it.
 use Rattle.std.proofs.Common.{◌≡◌, ◌⊎◌, ℕ, ◌<◌, ◌≤◌, List, length, true, false, ap, ◌∙◌, inl, inr}
 use Rattle.sspi_names.specs.declared.credentials.Credentials.{Credentials}
 use Rattle.sspi_mech.specs.declared.step.Answer.TheVariants.{Done, Ask}

@@ -1,4 +1,4 @@
--- Where plain Kerberos stands behind a reply of the KDC.
+-- To which stage a Kerberos client advances that has its name.
 use Rattle.sspi_mech.specs.declared.kerberos.stage.Stage.{Stage}
 use Rattle.sspi_mech.specs.declared.kerberos.stage.Stage.TheVariants.{Unused, PairingAsked}
 use Rattle.sspi_mech.specs.declared.kerberos.stage.Stage.TheVariants.{TicketAsked, LogonAsked}
@@ -6,7 +6,7 @@ use Rattle.sspi_mech.specs.declared.kerberos.stage.Stage.TheVariants.{SessionAsk
 use Rattle.sspi_mech.specs.declared.kerberos.stage.Stage.TheVariants.{SessionSent, Ended}
 use Rattle.sspi_mech.specs.declared.kerberos.stage.Stage.TheVariants.{TicketSent, Accepted}
 
--- the next stage of a client under its name
+-- the next stage of a client that has its name; every other stage stays
 abbrev pub advanced : Stage → Stage
 advanced Unused = Unused
 advanced PairingAsked = PairingAsked

@@ -69,7 +69,7 @@ pub record IsUnused (n : Counts) : Type 0 where
   pub sealings : n.sealings ≡ 0
   pub unsealings : n.unsealings ≡ 0
 
--- a call that is no step, with what it is given
+-- a call that is not a step, with its arguments
 pub data Call : Type 0 where
   ToAcquire : CredentialUse → Option Credentials → Call
   ToName : Call

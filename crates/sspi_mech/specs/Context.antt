@@ -1,4 +1,4 @@
--- What holds of every security context: of a mechanism, and of what chooses among mechanisms.
+-- What holds for every security context: a mechanism, or what chooses among mechanisms.
 use Rattle.std.specs.Prelude.{◌≡◌, ◌⊎◌, ℕ, ◌<◌, ◌≤◌, List, length, Option, Result, true, false}
 use Rattle.sspi_types.specs.declared.credential_use.CredentialUse.{CredentialUse}
 use Rattle.sspi_types.specs.declared.error.Error.{Error}
@@ -12,15 +12,15 @@ use Rattle.sspi_mech.specs.declared.step.Step.{Step}
 use Rattle.sspi_mech.specs.Calls.{StepArgs, AcceptArgs, Counts, no_counts, IsUnused}
 use Rattle.sspi_mech.specs.Meaning.{Meaning}
 
--- The counts after a call that neither seals nor opens: of both as many as before, or none, where
--- another mechanism has taken the place of the first.
+-- The counts after a call that neither seals nor opens: both as before, or both zero if another
+-- mechanism has taken the place of the first.
 abbrev pub NeitherSealsNorOpens : Counts → Counts → Type 0
 NeitherSealsNorOpens before after =
     ((after.sealings ≡ before.sealings) × (after.unsealings ≡ before.unsealings)) ⊎ IsUnused after
 
--- What holds of every context, also of one that chooses among mechanisms: there a refused step may
--- move the context, a step may sign and check MICs, and another mechanism may take the place of the
--- first, also where credentials are acquired. What none of these does is seal or open.
+-- What holds for every context, including one that chooses among mechanisms. There a refused step
+-- may change the context, and a step may sign and check MICs. Another mechanism may take the place
+-- of the first, even when credentials are acquired. None of these seals or opens.
 pub record IsContext {S C : Type 0} (c : Meaning S C) : Type 0 where
   pub made_fresh : (s : S) (m : C) → c.made s m → c.counts m ≡ no_counts
   pub acquire_silent : (m m2 : C) (u : CredentialUse) (d : Option Credentials)
@@ -34,7 +34,7 @@ pub record IsContext {S C : Type 0} (c : Meaning S C) : Type 0 where
       NeitherSealsNorOpens (c.counts m) (c.counts m2)
   pub accept_silent : (m m2 : C) (a : AcceptArgs) (r : Result Step Error) →
       c.accepts m a r m2 → NeitherSealsNorOpens (c.counts m) (c.counts m2)
-  -- each further question to a KDC is one fewer to come; a client that asked waits, and one whose
+  -- each further request to a KDC leaves fewer to make; a client that asked waits, and one whose
   -- step is done does not
   pub resume_asks : (m m2 : C) (b : Reply) (q : NetworkRequest) → c.resumes m b (Ask q) m2 →
       c.left m2 < c.left m
@@ -46,7 +46,7 @@ pub record IsContext {S C : Type 0} (c : Meaning S C) : Type 0 where
       c.waits m2 ≡ false
   pub resume_done : (m m2 : C) (b : Reply) (s : Step) → c.resumes m b (Done s) m2 →
       c.waits m2 ≡ false
-  -- a context is its counts and what does not depend on them
+  -- a context consists of its counts and a part that does not depend on them
   pub counts_counted : (m : C) (n : Counts) → c.counts (c.counted m n) ≡ n
   pub counted_counted : (m : C) (n k : Counts) → c.counted (c.counted m n) k ≡ c.counted m k
   pub counted_counts : (m : C) → c.counted m (c.counts m) ≡ m

@@ -46,14 +46,14 @@ kerberos_with url kdcs ticket =
       protection = no_protection;
     }
 
--- a made object: what its configuration has, and nothing where that is one of NTLM
+-- a new object: what its configuration has, or nothing if that is one of NTLM
 abbrev pub kerberos_of : Setting → KerberosState
 kerberos_of (OfNtlm config) = kerberos_with None [] None
 kerberos_of (OfKerberos config) = kerberos_with config.kdc_url config.kdcs None
 kerberos_of (OfKerberosServer config server) =
     kerberos_with config.kdc_url config.kdcs server.ticket
 
--- the credentials serve, and the object stays as it is
+-- the credentials are taken, and the object stays as it is
 abbrev pub KerberosAcquires : KerberosState → CredentialUse → Option Credentials →
     Option CredentialsBuffers → KerberosState → Type 0
 KerberosAcquires m use_of auth_data given m2 = (acquired use_of auth_data ≡ Ok given) × (m2 ≡ m)

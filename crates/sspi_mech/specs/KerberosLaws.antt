@@ -38,7 +38,7 @@ use Rattle.sspi_mech.specs.Protection.{counts_of}
 use Rattle.sspi_mech.specs.Settings.{Setting, OfNtlm, OfKerberos, OfKerberosServer}
 use Rattle.sspi_mech.specs.Tags.{one_text, long_blob}
 
--- what an outcome keeps of the object that it is of, which may ask a KDC n times
+-- what an outcome keeps of its object, which may ask a KDC n times
 abbrev pub Keeps : ℕ → KerberosState → Outcome → Type 0
 Keeps n m (Goes m2 s) = (left_at m2.stage ≤ n) × (waits_at m2.stage ≡ false) ×
     (counts_of m2.protection ≡ counts_of m.protection)
@@ -145,7 +145,7 @@ server_keeps (Ended name) m input = tt
 server_keeps TicketSent m input = admits_keeps 0 m true (arrival_of input)
 server_keeps (Accepted peer) m input = tt
 
--- ---- of an answer
+-- ---- answers
 
 module _ (o : Outcome) (m m2 : KerberosState) (keeps : Keeps (left_at m.stage) m o) where
   done_keeps : (s : Step) → Answers o m (Done s) m2 → Keeps (left_at m.stage) m (Goes m2 s)

@@ -24,7 +24,7 @@ use Rattle.sspi_names.specs.declared.network.NetworkRequest.{NetworkRequest}
 use Rattle.sspi_mech.specs.declared.kerberos.logon.Logon.{Logon}
 use Rattle.sspi_mech.specs.declared.kerberos.realms.Realms.{Realms}
 
--- all credentials serve, a keytab too; those for a client must be there
+-- all credentials are taken, even a keytab; outbound use requires some
 abbrev pub acquired : CredentialUse → Option Credentials →
     Result (Option CredentialsBuffers) ErrorKind
 acquired use_of (Some credentials) = Ok (Some (credentials_buffers_of credentials))
@@ -50,7 +50,7 @@ abbrev pub url_in : List KdcEntry → Option (List ℕ) → Option (List ℕ)
 url_in kdcs None = None
 url_in kdcs (Some realm) = url_of kdcs realm
 
--- the one URL of the configuration, else that of the realm which is the domain of the name
+-- the one URL of the configuration, or else that of the realm that is the name's domain
 abbrev pub url_by : Option (List ℕ) → List KdcEntry → Name → Option (List ℕ)
 url_by None kdcs name = url_in kdcs (domain_of name)
 url_by (Some url) kdcs name = Some url
@@ -62,7 +62,7 @@ url_or (Some url) = Ok url
 abbrev pub kdc_of : Realms → Name → Result (List ℕ) ErrorKind
 kdc_of realms name = url_or (url_by realms.kdc_url realms.kdcs name)
 
--- ---- the client with its KDC: the KDC is looked for before the name is measured
+-- ---- the client with its KDC: the KDC is looked up before the name is measured
 
 -- a name that a message can carry
 abbrev pub short_name : Name → Option Name
@@ -83,8 +83,8 @@ logon_as realms (Err kind) = Err kind
 abbrev pub logon_of : Realms → Option CredentialsBuffers → Result Logon ErrorKind
 logon_of realms handle = logon_as realms (name_in handle)
 
--- what is found out of a name once it was copied out of the credentials: that it has no KDC, or is
--- too long
+-- what is found about a name only after it is copied from the credentials: it has no KDC, or is too
+-- long
 abbrev pub IsLate : ErrorKind → Type 0
 IsLate kind = (kind ≡ NoAuthenticatingAuthority) ⊎ (kind ≡ InternalError)
 

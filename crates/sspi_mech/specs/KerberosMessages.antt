@@ -1,5 +1,5 @@
--- The messages of plain Kerberos. They are this project's own, after the roles of RFC 4120 (AS, TGS
--- and AP exchanges) and of user-to-user authentication, where a server sends its ticket before.
+-- The messages of plain Kerberos. They are this project's own, modeled on the AS, TGS and AP
+-- exchanges of RFC 4120. In user-to-user authentication, a server first sends its ticket.
 use Rattle.std.specs.Prelude.{ℕ, Bool, List, [], ◌∷◌, ◌++◌, codes, Option}
 use Rattle.std.specs.Str.{bytes_eq}
 use Rattle.sha2.specs.Sha256.{sha256}
@@ -9,7 +9,7 @@ use Rattle.sspi_mech.specs.Named.{Named, read_block, named_message, read_named}
 unfoldable pub reply_proof : List ℕ → List ℕ
 reply_proof key = sha256 ((codes "plain kerberos reply" ++ 0 ∷ []) ++ key)
 
--- ---- between client and server: the ticket is asked for and sent, then the session key is sent and shown to be there
+-- ---- client and server: the ticket is asked for and sent, then the session key is sent and shown
 
 abbrev pub ticket_request : List ℕ
 ticket_request = codes "K1"

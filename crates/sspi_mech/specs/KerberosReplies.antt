@@ -17,8 +17,8 @@ kind_of_code code =
     else if code == 5 then kinds.LogonDenied
     else kinds.InvalidToken
 
--- an error has a code and nothing else; all that is neither an error nor the reply that was asked
--- for is malformed
+-- an error has a code and nothing else; anything that is neither an error nor the reply that was
+-- asked for is malformed
 abbrev pub kind_in : Option (List ℕ) → ErrorKind
 kind_in None = kinds.InvalidToken
 kind_in (Some []) = kinds.InvalidToken
@@ -35,7 +35,7 @@ granted letters (Answered reply) = granted_or (read_block letters reply)
     (kind_in (after_letters (codes "KE") reply))
 granted letters Failed = Err kinds.NoAuthenticatingAuthority
 
--- the key that a KDC gives a name, and the one that it gives for that and a ticket
+-- the key that a KDC gives for a name, and the one that it gives for that key and a ticket
 abbrev pub first_key_in : Reply → Result (List ℕ) ErrorKind
 first_key_in reply = granted (codes "KB") reply
 

@@ -1,4 +1,4 @@
--- How far a Kerberos object came.
+-- How far a Kerberos object has come.
 use Rattle.std.specs.Prelude.{ℕ, Bool, true, false, List, Option, None, Some}
 use Rattle.sspi_names.specs.Name.{Name}
 use Rattle.sspi_mech.specs.declared.kerberos.realms.Realms.{Realms}
@@ -12,14 +12,14 @@ use Rattle.sspi_mech.specs.declared.protection.Direction.{Direction}
 use Rattle.sspi_mech.specs.declared.protection.Direction.TheVariants.{FromClient, FromServer}
 use Rattle.sspi_mech.specs.declared.protection.Protection.{Protection}
 
--- an object: its KDCs and the ticket of its configuration, how far it came, its key and its counts
+-- an object: its KDCs and its configuration's ticket, how far it has come, its key and its counts
 pub record KerberosState : Type 0 where
   pub realms : Realms
   pub ticket : Option (List ℕ)
   pub stage : Stage
   pub protection : Protection
 
--- the server that took a session key is the one end, every other that has a key is the client
+-- an object that took a session key is the server; any other that has a key is the client
 abbrev pub own_direction : Stage → Direction
 own_direction Unused = FromClient
 own_direction PairingAsked = FromClient
@@ -42,7 +42,7 @@ peer_direction (Ended name) = FromServer
 peer_direction TicketSent = FromServer
 peer_direction (Accepted peer) = FromClient
 
--- the name of the client: it knows it as its own once it sent it, and the server once it took it
+-- the name of the client: a client has it once it sent it, and a server once it took it
 abbrev pub name_at : Stage → Option Name
 name_at Unused = None
 name_at PairingAsked = None
@@ -66,7 +66,7 @@ waits_at (Ended name) = false
 waits_at TicketSent = false
 waits_at (Accepted peer) = false
 
--- how many requests to a KDC are still to come
+-- how many requests to a KDC may still be made
 abbrev pub left_at : Stage → ℕ
 left_at Unused = 2
 left_at PairingAsked = 1
@@ -78,7 +78,7 @@ left_at (Ended name) = 0
 left_at TicketSent = 0
 left_at (Accepted peer) = 0
 
--- whether it is a server that sent its ticket, now or before
+-- whether it is a server that has sent its ticket
 abbrev pub pairs_at : Stage → Bool
 pairs_at Unused = false
 pairs_at PairingAsked = false

@@ -55,7 +55,7 @@ keyed_with m key stage = record m {
 abbrev pub wants_pairing : ClientRequestFlags → Bool
 wants_pairing flags = bit_and flags.0 0x20 == 0x20
 
--- the KDC is asked for a first key of the name
+-- the KDC is asked for a first key for the name
 abbrev pub begins : KerberosState → Bool → Result Logon ErrorKind → Outcome
 begins m true (Ok logon) = Asks (record m { stage = PairingAsked })
     (request_at logon.url (as_request (inner_of logon.name)))
@@ -74,7 +74,7 @@ abbrev pub takes_ticket : KerberosState → List ℕ → Option (List ℕ) → O
 takes_ticket m key None handle = Stops InvalidToken
 takes_ticket m key (Some ticket) handle = asks_by m key ticket (logon_of m.realms handle)
 
--- whether the server showed that it has the session key, and why not
+-- whether the server showed that it has the session key, and if not, why
 abbrev pub proof_by : List ℕ → Option (List ℕ) → Result (Unit {0}) ErrorKind
 proof_by key None = Err InvalidToken
 proof_by key (Some proof) = if bytes_eq proof (reply_proof key) then Ok tt else Err MutualAuthFailed
@@ -158,7 +158,7 @@ admits m paired (Ok arrival) =
     (record { status = status.Ok; output = ap_reply arrival.key })
 admits m paired (Err kind) = Stops kind
 
--- without a ticket, to ask for it is malformed
+-- without a ticket, a request for it is malformed
 abbrev pub sends_ticket : KerberosState → Option (List ℕ) → Outcome
 sends_ticket m None = Stops InvalidToken
 sends_ticket m (Some ticket) =
@@ -182,8 +182,8 @@ server_step (Accepted peer) m input = Stops OutOfSequence
 
 -- ---- what a call that makes a step answers
 
--- What a step finds out once it copied a name out of the credentials, for which memory may be
--- wanting first. No other step copies one.
+-- What a step finds out only after copying a name from the credentials, where memory may run out.
+-- No other step copies one.
 abbrev pub IsFoundLate : Stage → ErrorKind → Type 0
 IsFoundLate Unused kind = IsLate kind
 IsFoundLate PairingAsked kind = ⊥
@@ -195,13 +195,13 @@ IsFoundLate (Ended name) kind = ⊥
 IsFoundLate TicketSent kind = ⊥
 IsFoundLate (Accepted peer) kind = ⊥
 
--- where memory may be wanting: the step would be made, a KDC asked, or a refusal be found late
+-- where memory may run out: the step would be made, a KDC asked, or a refusal found late
 abbrev pub MayWant : Stage → Outcome → Type 0
 MayWant stage (Goes m step) = Unit {0}
 MayWant stage (Asks m request) = Unit {0}
 MayWant stage (Stops kind) = IsFoundLate stage kind
 
--- the refusal that there is; out of memory comes only where it may
+-- the refusal of the outcome; out of memory only where `MayWant` allows it
 abbrev pub Stopped : Outcome → KerberosState → Error → KerberosState → Type 0
 Stopped outcome m error m2 =
     (error.error_type ≢ InsufficientMemory → outcome ≡ Stops error.error_type)

@@ -12,7 +12,7 @@ use Rattle.sspi_mech.specs.declared.step.Step.{Step}
 use Rattle.sspi_mech.specs.Calls.{StepArgs, AcceptArgs, Counts, no_counts}
 use Rattle.sspi_mech.specs.Meaning.{Meaning}
 
--- What holds of every mechanism, whoever writes it.
+-- What holds for every mechanism, whoever wrote it.
 pub record IsMechanism {S M : Type 0} (requests : ℕ) (it : Meaning S M) : Type 0 where
   -- a made object has protected nothing, and asks a KDC at most `requests` times
   pub made_fresh : (s : S) (m : M) → it.made s m → it.counts m ≡ no_counts
@@ -21,7 +21,7 @@ pub record IsMechanism {S M : Type 0} (requests : ℕ) (it : Meaning S M) : Type
   pub step_refused : (m m2 : M) (a : StepArgs) (e : Error) → it.steps m a (Refused e) m2 → m2 ≡ m
   pub resume_refused : (m m2 : M) (b : Reply) (e : Error) → it.resumes m b (Refused e) m2 → m2 ≡ m
   pub accept_refused : (m m2 : M) (a : AcceptArgs) (e : Error) → it.accepts m a (Err e) m2 → m2 ≡ m
-  -- each question to a KDC is one fewer to come, and no call has more of them come
+  -- each request to a KDC leaves fewer to make, and no call leaves more
   pub acquire_left : (m m2 : M) (u : CredentialUse) (d : Option Credentials)
       (b : Option CredentialsBuffers) →
       it.acquires m u d b m2 → it.left m2 ≤ it.left m
@@ -37,7 +37,7 @@ pub record IsMechanism {S M : Type 0} (requests : ℕ) (it : Meaning S M) : Type
       it.left m2 < it.left m
   pub resume_asks : (m m2 : M) (b : Reply) (q : NetworkRequest) → it.resumes m b (Ask q) m2 →
       it.left m2 < it.left m
-  -- an object that asked waits; done, it does not
+  -- an object that asked waits; one whose step is done does not
   pub step_waits : (m m2 : M) (a : StepArgs) (q : NetworkRequest) → it.steps m a (Ask q) m2 →
       it.waits m2 ≡ true
   pub resume_waits : (m m2 : M) (b : Reply) (q : NetworkRequest) → it.resumes m b (Ask q) m2 →
@@ -48,7 +48,7 @@ pub record IsMechanism {S M : Type 0} (requests : ℕ) (it : Meaning S M) : Type
       it.waits m2 ≡ false
   pub accept_done : (m m2 : M) (a : AcceptArgs) (s : Step) → it.accepts m a (Ok s) m2 →
       it.waits m2 ≡ false
-  -- no call but those that protect and check messages changes a count
+  -- only calls that protect or check messages change a count
   pub acquire_counts : (m m2 : M) (u : CredentialUse) (d : Option Credentials)
       (b : Option CredentialsBuffers) →
       it.acquires m u d b m2 → it.counts m2 ≡ it.counts m
@@ -60,7 +60,7 @@ pub record IsMechanism {S M : Type 0} (requests : ℕ) (it : Meaning S M) : Type
       it.counts m2 ≡ it.counts m
   pub identify_counts : (m m2 : M) (ids : List Credentials) → it.identifies m ids m2 →
       it.counts m2 ≡ it.counts m
-  -- an object is its counts and what does not depend on them
+  -- an object consists of its counts and a part that does not depend on them
   pub counts_counted : (m : M) (n : Counts) → it.counts (it.counted m n) ≡ n
   pub counted_counted : (m : M) (n k : Counts) → it.counted (it.counted m n) k ≡ it.counted m k
   pub counted_counts : (m : M) → it.counted m (it.counts m) ≡ m

@@ -1,5 +1,5 @@
--- What may have befallen an object of a mechanism since it was made, in any order of its calls, and
--- how many questions to a KDC came of it. Calls that leave the object as it was have no line.
+-- What a mechanism's object may have done since it was made, by calls in any order, and how often
+-- it has asked a KDC. Calls that leave the object as it was have no case.
 use Rattle.std.specs.Prelude.{ℕ, ◌+◌, List, Option, Result}
 use Rattle.sspi_types.specs.declared.credential_use.CredentialUse.{CredentialUse}
 use Rattle.sspi_types.specs.declared.error.Error.{Error}

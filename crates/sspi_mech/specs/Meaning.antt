@@ -13,10 +13,10 @@ use Rattle.sspi_mech.specs.declared.step.Reply.{Reply}
 use Rattle.sspi_mech.specs.declared.step.Step.{Step}
 use Rattle.sspi_mech.specs.Calls.{StepArgs, AcceptArgs, Counts, Call}
 
--- What a security context C means, which is made of an S: a mechanism, or what chooses among
+-- The meaning of a security context C that is made from an S: a mechanism, or what chooses among
 -- mechanisms. A relation between two states takes the state before and the state after.
 pub record Meaning (S C : Type 0) : Type 1 where
-  -- what making answers: the context, or the kind of a refusal other than out of memory
+  -- what making one answers: the context, or the kind of a refusal other than out of memory
   pub made : S → C → Type 0
   pub unmade : S → ErrorKind → Type 0
   -- the credentials that were asked for and the buffers that were given
@@ -25,9 +25,9 @@ pub record Meaning (S C : Type 0) : Type 1 where
   pub steps : C → StepArgs → Answer → C → Type 0
   pub resumes : C → Reply → Answer → C → Type 0
   pub accepts : C → AcceptArgs → Result Step Error → C → Type 0
-  -- taking one of the identities that the peer may be
+  -- taking the identities that the peer may have
   pub identifies : C → List Credentials → C → Type 0
-  -- the name of the peer on a server, the own one on a client
+  -- the name of the peer on a server, its own on a client
   pub names : C → Option Username
   -- whether messages can be protected; the session key
   pub keyed : C → Bool
@@ -45,9 +45,8 @@ pub record Meaning (S C : Type 0) : Type 1 where
   pub opens : C → ℕ → List ℕ → List ℕ → Type 0
   pub signs : C → ℕ → List ℕ → List ℕ → Type 0
   pub verifies : C → ℕ → List ℕ → List ℕ → Type 0
-  -- what holds where completing or a call on a message answers Ok, beside what is said of its
-  -- answer, and where opening a blob or taking identities is out of memory; the kinds with which a
-  -- call may refuse, other than out of memory
+  -- what else holds if completing or a call on a message answers Ok, or if opening a blob or taking
+  -- identities is out of memory; the kinds with which a call may refuse, other than out of memory
   pub permits : C → Call → Type 0
   pub refuses : C → Call → ErrorKind → Type 0
   -- the entry of the package, and the sizes that its users must know

@@ -3,17 +3,17 @@ use Rattle.std.specs.Prelude.{ℕ, ◌+◌, ◌*◌, ◌/◌, ◌%◌, ◌==◌,
 use Rattle.std.specs.Prelude.{Option, None, Some, if◌then◌else◌}
 use Rattle.std.specs.Str.{bytes_eq}
 
--- what follows two letters, or none where the message begins otherwise
+-- what follows two letters, or none if the message begins otherwise
 abbrev pub after_letters : List ℕ → List ℕ → Option (List ℕ)
 after_letters letters message = if bytes_eq (take 2 message) letters then Some (drop 2 message)
     else None
 
--- 32 bytes and no more
+-- exactly 32 bytes
 abbrev pub block_in : Option (List ℕ) → Option (List ℕ)
 block_in None = None
 block_in (Some body) = if length body == 32 then Some body else None
 
--- the 32 bytes that are all that follows the letters
+-- the 32 bytes after the letters, if nothing else follows them
 abbrev pub read_block : List ℕ → List ℕ → Option (List ℕ)
 read_block letters message = block_in (after_letters letters message)
 
@@ -21,7 +21,7 @@ read_block letters message = block_in (after_letters letters message)
 abbrev pub u16_le : ℕ → List ℕ
 u16_le n = (n % 256) ∷ (n / 256) ∷ []
 
--- a name, its length before it, and 32 bytes
+-- two letters, the length of a name, the name, and 32 bytes
 abbrev pub named_message : List ℕ → List ℕ → List ℕ → List ℕ
 named_message letters name body = letters ++ u16_le (length name) ++ name ++ body
 

@@ -33,8 +33,7 @@ use Rattle.sspi_mech.specs.Settings.{Setting, OfNtlm, OfKerberos, OfKerberosServ
 abbrev pub ntlm_with : List ℕ → NtlmState
 ntlm_with challenge = record { challenge = challenge; stage = Unused; protection = no_protection }
 
--- a made object: the challenge is that of its configuration, and zeros where that is one of
--- Kerberos
+-- a new object: its challenge is that of its configuration, or zeros if that is one of Kerberos
 abbrev pub ntlm_of : NtlmConfig → NtlmState
 ntlm_of config = ntlm_with config.challenge
 
@@ -43,7 +42,7 @@ NtlmMade (OfNtlm config) m = m ≡ ntlm_of config
 NtlmMade (OfKerberos config) m = m ≡ ntlm_with (replicate 8 0)
 NtlmMade (OfKerberosServer config server) m = m ≡ ntlm_with (replicate 8 0)
 
--- the credentials serve, and the object stays as it is
+-- the credentials are taken, and the object stays as it is
 abbrev pub NtlmAcquires : NtlmState → CredentialUse → Option Credentials →
     Option CredentialsBuffers → NtlmState → Type 0
 NtlmAcquires m use_of auth_data given m2 = (acquired use_of auth_data ≡ Ok given) × (m2 ≡ m)
@@ -64,7 +63,7 @@ NtlmResumes m reply (Refused error) m2 = (error.error_type ≡ OutOfSequence) ×
 abbrev pub NtlmAccepts : NtlmState → AcceptArgs → Result Step Error → NtlmState → Type 0
 NtlmAccepts m args answer m2 = Steps (server_step m.stage m args.input) m answer m2
 
--- out of sequence where what is asked for is not there yet
+-- out of sequence if what is asked for is not there yet
 abbrev pub absence : {X : Type 0} → Option X → Option ErrorKind
 absence None = Some OutOfSequence
 absence (Some x) = None

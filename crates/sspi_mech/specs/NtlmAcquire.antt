@@ -1,4 +1,4 @@
--- Which credentials serve plain NTLM, and their buffers.
+-- Which credentials plain NTLM takes, and their buffers.
 use Rattle.std.specs.Prelude.{Option, None, Some, Result, Ok, Err}
 use Rattle.sspi_types.specs.declared.credential_use.CredentialUse.{CredentialUse}
 use Rattle.sspi_types.specs.declared.credential_use.CredentialUse.TheVariants.{Inbound, Outbound}
@@ -11,7 +11,7 @@ use Rattle.sspi_names.specs.declared.credentials.Credentials.{Credentials}
 use Rattle.sspi_names.specs.declared.credentials.Credentials.TheVariants.{AuthIdentity, Keytab}
 use Rattle.sspi_names.specs.declared.credentials.CredentialsBuffers.{CredentialsBuffers}
 
--- a keytab serves nothing, and credentials for a client must be there
+-- a keytab is refused, and outbound use requires credentials
 abbrev pub acquired : CredentialUse → Option Credentials →
     Result (Option CredentialsBuffers) ErrorKind
 acquired use_of (Some (Keytab identity)) = Err UnknownCredentials

@@ -1,4 +1,4 @@
--- Which of the identities that a server is told the client has: the first whose password gives the
+-- Which of the identities given to a server is the client's: the first whose password gives the
 -- client's proof.
 use Rattle.std.specs.Prelude.{ℕ, Bool, true, false, List, find, Option, None, Some, Result, Ok, Err}
 use Rattle.std.specs.Prelude.{if◌then◌else◌}
@@ -39,7 +39,7 @@ claimed_key challenge claim identities =
     if list_any has_password identities
     then key_by challenge claim (find (proves challenge claim) identities) else Err NoCredentials
 
--- the same at each stage: out of sequence but for a server with a claim, which may be told again
+-- the same at each stage: out of sequence except for a server with a claim, even when called again
 abbrev pub key_at : Stage → List ℕ → List Credentials → Result (List ℕ) ErrorKind
 key_at Unused challenge identities = Err OutOfSequence
 key_at NegotiateSent challenge identities = Err OutOfSequence
@@ -51,6 +51,6 @@ abbrev pub with_key : NtlmState → Result (List ℕ) ErrorKind → Result NtlmS
 with_key m (Ok key) = Ok (record m { protection = record m.protection { key = Some key } })
 with_key m (Err kind) = Err kind
 
--- the object once it was told these identities
+-- the object once it is given these identities
 abbrev pub identified : NtlmState → List Credentials → Result NtlmState ErrorKind
 identified m identities = with_key m (key_at m.stage m.challenge identities)

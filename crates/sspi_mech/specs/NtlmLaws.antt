@@ -29,7 +29,7 @@ use Rattle.sspi_mech.specs.Protection.{counts_of}
 use Rattle.sspi_mech.specs.Tags.{one_text, long_blob}
 use Rattle.sspi_mech.specs.Settings.{Setting, OfNtlm, OfKerberos, OfKerberosServer}
 
--- an outcome keeps the counts of the object that it is of
+-- an outcome keeps the counts of its object
 abbrev pub Keeps : NtlmState → Outcome → Type 0
 Keeps m (Goes m2 s) = counts_of m2.protection ≡ counts_of m.protection
 Keeps m (Stops kind) = Unit {0}

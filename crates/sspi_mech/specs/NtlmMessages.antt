@@ -1,12 +1,12 @@
--- The three messages of plain NTLM, its proof and its key. They are this project's own, after the
--- roles of MS-NLMP 1.3.1.1.
+-- The three messages of plain NTLM, its proof and its key. They are this project's own, modeled on
+-- the roles of MS-NLMP 1.3.1.1.
 use Rattle.std.specs.Prelude.{ℕ, ◌==◌, Bool, List, [], ◌∷◌, ◌++◌, length, codes, Option, None, Some}
 use Rattle.std.specs.Prelude.{if◌then◌else◌}
 use Rattle.std.specs.Str.{bytes_eq}
 use Rattle.sha2.specs.Sha256.{sha256}
 use Rattle.sspi_mech.specs.Named.{Named, after_letters, named_message, read_named}
 
--- what shows that the client knows the password, over the challenge and the name as it is sent
+-- what shows that the client knows the password, over the challenge and the name as sent
 unfoldable pub proof_of : List ℕ → List ℕ → List ℕ → List ℕ
 proof_of challenge name password = sha256 ((codes "plain ntlm proof" ++ 0 ∷ []) ++ challenge ++
     name ++ password)

@@ -1,4 +1,4 @@
--- How far an NTLM object came.
+-- How far an NTLM object has come.
 use Rattle.std.specs.Prelude.{ℕ, List, Option, None, Some}
 use Rattle.sspi_names.specs.Name.{Name}
 use Rattle.sspi_mech.specs.declared.ntlm.stage.Stage.{Stage}
@@ -9,13 +9,13 @@ use Rattle.sspi_mech.specs.declared.protection.Direction.{Direction}
 use Rattle.sspi_mech.specs.declared.protection.Direction.TheVariants.{FromClient, FromServer}
 use Rattle.sspi_mech.specs.declared.protection.Protection.{Protection}
 
--- an object: the challenge of its configuration, how far it came, its key and its counts
+-- an object: the challenge of its configuration, how far it has come, its key and its counts
 pub record NtlmState : Type 0 where
   pub challenge : List ℕ
   pub stage : Stage
   pub protection : Protection
 
--- the end that has a claim is the server, every other that has a key is the client
+-- the end that has a claim is the server; any other that has a key is the client
 abbrev pub own_direction : Stage → Direction
 own_direction Unused = FromClient
 own_direction NegotiateSent = FromClient

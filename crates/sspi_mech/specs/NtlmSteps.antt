@@ -100,18 +100,18 @@ server_step (Claimed claim) m input = Stops OutOfSequence
 
 -- ---- what a call that makes a step answers
 
--- where memory may be wanting: the step would be made, or be refused for too long a name, which is
--- measured once it was copied
+-- where memory may run out: the step would be made, or refused for a name that is too long, which
+-- is measured after it is copied
 abbrev pub MayWant : Outcome → Type 0
 MayWant (Goes m step) = Unit {0}
 MayWant (Stops kind) = kind ≡ InternalError
 
--- the same of the credentials of a handle
+-- the same for the credentials of a handle
 abbrev pub MayWantLogin : Result Login ErrorKind → Type 0
 MayWantLogin (Ok login) = Unit {0}
 MayWantLogin (Err kind) = kind ≡ InternalError
 
--- the outcome that there is; out of memory comes only where it may
+-- the answer of the outcome; out of memory only where `MayWant` allows it
 abbrev pub Steps : Outcome → NtlmState → Result Step Error → NtlmState → Type 0
 Steps outcome m (Ok step) m2 = outcome ≡ Goes m2 step
 Steps outcome m (Err error) m2 =

@@ -12,7 +12,7 @@ use Rattle.sspi_mech.specs.declared.step.Reply.TheVariants.{Answered, Failed}
 use Rattle.sspi_mech.specs.KerberosMessages.{as_reply, tgs_reply, kdc_error}
 use Rattle.sspi_mech.specs.Named.{after_letters}
 
--- a KDC: whom it knows, what rules its calls in order, and the counts of its calls and of those
+-- a KDC: whom it knows, what decides its calls in order, and the counts of its calls and of those
 -- that failed
 pub record PlainKdcState : Type 0 where
   pub users : List (List ℕ)
@@ -20,7 +20,7 @@ pub record PlainKdcState : Type 0 where
   pub asked : ℕ
   pub faults : ℕ
 
--- the key of a name, and that of a first key and a ticket, one behind the other
+-- the key of a name, and that of a first key and a ticket, one after the other
 unfoldable pub first_key : List ℕ → List ℕ
 first_key name = sha256 ((codes "plain kdc first" ++ 0 ∷ []) ++ name)
 
@@ -33,7 +33,7 @@ knows users name = list_any (λ user. bytes_eq user name) users
 abbrev pub first_reply : List (List ℕ) → List ℕ → List ℕ
 first_reply users name = if knows users name then as_reply (first_key name) else kdc_error 4
 
--- to a first key and a ticket of 32 bytes each; to all else an error
+-- the reply to a first key and a ticket of 32 bytes each; to anything else an error
 abbrev pub session_reply : Option (List ℕ) → List ℕ
 session_reply None = kdc_error 5
 session_reply (Some both) = if length both == 64 then tgs_reply (session_key both) else kdc_error 5
@@ -45,7 +45,7 @@ reply_by users None request = session_reply (after_letters (codes "KT") request)
 abbrev pub usual_reply : List (List ℕ) → List ℕ → List ℕ
 usual_reply users request = reply_by users (after_letters (codes "KA") request) request
 
--- by what the script has for a call; past its end calls are usual
+-- the reply by the script's entry for a call; past its end calls are usual
 abbrev pub scripted_reply : List (List ℕ) → Option Scripted → List ℕ → Reply
 scripted_reply users None request = Answered (usual_reply users request)
 scripted_reply users (Some Usual) request = Answered (usual_reply users request)

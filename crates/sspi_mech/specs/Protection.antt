@@ -54,7 +54,7 @@ abbrev pub VerifiesBy : Option (List ℕ) → Direction → ℕ → List ℕ →
 VerifiesBy None direction n mic text = ⊥
 VerifiesBy (Some key) direction n mic text = mic ≡ mic_of key direction n text
 
--- what refuses a message, in this order: no key, the last number, then what is given
+-- why a message is refused, in this order: no key, the last number, then the input
 abbrev pub unless_spent : ℕ → Option ErrorKind → Option ErrorKind
 unless_spent n refusal = if n == 2 ^ 64 - 1 then Some ContextExpired else refusal
 

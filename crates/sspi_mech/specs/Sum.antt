@@ -1,4 +1,4 @@
--- What a value means that is one of two, each with a meaning of its own.
+-- The meaning of a value that is one of two, each with a meaning of its own.
 use Rattle.std.specs.Prelude.{◌⊎◌, List}
 use mathlib.Core.Logic.{inl, inr}
 use Rattle.sspi_names.specs.declared.credentials.Credentials.{Credentials}
@@ -17,7 +17,7 @@ Both P Q (inl s) (inr b) = ⊥
 Both P Q (inr t) (inl a) = ⊥
 Both P Q (inr t) (inr b) = Q t b
 
--- What the one selected means. No call puts the other in its place.
+-- The meaning of the selected one. No call puts the other in its place.
 module _ {S T A B : Type 0} (n : Meaning S A) (k : Meaning T B) where
   abbrev pub sum : Meaning (S ⊎ T) (A ⊎ B)
   sum = record {
@@ -51,12 +51,12 @@ module _ {S T A B : Type 0} (n : Meaning S A) (k : Meaning T B) where
     sizes = in_hand n.sizes k.sizes;
   }
 
--- the call that hands on some of the identities that it is given
+-- the call that passes on some of the identities that it is given
 abbrev pub taken : (List Credentials → List Credentials) → Call → Call
 taken some (ToIdentify identities) = ToIdentify (some identities)
 taken some call = call
 
--- the same, where of the identities that are handed in only some reach it
+-- the same, but only some of the identities passed in reach it
 abbrev pub taking : {S C : Type 0} → (List Credentials → List Credentials) → Meaning S C →
     Meaning S C
 taking some c = record c {
@@ -65,8 +65,8 @@ taking some c = record c {
   refuses = λ m call kind. c.refuses m (taken some call) kind;
 }
 
--- the same under other types: it is made of an R, whose S is what parts gives, and its state is a
--- C, whose D is what view gives
+-- the same under other types: it is made from an R, whose S is what `parts` gives, and its state is
+-- a C, whose D is what `view` gives
 abbrev pub seen : {R S C D : Type 0} → (R → S) → (C → D) → (D → C) → Meaning S D → Meaning R C
 seen parts view back c = record {
   made = λ s m. c.made (parts s) (view m);

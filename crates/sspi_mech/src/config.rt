@@ -1,4 +1,4 @@
-//! What a mechanism is made of.
+//! What a mechanism is made from.
 
 ghost use Rattle.std.specs.Prelude.{◌≡◌, Some, IfOk, replicate};
 
@@ -6,21 +6,21 @@ use sspi_names::KdcTable;
 use sspi_types::Text;
 use std::alloc::{AllocError, Global};
 
-/// What a mechanism is made of.
+/// What a mechanism is made from.
 #[derive(Clone, Copy)]
 pub enum MechConfig<'a> {
-    /// Of this configuration of NTLM.
+    /// From this configuration of NTLM.
     Ntlm(&'a NtlmConfig),
-    /// Of this configuration of Kerberos, without a ticket.
+    /// From this configuration of Kerberos, without a ticket.
     Kerberos(&'a KerberosConfig),
-    /// Of this configuration of Kerberos and of its server.
+    /// From this configuration of Kerberos and that of its server.
     KerberosServer(&'a KerberosConfig, &'a KerberosServerConfig),
 }
 
 /// The configuration of NTLM.
 #[derive(Drop, PartialEq, Eq)]
 pub struct NtlmConfig {
-    /// The name of the client's machine, which plain NTLM does not look at.
+    /// The name of the client's machine, which plain NTLM ignores.
     pub client_computer_name: Option<Text>,
     /// The challenge that a server sends in its first message.
     pub challenge: [u8; 8],
@@ -62,7 +62,7 @@ pub struct KerberosConfig {
     pub kdc_url: Option<Text>,
     /// The KDCs of the realms, for a client without `kdc_url`.
     pub kdcs: KdcTable,
-    /// The name of the client's machine, which plain Kerberos does not look at.
+    /// The name of the client's machine, which plain Kerberos ignores.
     pub client_computer_name: Text,
 }
 
@@ -83,7 +83,7 @@ impl KerberosConfig {
     }
 }
 
-/// What a server of Kerberos has beside its configuration.
+/// What a Kerberos server has in addition to its configuration.
 #[derive(Drop, PartialEq, Eq)]
 pub struct KerberosServerConfig {
     /// The ticket that it sends to a client that asks for user-to-user authentication.
@@ -91,7 +91,7 @@ pub struct KerberosServerConfig {
 }
 
 impl KerberosServerConfig {
-    /// A copy, equal to this configuration. It takes no memory.
+    /// A copy, equal to this configuration. It allocates nothing.
     pub fn clone(&self, _alloc: Global) -> Result<KerberosServerConfig, AllocError>
         ensures { IfOk result (λ copy. copy ≡ self.now) }
     {

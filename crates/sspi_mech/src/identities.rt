@@ -1,10 +1,10 @@
-//! Which of the identities that a server is told a mechanism takes.
+//! Which of the identities given to a server a mechanism takes.
 ghost use Rattle.std.specs.Prelude.{◌≡◌, filter, take};
 ghost use Rattle.sspi_mech.specs.NtlmIdentities.{has_password};
 
 use sspi_names::Credentials;
 
-/// Those that NTLM takes: each with a password, in their order.
+/// Those that NTLM takes: the ones with a password, in their order.
 pub fn with_passwords(identities: Vec<Credentials>) -> Vec<Credentials>
     ensures { result.items ≡ filter has_password identities.items }
 {
@@ -13,7 +13,7 @@ pub fn with_passwords(identities: Vec<Credentials>) -> Vec<Credentials>
     identities
 }
 
-/// Those that Kerberos takes: the first, where there is one.
+/// Those that Kerberos takes: the first, if there is one.
 pub fn first_of(identities: Vec<Credentials>) -> Vec<Credentials>
     ensures { result.items ≡ take 1 identities.items }
 {

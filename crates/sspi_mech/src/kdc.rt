@@ -1,4 +1,4 @@
-//! The trait of what answers a mechanism's questions for a KDC.
+//! The trait `Kdc`, which answers a mechanism's requests to a KDC.
 
 ghost use Rattle.std.specs.Prelude.{◌≡◌};
 ghost use Rattle.sspi_types.specs.Counting.{counted_on};
@@ -13,7 +13,7 @@ use std::marker::Model;
 pub enum KdcError {
     /// It could not be asked, or did not answer.
     Failed,
-    /// There was no memory for the request or the reply.
+    /// There was not enough memory for the request or the reply.
     InsufficientMemory,
 }
 
@@ -35,17 +35,17 @@ pub trait Kdc {
     ghost use Rattle.sspi_names.specs.declared.network.NetworkRequest.{NetworkRequest};
     ghost use Rattle.sspi_mech.specs.declared.step.Reply.{Reply};
 
-    // The reply to each request by the number of the call, from 0, where the object tells it.
+    // The reply to each request, by the number of the call from 0, if the object exposes it.
     ghost told: { Self → Option (ℕ → NetworkRequest → Reply) };
 
-    // How many calls were made, and how many of them failed. Each stays at `u64::MAX` once it is
+    // How many calls were made, and how many of them failed. Each stays at `u64::MAX` once it gets
     // there.
     ghost asked: { Self → ℕ };
 
     ghost faults: { Self → ℕ };
 
-    /// Sends the request and waits for the reply. A call that answers `Failed` has raised the count
-    /// of faults, but for one that found it as high as it goes.
+    /// Sends the request and waits for the reply. A call that answers `Failed` raises the count of
+    /// faults, unless that was already at its maximum.
     fn ask(&mut self, request: &NetworkRequest) -> Result<Vec<u8>, KdcError>
         ensures told { told self.new ≡ told self.old }
         ensures asked { asked self.new ≡ counted_on (asked self.old) }
@@ -69,7 +69,7 @@ impl Model for FailingKdc {
 }
 
 impl FailingKdc {
-    /// A KDC that was not asked yet.
+    /// A KDC that has not been asked yet.
     pub fn new() -> FailingKdc
         ensures { result ≡ 0 }
     {

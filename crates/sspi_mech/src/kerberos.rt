@@ -39,34 +39,34 @@ use sspi_types::{
 use std::alloc::Global;
 use std::marker::Model;
 
-/// Plain Kerberos: a KDC gives the client a session key, which it sends to the server; the server
-/// shows that it has it.
+/// Plain Kerberos: the client gets a session key from a KDC and sends it to the server, which shows
+/// that it has it.
 ///
-/// Each step of a client that asks for a key takes the name from its credentials. With
-/// `USE_SESSION_KEY` a client asks its KDC for a first key, then the server for its ticket, and
-/// with both the KDC for the session key (user-to-user). Without, it asks the KDC twice in its
-/// first step, and sends zeros in place of a ticket. A request goes to the `kdc_url` of the
-/// configuration, else to the KDC of the realm that is the domain of the name.
+/// A client's step that asks for a key takes the name from its credentials. With `USE_SESSION_KEY`
+/// (user-to-user), a client asks its KDC for a first key and the server for its ticket. With both
+/// it asks the KDC for the session key. Without the flag, it asks the KDC twice in its first step,
+/// with zeros in place of a ticket. A request goes to the `kdc_url` of the configuration, or else
+/// to the KDC of the realm that is the name's domain.
 ///
-/// A server without a ticket in its configuration takes a session key alone; one with a ticket
-/// sends it where it is asked first. `set_identities` changes nothing, and takes any list that is
-/// not empty.
+/// A server without a ticket in its configuration takes only a session key; one with a ticket sends
+/// it if first asked for it. `set_identities` changes nothing, and takes any list that is not
+/// empty.
 ///
-/// Refusals, of which the first that holds is answered:
-/// - OutOfSequence: a step of the other role, after the end, or while the KDC is waited for;
-///   `resume` while it is not; what needs the key or the name before it is there; `set_identities`
-///   but on a server that has the session key.
+/// Refusals; the first that applies is answered:
+/// - OutOfSequence: a step of the other role, after the end, or while waiting for the KDC; `resume`
+///   while not waiting; a call that needs the key or the name before it is there; `set_identities`
+///   except on a server that has the session key.
 /// - ContextExpired: a message whose count is `u64::MAX`.
-/// - InvalidToken: a message of another form, also one with bytes after it, and a question for the
-///   ticket where there is none; a reply of the KDC that is neither the one asked for nor an error
-///   of a known code; a name that is not UTF-8; a sealed text under 16 bytes.
+/// - InvalidToken: a message of another form or with bytes after it; a request for the ticket if
+///   there is none; a reply of the KDC that is neither the one asked for nor an error with a known
+///   code; a name that is not UTF-8; a sealed text of less than 16 bytes.
 /// - UnknownCredentials: a name that mixes the two forms of names; the KDC's code 4.
-/// - NoCredentials: outbound `acquire`, and a client's step that asks for a key, without
-///   credentials; an empty list.
-/// - NoAuthenticatingAuthority: no KDC for the name, one that could not be asked, or its code 2;
-///   this stands before InternalError: a name past 65535 bytes.
+/// - NoCredentials: outbound `acquire`, or a client's step that asks for a key, without
+///   credentials; an empty list of identities.
+/// - NoAuthenticatingAuthority: no KDC for the name, a KDC that could not be asked, or its code 2.
+///   It is answered before InternalError: a name longer than 65535 bytes.
 /// - TimeSkew, CertificateUnknown, LogonDenied: the KDC's codes 1, 3 and 5.
-/// - MessageAltered: another tag or MIC. MutualAuthFailed: the server showed another key.
+/// - MessageAltered: a wrong tag or MIC. MutualAuthFailed: the server showed a wrong key.
 #[derive(Drop)]
 pub struct Kerberos {
     alloc: Global,
@@ -281,7 +281,7 @@ impl Kerberos {
         })
     }
 
-    /// Takes the session key, and shows that it is there.
+    /// Takes the session key, and shows that this end has it.
     fn admit(&mut self, user_to_user: bool, input: &[u8]) -> Result<Step, Refusal>
         ensures { Steps (admits self.old user_to_user (arrival_of input.now)) self.old
             (answered result) self.new }
@@ -320,7 +320,7 @@ fn check_shown(key: &[u8; 32], input: &[u8]) -> Result<(), Refusal>
     Ok(())
 }
 
-/// A step that goes on once the peer answered this token.
+/// A step that continues once the peer has answered this token.
 fn going(output: Vec<u8>) -> Progressing
     ensures { result ≡ progress.Done (record {
       status = SecurityStatus.ContinueNeeded;

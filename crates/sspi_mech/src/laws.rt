@@ -1,4 +1,4 @@
-//! What holds of mechanisms taken together, and of what stands for one.
+//! What holds for mechanisms taken together, and for other views of one.
 ghost use Rattle.std.specs.Prelude.{◌≡◌, ℕ, ◌+◌, ◌≤◌, List, max};
 ghost use Rattle.sspi_names.specs.declared.credentials.Credentials.{Credentials};
 ghost use Rattle.sspi_mech.specs.Context.{IsContext};
@@ -9,27 +9,27 @@ ghost use Rattle.sspi_mech.specs.Sum.{sum, taking, seen};
 
 use crate::mechanism::Mechanism;
 
-/// One of two mechanisms is a mechanism, which asks a KDC at most as often as the one that may ask
-/// more.
+/// The sum of two mechanisms is a mechanism, which asks a KDC at most as often as the one that may
+/// ask more.
 pub fn sum_is_mechanism<N: Mechanism, K: Mechanism>()
     ensures { IsMechanism (max N.REQUESTS K.REQUESTS) (sum N.meaning K.meaning) }
 {}
 
-/// One of two contexts is a context, whichever identities each is handed.
+/// The sum of two contexts is a context, whichever identities each is given.
 pub fn sum_is_context<N: Mechanism, K: Mechanism>()
     ensures { (first second : List Credentials → List Credentials) →
         IsContext (sum (taking first N.meaning) (taking second K.meaning)) }
 {}
 
-/// What stands for a context, one for one, is a context, whatever it is made of.
+/// A type that corresponds one to one to a context is a context, whatever it is made from.
 pub fn seen_is_context<M: Mechanism, R, C>()
     ensures { (parts : R → Setting) (view : C → M) (back : M → C) →
         ((m : M) → view (back m) ≡ m) → ((context : C) → back (view context) ≡ context) →
         IsContext (seen parts view back M.meaning) }
 {}
 
-/// Whatever its calls, an object has asked a KDC at most as often as `REQUESTS` says, and
-/// `requests_left` is what is left of that.
+/// Whatever its calls, an object asks a KDC at most `REQUESTS` times, and `requests_left` is at
+/// most what is left of that.
 pub fn object_asks_at_most<M: Mechanism>()
     ensures { (m : M) (n : ℕ) → HasLived M.meaning m n → n + M.meaning.left m ≤ M.REQUESTS }
 {}

@@ -1,26 +1,26 @@
 //! Security mechanisms: the trait, plain NTLM and plain Kerberos.
 //!
 //! - `Mechanism`: the calls of a mechanism. `specs/Meaning.antt` names what they do,
-//!   `specs/Laws.antt` says what holds of every one, and `specs/Context.antt` what still holds
-//!   where a context chooses among mechanisms.
-//! - `laws`: one of two mechanisms is a mechanism, in the words of `specs/Sum.antt`, and how often
-//!   an object asks a KDC.
+//!   `specs/Laws.antt` says what holds for every mechanism, and `specs/Context.antt` what still
+//!   holds for a context that chooses among mechanisms.
+//! - `laws`: the sum of two mechanisms (`specs/Sum.antt`) is a mechanism, and how often an object
+//!   asks a KDC.
 //! - `Ntlm`: plain NTLM, made for this port, with the roles of MS-NLMP and SHA-256 in place of its
 //!   hashes. `specs/Ntlm.antt` says exactly what each of its calls answers, and `ntlm::laws` what
 //!   follows for two ends.
 //! - `Kerberos`: plain Kerberos, made for this port, with the roles of RFC 4120 and of user-to-user
 //!   authentication, and SHA-256. `specs/Kerberos.antt` says exactly what each of its calls
 //!   answers, and `kerberos::laws` what follows for two ends.
-//! - `with_passwords`, `first_of`: which of the identities that a server is told each of them
-//!   takes.
-//! - `Refusal`: what the calls behind a mechanism or a negotiation refuse with. It has no NTSTATUS
-//!   code, and is an `Error` to their callers.
+//! - `with_passwords`, `first_of`: which of the identities given to a server NTLM and Kerberos
+//!   take.
+//! - `Refusal`: what the calls inside a mechanism or a negotiation refuse with. It has no NTSTATUS
+//!   code; their callers get it as an `Error`.
 //! - `Kdc`: where a client's requests go. `PlainKdc` gives keys to its users, as
 //!   `specs/PlainKdc.antt` says; `FailingKdc` answers none.
 //!
-//! A refusal leaves an object as it was and has no NTSTATUS code. Out of memory may come at any
-//! time, every other kind only where `refuses` says so. Nothing is claimed of the secrecy of
-//! either.
+//! A refusal leaves an object as it was and has no NTSTATUS code. Most calls may run out of memory;
+//! other refusals occur only where the meaning says so. Nothing is claimed about the secrecy of
+//! either mechanism.
 #![tactic(auto)]
 
 pub mod args;

@@ -27,12 +27,12 @@ use std::alloc::Global;
 /// A security mechanism: one end of one authentication, and the protection of messages once it has
 /// a key.
 ///
-/// Every call that can refuse, but `verify`, may answer `InsufficientMemory`: `unseal` and
-/// `set_identities` only where nothing else refuses them. A refused call leaves the object as it
+/// Every call that can refuse, except `verify`, may answer `InsufficientMemory`; `unseal` and
+/// `set_identities` do so only if nothing else refuses them. A refused call leaves the object as it
 /// was, and no refusal has an NTSTATUS code. `meaning` says what each call does, in the words of
-/// `specs/Meaning.antt`; `specs/Laws.antt` has what holds of every mechanism.
+/// `specs/Meaning.antt`; `specs/Laws.antt` has what holds for every mechanism.
 pub trait Mechanism: Sized + Drop {
-    /// At most how often one object asks a KDC, whatever its calls (`laws::object_asks_at_most`).
+    /// The most requests that one object ever makes to a KDC (`laws::object_asks_at_most`).
     const REQUESTS: u32;
 
     ghost use Rattle.std.specs.Prelude.{ℕ};
@@ -47,8 +47,8 @@ pub trait Mechanism: Sized + Drop {
         ensures fresh { IfOk result (λ it. meaning.counts it ≡ no_counts) }
         ensures err { IfErr result (λ error. error ≡ memory_error) };
 
-    /// The buffers for the handle of these credentials (AcquireCredentialsHandle); none where none
-    /// are given.
+    /// The buffers for the handle of these credentials (AcquireCredentialsHandle); none if none are
+    /// given.
     fn acquire(
         &mut self,
         credential_use: CredentialUse,
@@ -72,7 +72,7 @@ pub trait Mechanism: Sized + Drop {
         ensures err { OnRefused result (self.new ≡ self.old) }
         ensures codeless { IfRefused result (λ error. error.nstatus ≡ None) };
 
-    /// Goes on with the step that asked, once it is known what came of its request. Refused, it
+    /// Continues the step that asked, once the outcome of its request is known. If refused, it
     /// still waits.
     fn resume(&mut self, reply: &Reply) -> Answer
         ensures step { meaning.resumes self.old reply.now result self.new }
@@ -86,11 +86,11 @@ pub trait Mechanism: Sized + Drop {
         ensures err { OnErr result (self.new ≡ self.old) }
         ensures codeless { IfErr result (λ error. error.nstatus ≡ None) };
 
-    /// Whether a step waits for what comes of a request.
+    /// Whether a step waits for the outcome of a request.
     fn waiting(&self) -> bool
         ensures { result ≡ meaning.waits self.now };
 
-    /// At most how often this object still asks a KDC.
+    /// The most requests to a KDC that this object may still make.
     fn requests_left(&self) -> u32
         ensures { result ≡ meaning.left self.now };
 
@@ -112,8 +112,8 @@ pub trait Mechanism: Sized + Drop {
         ensures cause { IfErr result (λ error. error.error_type ≢ ErrorKind.InsufficientMemory →
             meaning.refuses self.now ToName error.error_type) };
 
-    /// Tells a server which identities its peer may have. Out of memory never stands for a refusal
-    /// of them.
+    /// Tells a server which identities its peer may have. Out of memory never takes the place of a
+    /// refusal of them.
     fn set_identities(&mut self, identities: &[Credentials]) -> Result<(), Error>
         // What `Ok` holds.
         ensures identified { OnOk result (meaning.identifies self.old identities.now self.new) }
@@ -142,8 +142,8 @@ pub trait Mechanism: Sized + Drop {
         ensures cause { IfErr result (λ error. error.error_type ≢ ErrorKind.InsufficientMemory →
             meaning.refuses self.old (ToSeal text.now) error.error_type) };
 
-    /// Opens what the peer sealed (DecryptMessage). Out of memory never stands for the refusal of
-    /// an altered blob.
+    /// Opens what the peer sealed (DecryptMessage). Out of memory never takes the place of the
+    /// refusal of an altered blob.
     fn unseal(&mut self, blob: &[u8]) -> Result<Vec<u8>, Error>
         // What `Ok` holds.
         ensures text { IfOk result (λ text. meaning.opens self.new
@@ -176,8 +176,8 @@ pub trait Mechanism: Sized + Drop {
         ensures cause { IfErr result (λ error. error.error_type ≢ ErrorKind.InsufficientMemory →
             meaning.refuses self.old (ToSign text.now) error.error_type) };
 
-    /// Checks the MIC that the peer made of a text (VerifySignature). Takes no memory: each refusal
-    /// is one of the mechanism itself.
+    /// Checks the MIC that the peer made of a text (VerifySignature). It allocates nothing: each
+    /// refusal is the mechanism's own.
     fn verify(&mut self, mic: &[u8], text: &[u8]) -> Result<(), Error>
         // What `Ok` holds.
         ensures mic { OnOk result (meaning.verifies self.new (meaning.counts self.old).verifications
@@ -219,7 +219,7 @@ pub trait Mechanism: Sized + Drop {
     ghost laws: { IsMechanism REQUESTS meaning };
 }
 
-/// What holds of every context holds of a mechanism.
+/// What holds for every context holds for a mechanism.
 pub fn mechanism_is_context<M: Mechanism>()
     ensures { IsContext M.meaning }
 {}

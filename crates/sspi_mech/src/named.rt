@@ -8,7 +8,7 @@ use std::alloc::{AllocError, Global};
 
 const BLOCK_LENGTH: usize = 32;
 
-/// The most bytes that the name in a message has.
+/// The most bytes that the name in a message can have.
 pub(crate) const LONGEST_NAME: usize = 65535;
 
 /// What follows these letters.
@@ -18,7 +18,7 @@ pub(crate) fn after_letters<'a>(letters: &[u8; 2], message: &'a [u8]) -> Option<
     message.strip_prefix(letters)
 }
 
-/// These letters and a text behind them.
+/// These letters followed by a text.
 pub(crate) fn lettered(alloc: Global, letters: &[u8; 2], text: &[u8]) -> Result<Vec<u8>, AllocError>
     ensures { IfOk result (λ message. message.items ≡ letters.now ++ text.now) }
 {
@@ -28,14 +28,14 @@ pub(crate) fn lettered(alloc: Global, letters: &[u8; 2], text: &[u8]) -> Result<
     Ok(message)
 }
 
-/// The 32 bytes that are all that follows these letters.
+/// The 32 bytes after these letters, if nothing else follows them.
 pub(crate) fn read_block<'a>(letters: &[u8; 2], message: &'a [u8]) -> Option<&'a [u8; 32]>
     ensures { option_copied result ≡ read_block letters.now message.now }
 {
     after_letters(letters, message)?.as_array()
 }
 
-/// A message with a name, the length before it, and 32 bytes.
+/// A message with the length of a name, the name, and 32 bytes.
 pub(crate) fn named_message(
     alloc: Global,
     letters: &[u8; 2],

@@ -34,21 +34,21 @@ use std::marker::Model;
 /// Plain NTLM: three messages, a challenge, and a proof and a key over the password.
 ///
 /// A client sends its first message, takes the challenge, and sends its name with the proof. A
-/// server sends the challenge of its configuration (zeros where it is made of one of Kerberos),
-/// takes the name and the proof, and has a key once `set_identities` found whose proof it is; that
-/// may be called again.
+/// server sends the challenge of its configuration (zeros if that is one of Kerberos), and takes
+/// the name and the proof. It has a key once `set_identities` has found whose proof it is; that may
+/// be called again.
 ///
-/// Refusals, of which the first that holds is answered:
-/// - OutOfSequence: a step of the other role or after the end; `resume`; what needs the key or the
-///   name before it is there; `set_identities` but on a server that has the client's last message.
+/// Refusals; the first that applies is answered:
+/// - OutOfSequence: a step of the other role or after the end; `resume`; a call before the key or
+///   name it needs; `set_identities` except on a server that has the client's last message.
 /// - ContextExpired: a message whose count is `u64::MAX`.
-/// - InvalidToken: a message of another form, also one with bytes after it; a name that is not
-///   UTF-8; a sealed text under 16 bytes.
+/// - InvalidToken: a message of another form or with bytes after it; a name that is not UTF-8; a
+///   sealed text of less than 16 bytes.
 /// - UnknownCredentials: a keytab; a name that mixes the two forms of names.
-/// - NoCredentials: outbound `acquire`, and the client's last step, without credentials; a list
+/// - NoCredentials: outbound `acquire`, or the client's last step, without credentials; a list
 ///   without a password.
-/// - MessageAltered: another tag or MIC. LogonDenied: no password gives the proof. InternalError: a
-///   name past 65535 bytes.
+/// - MessageAltered: a wrong tag or MIC. LogonDenied: no password gives the proof. InternalError: a
+///   name longer than 65535 bytes.
 #[derive(Drop)]
 pub struct Ntlm {
     alloc: Global,

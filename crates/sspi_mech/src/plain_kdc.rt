@@ -21,16 +21,16 @@ use std::marker::Model;
 /// The code of a KDC's error: the name is unknown.
 const UNKNOWN_NAME: u8 = 4;
 
-/// The code of a KDC's error: the request is none that it knows.
+/// The code of a KDC's error: the request is not one that it knows.
 const DENIED: u8 = 5;
 
-/// How long a first key and a ticket are together.
+/// The length of a first key and a ticket together, in bytes.
 const KEYS_LENGTH: usize = 64;
 
-/// What rules a call on a KDC.
+/// How a KDC answers a call.
 #[derive(Clone, Copy, Debug, PartialEq, Eq)]
 pub enum Scripted {
-    /// It replies as its users make it.
+    /// It replies according to its users.
     Usual,
     /// It replies with an error of this code.
     Code(u8),
@@ -38,9 +38,9 @@ pub enum Scripted {
     Fail,
 }
 
-/// A KDC that tells its replies: a first key to each name of its users, and a session key to each
-/// first key with a ticket. The script rules its calls in order, from the first; calls past its end
-/// are `Usual`. Names are compared byte by byte.
+/// A KDC that exposes its replies: a first key for each name of its users, and a session key for
+/// each first key with a ticket. The script decides its calls in order, from the first; calls past
+/// its end are `Usual`. Names are compared byte by byte.
 #[derive(Drop)]
 pub struct PlainKdc {
     alloc: Global,
@@ -64,7 +64,7 @@ impl Model for PlainKdc {
 }
 
 impl PlainKdc {
-    /// A KDC that was not asked yet.
+    /// A KDC that has not been asked yet.
     pub fn new(alloc: Global, users: Vec<Text>, script: Vec<Scripted>) -> PlainKdc
         ensures { result ≡ record {
           users = users.items;
@@ -96,7 +96,7 @@ fn knows(users: &[Text], name: &[u8]) -> bool
     users.iter().any(|user| user.as_str().as_bytes() == name)
 }
 
-/// The key that a KDC gives a name.
+/// The key that a KDC gives for a name.
 #[tactic(auto, unfolding(crate::specs::PlainKdc::first_key))]
 fn first_key(name: &[u8]) -> [u8; 32]
     ensures { result ≡ first_key name.now }
@@ -104,7 +104,7 @@ fn first_key(name: &[u8]) -> [u8; 32]
     hash(b"plain kdc first\0", name)
 }
 
-/// The key that a KDC gives a first key and a ticket, one behind the other.
+/// The key that a KDC gives for a first key and a ticket, one after the other.
 #[tactic(auto, unfolding(crate::specs::PlainKdc::session_key))]
 fn session_key(both: &[u8]) -> [u8; 32]
     ensures { result ≡ session_key both.now }
@@ -148,7 +148,7 @@ fn session_reply(alloc: Global, both: Option<&[u8]>) -> Result<Vec<u8>, AllocErr
     }
 }
 
-/// The reply of a call that no script rules.
+/// The usual reply to a request.
 fn usual_reply(alloc: Global, users: &[Text], request: &[u8]) -> Result<Vec<u8>, AllocError>
     ensures { IfOk result (λ reply. reply.items ≡ usual_reply users.now request.now) }
 {

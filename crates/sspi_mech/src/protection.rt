@@ -36,7 +36,7 @@ impl Direction {
 }
 
 /// The key of an object, once there is one, and how many messages of each kind were made and taken
-/// by it.
+/// with it.
 #[derive(Clone, Copy)]
 pub struct Protection {
     key: Option<[u8; 32]>,
@@ -78,7 +78,7 @@ impl Protection {
         }
     }
 
-    /// The tag of the text and the text.
+    /// The tag of the text, followed by the text.
     pub fn seal(
         &mut self,
         alloc: Global,
@@ -105,7 +105,7 @@ impl Protection {
         Ok(blob)
     }
 
-    /// The text of a blob whose tag is that of the text. Memory is taken only for such a blob.
+    /// The text of a blob whose tag is that of the text. It allocates only for such a blob.
     pub fn unseal(
         &mut self,
         alloc: Global,
@@ -168,7 +168,7 @@ impl Protection {
         Ok(mic)
     }
 
-    /// Whether the MIC is that of the text; MessageAltered where it is not.
+    /// Whether the MIC is that of the text; MessageAltered if it is not.
     pub fn verify(&mut self, direction: Direction, mic: &[u8], text: &[u8]) -> Result<(), Refusal>
         // What `Ok` holds.
         ensures mic { OnOk result (VerifiesBy self.new.key direction self.old.verifications mic.now
@@ -193,7 +193,7 @@ impl Protection {
     }
 }
 
-/// The count after this one; ContextExpired where there is none.
+/// The count after this one; ContextExpired if there is none.
 fn next(count: u64) -> Result<u64, Refusal>
     ensures ok { IfOk result (λ next. ((count == 2 ^ 64 - 1) ≡ false) × (next ≡ count + 1)) }
     ensures err { IfErr result (λ error. ((count == 2 ^ 64 - 1) ≡ true) ×

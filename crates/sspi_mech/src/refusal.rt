@@ -1,4 +1,4 @@
-//! A refusal without a code of the peer: a kind and a reason.
+//! A refusal without an NTSTATUS code: a kind and a reason.
 
 ghost use Rattle.std.specs.Prelude.{◌≡◌};
 ghost use Rattle.sspi_types.specs.Errors.{memory_error};
@@ -10,8 +10,8 @@ use sspi_names::{UsernameError, Utf16Error};
 use sspi_types::{Error, ErrorKind, Reason};
 use std::alloc::{AllocError, AllocFailed};
 
-/// A refusal of one's own: its kind and a fixed reason. A code of NTSTATUS is for the peer to give,
-/// so it has none.
+/// A refusal of this port's own: its kind and a fixed reason. An NTSTATUS code is for the peer to
+/// give, so it has none.
 #[derive(Clone, Copy)]
 pub struct Refusal {
     /// What kind of refusal it is: the code of winerror.h.
@@ -31,7 +31,7 @@ impl Refusal {
         }
     }
 
-    /// Of a call out of its place.
+    /// The refusal of a call out of sequence.
     pub fn out_of_sequence() -> Refusal
         ensures { result ≡ record {
           error_type = ErrorKind.OutOfSequence;
@@ -41,7 +41,7 @@ impl Refusal {
         Refusal::new(ErrorKind::OutOfSequence, Reason::Sequence)
     }
 
-    /// Of a message of another form.
+    /// The refusal of a message of another form.
     pub fn malformed() -> Refusal
         ensures { result ≡ record {
           error_type = ErrorKind.InvalidToken;
@@ -60,7 +60,7 @@ impl From<Refusal> for Error {
     }
 }
 
-/// The kind and the reason alone.
+/// Only the kind and the reason.
 impl From<Error> for Refusal {
     ghost from_gives = { λ error refusal. refusal ≡ refusal_of error };
 

@@ -1,16 +1,16 @@
-//! What a step answers: a status and a token, or a question for a KDC.
+//! What a step answers: a status and a token, or a request to a KDC.
 
 ghost use Rattle.std.specs.Prelude.{◌≡◌};
 
 use sspi_names::NetworkRequest;
 use sspi_types::{Bytes, Error, SecurityStatus};
 
-/// A step that was made: how the context stands, and the token for the peer, which may be empty.
+/// A step that was made: the status of the context, and the token for the peer, which may be empty.
 #[derive(Drop)]
 pub struct Step {
     /// Whether the authentication is over (`Ok`, `CompleteNeeded`) or goes on.
     pub status: SecurityStatus,
-    /// The token for the peer; empty where there is none to send.
+    /// The token for the peer; empty if there is none to send.
     pub output: Bytes,
 }
 
@@ -19,7 +19,7 @@ pub struct Step {
 pub enum Answer {
     /// The step is made.
     Done(Step),
-    /// The step goes on by `resume`, once the KDC has answered this request.
+    /// The step continues with `resume`, once the KDC has answered this request.
     Ask(NetworkRequest),
     /// The step is refused with this error.
     Refused(Error),
@@ -40,7 +40,7 @@ impl Answer {
     }
 }
 
-/// What came of a request to a KDC.
+/// The outcome of a request to a KDC.
 #[derive(Drop)]
 pub enum Reply {
     /// The bytes that the KDC sent back.
@@ -49,7 +49,7 @@ pub enum Reply {
     Failed,
 }
 
-/// How far a step came that was not refused.
+/// How far a step that was not refused has come.
 #[derive(Drop)]
 pub enum Progressing {
     /// The step is made.

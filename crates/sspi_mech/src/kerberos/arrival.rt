@@ -1,4 +1,4 @@
-//! What a server reads of a client's AP request.
+//! What a server reads in a client's AP request.
 
 ghost use Rattle.std.specs.Prelude.{◌≡◌, IfErr, IsOk};
 ghost use Rattle.sspi_mech.specs.KerberosSteps.{arrival_of};
@@ -20,8 +20,7 @@ pub struct Arrival {
     pub key: [u8; 32],
 }
 
-/// What a client says in its last message but one. Memory is taken only for a name that a client
-/// may have.
+/// What a client says in its AP request. It allocates only for a name that a client may have.
 pub fn arrival_of(alloc: Global, message: &[u8]) -> Result<Arrival, Refusal>
     ensures answer { Gives result (arrival_of message.now) }
     ensures memory { IfErr result (λ error. error.error_type ≡ ErrorKind.InsufficientMemory →

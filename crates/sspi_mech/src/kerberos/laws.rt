@@ -1,5 +1,5 @@
-//! What holds of plain Kerberos by its definitions alone: each is proved once, and holds of every
-//! object.
+//! What holds for plain Kerberos by its definitions alone: each law is proved once, and holds for
+//! every object.
 ghost use Rattle.std.specs.Prelude.{◌≡◌, ℕ, ◌-◌, ◌<◌, ◌^◌, List, None, Some, Ok, Err, ◌++◌, drop};
 ghost use Rattle.std.specs.Prelude.{length, false, true};
 ghost use Rattle.std.specs.List.{slice_get};
@@ -21,14 +21,14 @@ ghost use Rattle.sspi_mech.specs.KerberosStage.{KerberosState};
 ghost use Rattle.sspi_mech.specs.KerberosSteps.{Goes, keyed_with, server_step, shown_to};
 ghost use Rattle.sspi_mech.specs.PlainKdc.{first_key, session_key, knows, told_by};
 
-/// Of a blob that opens, the text is all that stands behind the tag, which has 16 bytes.
+/// Of a blob that opens, the text is all that follows the tag, which has 16 bytes.
 pub fn opened_is_body()
     ensures { (m : KerberosState) (n : ℕ) (blob text : List ℕ) →
         kerberos_meaning.opens m n blob text → text ≡ drop 16 blob }
 {}
 
-/// What one end seals, the other opens, and does not refuse where it is the next message, unless
-/// the count is spent.
+/// What one end seals, the other opens, and does not refuse if it is the next message and the count
+/// is not spent.
 pub fn sealed_opens()
     ensures opens { (m p : KerberosState) (n : ℕ) (text blob : List ℕ) →
         IsPeer m p → kerberos_meaning.seals m n text blob → kerberos_meaning.opens p n blob text }
@@ -38,8 +38,8 @@ pub fn sealed_opens()
         kerberos_meaning.permits p (ToUnseal blob) }
 {}
 
-/// The MIC that one end makes, the other finds right, and does not refuse where it is the next,
-/// unless the count is spent.
+/// What one end signs, the other verifies, and does not refuse if it is the next MIC and the count
+/// is not spent.
 pub fn signed_verifies()
     ensures verifies { (m p : KerberosState) (n : ℕ) (text mic : List ℕ) →
         IsPeer m p → kerberos_meaning.signs m n text mic → kerberos_meaning.verifies p n mic text }
@@ -49,14 +49,14 @@ pub fn signed_verifies()
         kerberos_meaning.permits p (ToVerify mic text) }
 {}
 
-/// A call that may answer `Ok` is refused with no kind but out of memory.
+/// A call that may answer `Ok` is refused only when out of memory.
 pub fn permitted_is_not_refused()
     ensures { (m : KerberosState) (call : Call) (kind : ErrorKind) →
         kerberos_meaning.permits m call → kerberos_meaning.refuses m call kind → ⊥ }
 {}
 
-/// A server takes what a client sends, and knows its name and its key by that: the question for the
-/// ticket where there is one, and the session key before or after it.
+/// A server with a ticket takes a request for it. Any server takes the session key, before or after
+/// it sent a ticket, and knows the client's name and key from it.
 pub fn sent_is_taken()
     ensures question { (m : KerberosState) (ticket : List ℕ) → m.ticket ≡ Some ticket →
         server_step stages.Unused m ticket_request
@@ -74,8 +74,8 @@ pub fn sent_is_taken()
         (record { status = status.Ok; output = ap_reply key }) }
 {}
 
-/// A client reads the ticket that a server sends, and finds its key shown by the server that took
-/// it.
+/// A client reads the ticket that a server sends, and accepts the proof of a server that took its
+/// key.
 pub fn answered_is_read()
     ensures ticket { (ticket : List ℕ) → length ticket ≡ 32 →
         read_ticket (ticket_reply ticket) ≡ Some ticket }
@@ -92,8 +92,8 @@ pub fn replies_are_read()
         (kind_of_code code) }
 {}
 
-/// A plain KDC gives a client the keys that it asks for: the first where it knows the name, and a
-/// session key for that and any ticket. Its script is at its end there.
+/// A plain KDC past the end of its script gives a client the keys that it asks for: a first key if
+/// it knows the name, and a session key for any first key and ticket.
 pub fn kdc_serves()
     ensures first { (users : List (List ℕ)) (script : List Scripted) (call : ℕ)
         (url name : List ℕ) →

@@ -1,4 +1,4 @@
-//! As whom a Kerberos client logs on.
+//! Who a Kerberos client logs on as.
 
 ghost use Rattle.std.specs.Prelude.{◌≡◌, ◌≤◌, length, option_copied, IfErr, IsOk};
 ghost use Rattle.sspi_names.specs.Name.{inner_of};
@@ -14,7 +14,7 @@ use sspi_types::{Bytes, CredentialUse, ErrorKind, Reason, Text};
 use std::alloc::Global;
 use std::marker::Model;
 
-/// The name of a client, which is short enough for a message.
+/// The name of a client, short enough for a message.
 #[derive(Drop)]
 pub struct ClientName {
     name: Username,
@@ -32,7 +32,7 @@ impl Model for ClientName {
 }
 
 impl ClientName {
-    /// This name; none where it is too long.
+    /// This name; none if it is too long.
     fn new(name: Username) -> Option<ClientName>
         ensures { result ≡ short_name name }
     {
@@ -55,11 +55,11 @@ impl ClientName {
 pub struct Logon {
     /// The name of the client.
     pub name: ClientName,
-    /// Where its KDC is asked.
+    /// The URL of its KDC.
     pub url: Text,
 }
 
-/// The buffers of the credentials, or none where none are given.
+/// The buffers of the credentials, or none if none are given.
 pub fn buffers_of(
     alloc: Global,
     credential_use: CredentialUse,

@@ -19,19 +19,19 @@ const AP_REQUEST_LETTERS: &[u8; 2] = b"K3";
 
 const AP_REPLY_LETTERS: &[u8; 2] = b"K4";
 
-/// With which a client's request for a first key begins.
+/// The letters with which a client's request for a first key begins.
 pub const AS_REQUEST_LETTERS: &[u8; 2] = b"KA";
 
-/// With which the reply that has a first key begins.
+/// The letters with which the reply that has a first key begins.
 pub const AS_REPLY_LETTERS: &[u8; 2] = b"KB";
 
-/// With which a client's request for a session key begins.
+/// The letters with which a client's request for a session key begins.
 pub const TGS_REQUEST_LETTERS: &[u8; 2] = b"KT";
 
-/// With which the reply that has a session key begins.
+/// The letters with which the reply that has a session key begins.
 pub const TGS_REPLY_LETTERS: &[u8; 2] = b"KS";
 
-/// With which a KDC's error begins.
+/// The letters with which a KDC's error begins.
 pub const ERROR_LETTERS: &[u8; 2] = b"KE";
 
 const KEY_LENGTH: usize = 32;

@@ -12,9 +12,9 @@ use std::alloc::Global;
 /// Which KDC a client asks.
 #[derive(Drop)]
 pub struct Realms {
-    /// The one URL, whatever the realm.
+    /// The one URL for all realms, if there is one.
     pub kdc_url: Option<Text>,
-    /// Else the KDC of each realm.
+    /// Otherwise, the KDC of each realm.
     pub kdcs: KdcTable,
 }
 
@@ -28,7 +28,7 @@ impl Realms {
         }
     }
 
-    /// The URL of the KDC of this name; NoAuthenticatingAuthority where there is none.
+    /// The URL of the KDC of this name; NoAuthenticatingAuthority if there is none.
     pub fn kdc_of(&self, alloc: Global, name: &Username) -> Result<Text, Refusal>
         ensures answer { Gives result (kdc_of self.now name.now) }
         ensures memory { IfErr result (λ error. error.error_type ≡ ErrorKind.InsufficientMemory →

@@ -1,4 +1,4 @@
-//! What a client reads of a KDC's reply.
+//! What a client reads in a KDC's reply.
 
 ghost use Rattle.std.specs.Prelude.{◌≡◌, codes};
 ghost use Rattle.sspi_mech.specs.KerberosReplies.{kind_of_code, kind_in, granted, first_key_in};
@@ -12,7 +12,7 @@ use crate::refusal::Refusal;
 use crate::step::Reply;
 use sspi_types::{ErrorKind, Reason};
 
-/// The key that a KDC gave a name.
+/// The key that a KDC gave for a name.
 pub fn first_key_in(reply: &Reply) -> Result<[u8; 32], Refusal>
     ensures { GivesExactly result (first_key_in reply.now) }
 {
@@ -49,7 +49,7 @@ fn refusal_of(kind: ErrorKind) -> Refusal
     Refusal::new(kind, reason)
 }
 
-/// Why a KDC gave no key: by the code of its error, else its reply is malformed.
+/// Why a KDC gave no key: by the code of its error, or else because its reply is malformed.
 fn kind_in(reply: &[u8]) -> ErrorKind
     ensures { result ≡ kind_in (after_letters (codes "KE") reply.now) }
 {

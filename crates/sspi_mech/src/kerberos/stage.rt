@@ -9,7 +9,7 @@ use crate::kerberos::logon::ClientName;
 use crate::protection::Direction;
 use sspi_names::Username;
 
-/// How far an object came, and by that which end it is.
+/// How far an object has come, and thereby which end it is.
 #[derive(Drop)]
 pub enum Stage {
     /// No step was made.
@@ -88,7 +88,7 @@ impl Stage {
         )
     }
 
-    /// How many requests to the KDC are still to come.
+    /// How many requests to the KDC may still be made.
     pub fn requests_left(&self) -> u32
         ensures { result ≡ left_at self.now }
     {
@@ -110,7 +110,7 @@ impl Stage {
         }
     }
 
-    /// Goes on to the next stage of a client under its name.
+    /// Advances a client that has its name to its next stage; every other stage stays.
     pub fn advance(&mut self)
         ensures { self.new ≡ advanced self.old }
     {

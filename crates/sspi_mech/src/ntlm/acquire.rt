@@ -9,7 +9,7 @@ use sspi_names::{Credentials, CredentialsBuffers};
 use sspi_types::{CredentialUse, ErrorKind, Reason};
 use std::alloc::Global;
 
-/// The buffers of the credentials, or none where none are given.
+/// The buffers of the credentials, or none if none are given.
 pub fn buffers_of(
     alloc: Global,
     credential_use: CredentialUse,

@@ -14,7 +14,7 @@ use sspi_names::{Credentials, Username};
 use sspi_types::{Bytes, ErrorKind, Reason};
 use std::alloc::Global;
 
-/// Who a client says it is in its last message. Memory is taken only for a name that a client may
+/// Who a client says it is in its last message. It allocates only for a name that a client may
 /// have.
 pub fn claim_of(alloc: Global, message: &[u8]) -> Result<Claim, Refusal>
     ensures answer { Gives result (claim_of message.now) }
@@ -37,7 +37,7 @@ pub fn claim_of(alloc: Global, message: &[u8]) -> Result<Claim, Refusal>
 }
 
 impl Stage {
-    /// The key that the identities give; OutOfSequence but on a server that has a claim.
+    /// The key that the identities give; OutOfSequence except on a server that has a claim.
     pub fn key(&self, challenge: &[u8; 8], identities: &[Credentials]) -> Result<[u8; 32], Refusal>
         ensures { GivesExactly result (key_at self.now challenge.now identities.now) }
     {
@@ -114,7 +114,7 @@ fn have_password(identities: &[Credentials]) -> bool
     identities.iter().any(has_password)
 }
 
-/// Why a list has no password: it is empty, or has keytabs alone.
+/// Why a list has no password: it is empty, or has only keytabs.
 fn no_password(identities: &[Credentials]) -> Reason {
     if identities.is_empty() {
         Reason::NoCandidate

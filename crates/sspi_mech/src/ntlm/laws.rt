@@ -1,4 +1,4 @@
-//! What holds of plain NTLM by its definitions alone: each is proved once, and holds of every
+//! What holds for plain NTLM by its definitions alone: each law is proved once, and holds for every
 //! object.
 ghost use Rattle.std.specs.Prelude.{true, ◌≡◌, ℕ, ◌-◌, ◌<◌, ◌^◌, List, Some, drop, length};
 ghost use Rattle.sspi_types.specs.declared.error_kind.ErrorKind.{ErrorKind};
@@ -13,14 +13,14 @@ ghost use Rattle.sspi_mech.specs.NtlmMessages.{read_challenge, read_authenticate
 ghost use Rattle.sspi_mech.specs.NtlmPeers.{IsPeer};
 ghost use Rattle.sspi_mech.specs.NtlmStage.{NtlmState};
 
-/// Of a blob that opens, the text is all that stands behind the tag, which has 16 bytes.
+/// Of a blob that opens, the text is all that follows the tag, which has 16 bytes.
 pub fn opened_is_body()
     ensures { (m : NtlmState) (n : ℕ) (blob text : List ℕ) → ntlm_meaning.opens m n blob text →
         text ≡ drop 16 blob }
 {}
 
-/// What one end seals, the other opens, and does not refuse where it is the next message, unless
-/// the count is spent.
+/// What one end seals, the other opens, and does not refuse if it is the next message and the count
+/// is not spent.
 pub fn sealed_opens()
     ensures opens { (m p : NtlmState) (n : ℕ) (text blob : List ℕ) →
         IsPeer m p → ntlm_meaning.seals m n text blob → ntlm_meaning.opens p n blob text }
@@ -30,8 +30,8 @@ pub fn sealed_opens()
         ntlm_meaning.permits p (ToUnseal blob) }
 {}
 
-/// The MIC that one end makes, the other finds right, and does not refuse where it is the next,
-/// unless the count is spent.
+/// What one end signs, the other verifies, and does not refuse if it is the next MIC and the count
+/// is not spent.
 pub fn signed_verifies()
     ensures verifies { (m p : NtlmState) (n : ℕ) (text mic : List ℕ) →
         IsPeer m p → ntlm_meaning.signs m n text mic → ntlm_meaning.verifies p n mic text }
@@ -41,13 +41,13 @@ pub fn signed_verifies()
         ntlm_meaning.permits p (ToVerify mic text) }
 {}
 
-/// A call that may answer `Ok` is refused with no kind but out of memory.
+/// A call that may answer `Ok` is refused only when out of memory.
 pub fn permitted_is_not_refused()
     ensures { (m : NtlmState) (call : Call) (kind : ErrorKind) → ntlm_meaning.permits m call →
         ntlm_meaning.refuses m call kind → ⊥ }
 {}
 
-/// The messages that one end writes, the other reads.
+/// Each end reads the messages that the other writes.
 pub fn written_is_read()
     ensures challenge { (challenge : List ℕ) → length challenge ≡ 8 →
         read_challenge (challenge_message challenge) ≡ Some challenge }
@@ -56,7 +56,7 @@ pub fn written_is_read()
         (record { name = name; body = proof }) }
 {}
 
-/// The password that made a claim's proof is found to be the one.
+/// The password that made a claim's proof is found to prove the claim.
 pub fn password_proves()
     ensures { (challenge : List ℕ) (claim : Claim) (identity : AuthIdentity) →
         claim.proof ≡ proof_of challenge claim.text identity.password.value →

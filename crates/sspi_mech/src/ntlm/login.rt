@@ -1,4 +1,4 @@
-//! As whom an NTLM client logs on.
+//! Who an NTLM client logs on as.
 
 ghost use Rattle.std.specs.Prelude.{◌≡◌, ◌≤◌, length, IfOk, IfErr, option_copied};
 ghost use Rattle.sspi_names.specs.Name.{inner_of};
@@ -14,14 +14,14 @@ use std::alloc::Global;
 /// Who a client logs on as.
 #[derive(Drop)]
 pub struct Login {
-    /// The name of the user, with its domain where it has one.
+    /// The name of the user, with its domain if it has one.
     pub name: Username,
     /// The password, as text.
     pub password: Text,
 }
 
-/// The name and the password of a client's credentials. Memory is taken only for a name that does
-/// not mix the two forms.
+/// The name and the password of a client's credentials. It allocates only for a name that does not
+/// mix the two forms.
 pub fn login_of(alloc: Global, handle: Option<&CredentialsBuffers>) -> Result<Login, Refusal>
     ensures answer { Gives result (login_of (option_copied handle.entry)) }
     ensures memory { IfErr result (λ error. error.error_type ≡ ErrorKind.InsufficientMemory →

@@ -7,7 +7,7 @@ use crate::protection::Direction;
 use sspi_names::Username;
 use sspi_types::Bytes;
 
-/// How far an object came, and by that which end it is.
+/// How far an object has come, and thereby which end it is.
 #[derive(Drop)]
 pub enum Stage {
     /// No step was made.
@@ -22,14 +22,14 @@ pub enum Stage {
     Claimed(Claim),
 }
 
-/// Who a client says it is, and what is to show it.
+/// Who a client says it is, and what proves it.
 #[derive(Drop)]
 pub struct Claim {
     /// The name that the client gave.
     pub name: Username,
-    /// The bytes of the name, as they stood in the message.
+    /// The bytes of the name, as they were in the message.
     pub text: Bytes,
-    /// What only who knows the password can make of the name and the challenge.
+    /// What only someone who knows the password can make from the name and the challenge.
     pub proof: [u8; 32],
 }
 
