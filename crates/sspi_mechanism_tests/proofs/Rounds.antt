@@ -4,13 +4,13 @@ use Rattle.sspi_mech.specs.declared.step.Answer.{Answer}
 use Rattle.sspi_mech.specs.declared.step.Answer.TheVariants.{Done, Ask, Refused}
 use Rattle.sspi_mech.specs.Meaning.{Meaning}
 
--- how often a step may still be resumed, where so many questions are left
+-- how often a step may still be resumed, with this many questions left
 abbrev pub rounds_left : Answer → ℕ → ℕ
 rounds_left (Done step) left = 0
 rounds_left (Ask request) left = left + 1
 rounds_left (Refused error) left = 0
 
--- how the step stands after so many of the questions that are allowed
+-- the state of a step after this many of the allowed questions
 abbrev pub Asked : {S C : Type 0} → Meaning S C → Answer → C → ℕ → ℕ → Type 0
 Asked c (Done step) m questions allowed = (c.waits m ≡ false) × (questions ≤ allowed)
 Asked c (Ask request) m questions allowed = questions + c.left m < allowed

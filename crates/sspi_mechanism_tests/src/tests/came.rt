@@ -1,6 +1,6 @@
-//! What came of a call, in words: `refuses`, the kind and the reason; `asks`, the transport and the
-//! URL in quotes of a KDC and the request in hex; a word and octets in hex otherwise, as the status
-//! of a step and its token.
+//! The result of a call, in words: `refuses`, the kind and the reason; `asks`, the transport, the
+//! KDC's URL in quotes and the request in hex; otherwise a word and octets in hex, such as the
+//! status of a step and its token.
 
 use crate::tests::checks::{Test, given, halves, holds};
 use crate::tests::octets::octets;
@@ -119,7 +119,7 @@ pub fn of_sizes(rt: &impl Test, sizes: ContextSizes) -> String {
     )
 }
 
-/// The buffers are those of the handle, others, or none.
+/// Whether the buffers are those of the handle, others, or none.
 fn buffers(
     handle: &Option<CredentialsBuffers>,
     buffers: &Option<CredentialsBuffers>,
@@ -144,7 +144,7 @@ pub fn of_buffers(
     }
 }
 
-/// A question that is wanted: the request stands in the words of `octets`.
+/// An expected question: its request is in the words of `octets`.
 fn wanted_question(rt: &impl Test, tokens: &str, words: &str) -> String {
     let (protocol, words) = halves(words);
     let (url, words) = halves(words);
@@ -152,7 +152,7 @@ fn wanted_question(rt: &impl Test, tokens: &str, words: &str) -> String {
     with_octets(rt, &word, &octets(rt, tokens, words))
 }
 
-/// What is wanted, in the same words.
+/// What is expected, in the same words.
 pub fn wanted(rt: &impl Test, tokens: &str, text: &str) -> String {
     let (word, rest) = halves(text);
     match word {

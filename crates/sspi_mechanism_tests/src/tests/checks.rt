@@ -14,12 +14,12 @@ pub fn holds(rt: &impl Abort, fact: bool, what: &str) {
     assert!(rt; fact, "{what}");
 }
 
-/// Ends the test unless what came of this line is wanted.
+/// Ends the test unless the result of this line is the expected one.
 pub fn comes(rt: &impl Abort, line: &str, came: &str, wanted: &str) {
     assert!(rt; came == wanted, "{line}: {came}");
 }
 
-/// The value of a call that is not to be refused.
+/// The value of a call that must not be refused.
 pub fn given<T, E: Drop>(rt: &impl Abort, answer: Result<T, E>) -> T {
     match answer {
         Ok(value) => value,
@@ -27,13 +27,13 @@ pub fn given<T, E: Drop>(rt: &impl Abort, answer: Result<T, E>) -> T {
     }
 }
 
-/// Puts a value in the place of another. Generic, as `lend` is: to drop a value of a type parameter
-/// is one step of a proof, and to drop an end or a configuration is many.
+/// Puts a value in place of another. Generic, as `lend` is: dropping a value of a type parameter is
+/// one proof step, and dropping an end or a configuration is many.
 pub fn put<T: Drop>(place: &mut T, value: T) {
     *place = value;
 }
 
-/// Lends a value, and drops it then.
+/// Lends a value, then drops it.
 pub fn lend<T: Drop, R, F: FnOnce(&T) -> R>(value: T, act: F) -> R
     requires { F.IsAlwaysCallable act }
 {
@@ -44,7 +44,7 @@ pub fn text(rt: &impl Test, text: &str) -> Text {
     given(rt, Text::from_text(rt.alloc(), text))
 }
 
-/// Two texts in one.
+/// Two texts joined.
 pub fn joined(rt: &impl Test, first: &str, second: &str) -> String {
     let mut text = given(rt, String::from_str(rt.alloc(), first));
     given(rt, text.push_str(second));

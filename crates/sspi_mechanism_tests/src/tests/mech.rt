@@ -1,4 +1,4 @@
-//! Scripts of calls on the plain mechanisms, with what each has to answer.
+//! Scripts of calls on the plain mechanisms, with what each must answer.
 
 mod asks;
 mod configurations;

@@ -1,4 +1,4 @@
-//! Scripts of tokens for both ends, with what each step has to answer.
+//! Scripts of tokens for both ends, with what each step must answer.
 
 mod addresses;
 mod choices;

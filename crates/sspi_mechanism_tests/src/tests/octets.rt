@@ -1,7 +1,7 @@
-//! Bytes in words. A word is digits of hex, one byte of them and how often it comes, as `61*300`, a
-//! text in quotes, as `'KA'`, or the name of a token, which begins with a capital letter. A text of
-//! tokens has a line `NAME = WORDS` for each, without names among the words, and lines after it
-//! that only go on with it.
+//! Bytes in words. A word is hex digits; a byte in hex and how often it comes, as in `61*300`; a
+//! text in quotes, as in `'KA'`; or the name of a token, which begins with a capital letter. A text
+//! of tokens has a line `NAME = WORDS` for each, without names among the words, and lines after it
+//! that only continue it.
 
 use crate::tests::checks::{Test, given, holds};
 
@@ -17,7 +17,7 @@ fn push_many(rt: &impl Test, digits: &str, times: &str, octets: &mut Vec<u8>) {
     }
 }
 
-/// What stands before the closing quote.
+/// Adds the text before the closing quote.
 fn push_text(rt: &impl Test, text: &str, octets: &mut Vec<u8>) {
     let text = given(rt, text.strip_suffix("'").ok_or(()));
     given(rt, octets.extend_from_slice(text.as_bytes()));
@@ -39,7 +39,7 @@ fn push_words(rt: &impl Test, words: &str, octets: &mut Vec<u8>) {
     }
 }
 
-/// The words of this line for this token, where the line defines it, or goes on with it.
+/// The words of this line for this token, if the line defines or continues it.
 fn words_for<'a>(line: &'a str, name: &str, inside: bool) -> Option<&'a str> {
     let (belongs, words) = match line.split_once(" = ") {
         Some((defined, words)) => (defined == name, words),
@@ -48,7 +48,7 @@ fn words_for<'a>(line: &'a str, name: &str, inside: bool) -> Option<&'a str> {
     if belongs { Some(words) } else { None }
 }
 
-/// A token that has no definition ends the test.
+/// Adds a token; one that has no definition ends the test.
 fn push_token(rt: &impl Test, tokens: &str, name: &str, octets: &mut Vec<u8>) {
     let before = octets.len();
     let mut inside = false;

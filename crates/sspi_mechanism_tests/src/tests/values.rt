@@ -1,5 +1,5 @@
-//! Values in words: names, identities, credentials and their buffers; and what the mechanisms are
-//! made of and handed.
+//! Values in words: names, identities, credentials and their buffers; and the configurations and
+//! arguments of the mechanisms.
 
 use crate::tests::checks::{Test, given, halves, text};
 use sspi_mech::{InitializeSecurityContext, KerberosConfig, NtlmConfig};
@@ -34,7 +34,7 @@ fn username(rt: &impl Test, word: &str) -> Username {
     given(rt, Username::parse(rt.alloc(), &name(rt, word)))
 }
 
-/// An identity in the words of its name and its password.
+/// An identity from the words of its name and its password.
 pub fn identity(rt: &impl Test, words: &str) -> AuthIdentity {
     let (name, password) = halves(words);
     AuthIdentity {
@@ -43,7 +43,7 @@ pub fn identity(rt: &impl Test, words: &str) -> AuthIdentity {
     }
 }
 
-/// The identities in lines of words.
+/// The identities from lines of words.
 pub fn identities(rt: &impl Test, lines: &str) -> Vec<AuthIdentity> {
     let mut identities = Vec::new(rt.alloc());
     for line in lines.lines() {
@@ -59,7 +59,7 @@ fn key_table(rt: &impl Test, name: &str) -> KeytabIdentity {
     }
 }
 
-/// Credentials in the words of an identity, or `key-table` and a name.
+/// Credentials from the words of an identity, or `key-table` and a name.
 pub fn credentials(rt: &impl Test, words: &str) -> Credentials {
     match words.strip_prefix("key-table ") {
         Some(name) => Credentials::Keytab(key_table(rt, name)),
@@ -72,7 +72,7 @@ fn utf16(rt: &impl Test, word: &str) -> Utf16Text {
     given(rt, Utf16Text::from_str(rt.alloc(), &name(rt, word)))
 }
 
-/// The buffers in the words of a domain, a user and a password, whether or not they make a name;
+/// The buffers from the words of a domain, a user and a password, whether or not they make a name;
 /// `-` is an empty domain.
 pub fn password_buffers(rt: &impl Test, words: &str) -> CredentialsBuffers {
     let (domain, words) = halves(words);
@@ -109,7 +109,7 @@ pub fn credentials_or_none(rt: &impl Test, words: &str) -> Option<Credentials> {
     }
 }
 
-/// What a client's step is handed.
+/// The arguments of a client's step.
 pub fn client_args<'a>(
     handle: Option<&'a CredentialsBuffers>,
     flags: ClientRequestFlags,
@@ -129,7 +129,7 @@ pub fn ntlm_config(rt: &impl Test) -> NtlmConfig {
     NtlmConfig::new(text(rt, "CLIENT"))
 }
 
-/// A configuration with these KDCs, and perhaps one for every realm.
+/// A configuration with these KDCs and, if given, one for every realm.
 pub fn kerberos_config(rt: &impl Test, kdc_url: Option<&str>, kdcs: KdcTable) -> KerberosConfig {
     KerberosConfig {
         kdc_url: kdc_url.map(|url| text(rt, url)),

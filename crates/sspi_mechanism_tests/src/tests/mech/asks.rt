@@ -1,9 +1,9 @@
-//! A client that asks a KDC as often as it may in its first step, and then is done.
+//! A client that asks a KDC as often as it may in its first step, and is then done.
 
 use sspi_testing::{Script, Told};
 use sspi_types::{ErrorKind, Reason, SecurityStatus};
 
-/// Asks as often as it may, and then is done; with no question it is done at once. It is no server.
+/// Asks as often as it may, and is then done; with no question left, at once. It is not a server.
 #[derive(Drop)]
 pub struct Asks;
 

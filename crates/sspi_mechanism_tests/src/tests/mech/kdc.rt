@@ -1,5 +1,5 @@
-//! What the laws of mechanisms give a caller that knows no more of one: its questions end, no step
-//! changes a count, and what it seals has a tag.
+//! What the laws give a caller that knows nothing else about a mechanism: its questions end, no
+//! step changes a count, and what it seals has a tag.
 ghost use Rattle.std.specs.Prelude.{◌≡◌, ◌≤◌, false, length, IfOk, OnOk};
 ghost use Rattle.sspi_mech.specs.Calls.{no_counts, one_sealing};
 
@@ -15,8 +15,8 @@ use sspi_types::{Bytes, ClientRequestFlags, DataRepresentation, Error, ErrorKind
 use std::alloc::Global;
 use std::process::Abort;
 
-/// A client's step with no token, each of its questions answered by `reply`, and how many they
-/// were.
+/// A client's step with no token, each of its questions answered by `reply`, and the number of its
+/// questions.
 fn first_step<M: Mechanism>(client: &mut M, reply: &Reply) -> (Result<Step, Error>, u32)
     ensures waits { OnOk result.0 (M.meaning.waits client.new ≡ false) }
     ensures counts { M.meaning.counts client.new ≡ M.meaning.counts client.old }
@@ -76,13 +76,13 @@ fn seal_first<M: Mechanism>(
     })
 }
 
-/// The text `text` was sealed after so many questions.
+/// Whether `text` was sealed after this many questions.
 fn is_sealed<M>(first: &FirstBlob<M>, questions: u32) -> bool {
     first.questions == questions
         && first.blob.strip_prefix([0; 16].as_slice()) == Some(b"text".as_slice())
 }
 
-/// Whether a new client seals after so many questions, each answered by `reply`.
+/// Whether a new client seals after this many questions, each answered by `reply`.
 fn seals_after<M: Mechanism>(
     alloc: Global,
     config: &NtlmConfig,
@@ -107,7 +107,7 @@ fn is_refused<M: Mechanism>(
     }
 }
 
-/// A client that asks so often seals after its questions.
+/// A client that asks `TIMES` times seals after its questions.
 fn seals<const TIMES: u32>(
     rt: &impl Abort,
     alloc: Global,

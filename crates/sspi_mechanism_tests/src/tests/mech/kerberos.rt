@@ -1,10 +1,10 @@
 //! Plain Kerberos: `ann@example.com`, a KDC for the realm EXAMPLE.COM, and a server whose ticket is
-//! the bytes `40` to `5f`. What the KDC and the ends send was computed apart, with another SHA-256;
-//! docs/WIRE.md derives it.
+//! the bytes `40` to `5f`. What the KDC and the ends send was computed separately, with another
+//! SHA-256; docs/WIRE.md derives it.
 
 use crate::tests::mech::script::run_kerberos;
 
-/// The messages of an exchange by the server's ticket and of one without a ticket, by the letters
+/// The messages of an exchange with the server's ticket and of one without, named by the letters
 /// that they begin with.
 pub const TOKENS: &str = r"
 KA = 'KAann@example.com'
@@ -122,8 +122,8 @@ fn keyed(rt: HostRuntime) {
     run_kerberos(&rt, TOKENS, KEYED);
 }
 
-/// The transport is told by the URL, that of the configuration before that of the table, and is TCP
-/// where the URL begins with none.
+/// The URL gives the transport, TCP if it names none. The URL of the configuration goes before that
+/// of the table.
 const URLS: &str = r"
 kdc EXAMPLE.COM udp://k
 handle - ann@example.com pw

@@ -1,5 +1,5 @@
 //! What plain Kerberos refuses, and in which order: replies of a KDC, names, the messages of a
-//! peer, and calls out of their place.
+//! peer, and calls out of sequence.
 
 use crate::tests::mech::kerberos::TOKENS;
 use crate::tests::mech::script::run_kerberos;

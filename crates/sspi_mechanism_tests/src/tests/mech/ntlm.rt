@@ -1,5 +1,5 @@
-//! Plain NTLM: `DOM\ann` with the password `pw`, and a challenge of zeros. What is hashed was
-//! computed apart.
+//! Plain NTLM: `DOM\ann` with the password `pw`, and a challenge of zeros. The hashes were computed
+//! separately.
 
 use crate::tests::mech::script::run_ntlm;
 
@@ -63,8 +63,8 @@ fn queries(rt: HostRuntime) {
     run_ntlm(&rt, TOKENS, QUERIES);
 }
 
-/// Each message has the number that is next in its own row: blobs and MICs, made and taken; and
-/// what was taken is not taken again.
+/// Each message has the next number in its own sequence: blobs or MICs, made or taken. What was
+/// taken is not taken again.
 const CLIENT_SEALS: &str = r"
 handle DOM ann pw
 make ntlm

@@ -1,4 +1,4 @@
-//! An object of a mechanism, for tests over any.
+//! An object of any mechanism, for the tests.
 
 use sspi_mech::{
     AcceptSecurityContext, InitializeSecurityContext, MechConfig, Mechanism, Progressing, Reply,

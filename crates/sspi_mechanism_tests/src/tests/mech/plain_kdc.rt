@@ -55,7 +55,7 @@ fn of_script(rt: &impl Test, script: &[Scripted], lines: &str) {
     calls(rt, &mut kdc, lines);
 }
 
-/// The two replies; then names that are not known, byte by byte, and requests of no form.
+/// The two replies; then unknown names, compared byte by byte, and malformed requests.
 const USUAL: &str = r"
 KA -> KB
 KT -> KS
@@ -83,7 +83,7 @@ const SCRIPT: [Scripted; 5] = [
     Scripted::Fail,
 ];
 
-/// Each call has its place in the script, one that fails too; calls past its end are usual.
+/// Each call has its place in the script, even one that fails; calls past its end are usual.
 const SCRIPTED: &str = r"
 KA -> 'KE' 01
 KA -> fails

@@ -1,5 +1,5 @@
-//! What the lines of a case say before its calls: what an object is made of, the object, and what
-//! its next step is handed.
+//! What the lines of a case set before its calls: an object's configuration, the object, and the
+//! arguments of its next step.
 
 use crate::tests::checks::{Test, given, halves, put};
 use crate::tests::mech::object::Object;
@@ -11,7 +11,7 @@ use sspi_types::{ClientRequestFlags, DataRepresentation, Error, ServerRequestFla
 use std::alloc::Global;
 use std::mem;
 
-/// What a case has said so far.
+/// What a case has set so far.
 #[derive(Drop)]
 pub struct Scene<M> {
     kdcs: KdcTable,
@@ -78,7 +78,7 @@ impl<M: Object> Scene<M> {
         }
     }
 
-    /// Takes a line that is no call.
+    /// Takes a line that is not a call.
     pub fn set(&mut self, rt: &impl Test, word: &str, words: &'static str) {
         match word {
             "kdc" => self.serve(rt, words),

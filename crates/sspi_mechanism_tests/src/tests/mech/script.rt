@@ -5,28 +5,28 @@
 //!     kdc-url URL                 the next object asks this KDC, whatever the realm
 //!     make CONFIGURATION          makes an object of `ntlm`, `kerberos`, or `kerberos+ticket`,
 //!                                 whose ticket is the bytes `40` to `5f`
-//!     handle DOMAIN USER PASSWORD the steps to come are handed these credentials, or
+//!     handle DOMAIN USER PASSWORD later steps are given these credentials, or
 //!                                 `key-table NAME`, or `none`
-//!     flags FLAG                  the steps to come ask for this flag, or `none`
+//!     flags FLAG                  later steps ask for this flag, or `none`
 //!     state 2 left                how often a KDC may still be asked, with `, waits` and
-//!                                 `, user to user` where it is so
+//!                                 `, user to user` if that applies
 //!     package NAME MOST           its entry: the name, and the most bytes of a token
 //!     sizes 2010 16 0 16          the most bytes of a token and of a signature, a block, and the
 //!                                 trailer of a blob
 //!
-//! and the calls, with what comes of each behind an arrow, where OCTETS are in the words of
+//! and the calls, with the result of each after an arrow, where OCTETS are in the words of
 //! `octets`:
 //!
 //!     initialize OCTETS -> ContinueNeeded OCTETS    a client's step, its status and its token
 //!     accept OCTETS -> Ok OCTETS                    a server's step
-//!     resume OCTETS -> asks Tcp 'URL' OCTETS        the KDC answered this; another question comes
+//!     resume OCTETS -> asks Tcp 'URL' OCTETS        the KDC answered; another question follows
 //!     fail -> refuses KIND REASON                   the KDC did not answer
 //!     acquire USE CREDENTIALS -> gives-handle       credentials by NAME PASSWORD,
 //!                                                   `key-table NAME` or `none`
 //!     names -> gives OCTETS                         the name of the context
 //!     key -> gives OCTETS                           its session key
 //!     complete -> Ok                                the end of the authentication
-//!     identify CREDENTIALS; CREDENTIALS -> takes    the server is told who its peer may be, or by
+//!     identify CREDENTIALS; CREDENTIALS -> takes    tells the server who its peer may be, or with
 //!                                                   `none` nobody
 //!     seal OCTETS -> gives OCTETS                   and `unseal`, and `sign`
 //!     verify OCTETS : OCTETS -> takes               a MIC and its text
@@ -91,7 +91,7 @@ fn verify(rt: &impl Test, tokens: &str, object: &mut impl Object, words: &str) -
     }
 }
 
-/// What comes of a text that is sealed, opened or signed.
+/// The result of sealing, opening or signing a text.
 fn protect(
     rt: &impl Test,
     tokens: &str,
@@ -108,7 +108,7 @@ fn protect(
     of_octets(rt, answer)
 }
 
-/// What comes of a call that is no step.
+/// The result of a call that is not a step.
 fn call(
     rt: &impl Test,
     tokens: &str,
@@ -131,7 +131,7 @@ fn call(
     }
 }
 
-/// What comes of any call.
+/// The result of any call.
 fn came<M: Object>(rt: &impl Test, tokens: &str, scene: &mut Scene<M>, told: &str) -> String {
     let (word, words) = halves(told);
     match word {
@@ -186,8 +186,8 @@ fn lines<M: Object>(rt: &impl Test, tokens: &str, scene: &mut Scene<M>, script: 
     }
 }
 
-/// Each line of the script comes true of objects of this type; a text of tokens defines the names
-/// in it.
+/// Checks each line of the script on objects of this type; a text of tokens defines the names in
+/// it.
 fn run<M: Object>(rt: &impl Test, tokens: &str, script: &'static str) {
     let mut scene: Scene<M> = Scene::new(rt.alloc());
     lines(rt, tokens, &mut scene, script);

@@ -1,9 +1,9 @@
-//! Texts that are IP addresses, and texts that are none.
+//! Texts that are IP addresses, and texts that are not.
 
 use crate::tests::checks::{Test, holds};
 use sspi_negotiate::is_ip_text;
 
-/// Each line is an address, or none is.
+/// Every line is an address, or none is.
 fn are(rt: &impl Test, texts: &str, wanted: bool) {
     for text in texts.lines() {
         holds(rt, is_ip_text(text) == wanted, text);
@@ -37,7 +37,7 @@ fn addresses(rt: HostRuntime) {
     are(&rt, ADDRESSES, true);
 }
 
-/// The forms around their edges; the first line is empty.
+/// Forms that only resemble addresses; the first line is empty.
 const NO_ADDRESSES: &str = "
 host.example.com
 1.2.3

@@ -1,5 +1,5 @@
-//! Choices of a client and picks of a server where Kerberos may be used: `Told` stands in its
-//! place.
+//! Choices of a client and picks of a server where Kerberos may be used, with a mechanism of
+//! `told.rt` in its place.
 
 use crate::tests::negotiate::script::{run_beside_told, run_told};
 
@@ -84,9 +84,9 @@ fn choices(rt: HostRuntime) {
     run_beside_told(&rt, CLIENT_TOKENS, CHOICES);
 }
 
-/// Offers with a message that ends the authentication: Kerberos by both names and NTLM, by its own
-/// name alone, by its own name first, behind NTLM, and NTLM alone; and picks, with the message and
-/// the end, with the message, and alone.
+/// Offers with a message that ends the authentication: Kerberos by both names and NTLM; by its own
+/// name alone; by its own name first; after NTLM; and NTLM alone. Picks: with the message and the
+/// end, with the message, and alone.
 const SERVER_TOKENS: &str = r"
 THREE = 6039 0606 2b0601050502 a02f 302d
   a024 3022 0609 2a864882f712010202 0609 2a864886f712010202 060a 2b06010401823702020a

@@ -1,4 +1,4 @@
-//! The places of a client over plain NTLM.
+//! The stages of a client over plain NTLM.
 
 use crate::tests::negotiate::script::run_plain;
 use crate::tests::negotiate::tokens::NTLM;

@@ -1,4 +1,4 @@
-//! Configurations, their copies, and the mechanisms that are made of them.
+//! Configurations, their copies, and the mechanisms that are made from them.
 
 use crate::tests::checks::{Test, given, holds, lend};
 use crate::tests::negotiate::scene::{config, protocol_config};

@@ -1,11 +1,11 @@
 //! Whole negotiations over plain NTLM, from both ends, each of which takes exactly what the other
-//! sends. They come to one key, seen by what each end seals and the other opens, once, and to one
-//! name, with MICs on both sides.
+//! sends. They agree on one key, as each end opens once what the other seals, and on one name, with
+//! MICs on both sides.
 
 use crate::tests::negotiate::script::run_plain;
 
 /// The tokens and the first blobs of either end over a text, for `ann@example.com` and for
-/// `DOM\bob` without a password. They were computed apart, as docs/WIRE.md shows for `DOM\ann`.
+/// `DOM\bob` with no password. They were computed separately, as docs/WIRE.md shows for `DOM\ann`.
 const TOKENS: &str = r"
 OFFER = 6022 0606 2b0601050502 a018 3016 a00e 300c 060a 2b06010401823702020a a204 0402 4e31
 PICK = a123 3021 a003 0a0101 a10c 060a 2b06010401823702020a a20c 040a 4e32 0000000000000000

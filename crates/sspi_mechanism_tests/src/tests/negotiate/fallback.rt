@@ -1,6 +1,6 @@
-//! What comes of a Kerberos that is refused. `Told` stands in its place, beside plain NTLM, whose
-//! first step takes whatever comes; it refuses by `T`, `A`, `C` and `U` with the four kinds that
-//! stand for a Kerberos that cannot be had, and by `x` with another.
+//! What follows the refusal of Kerberos. A mechanism of `told.rt` is in its place, next to plain
+//! NTLM, whose first step takes any token. It refuses by `T`, `A`, `C` and `U` with the four kinds
+//! that mean that Kerberos is unavailable, and by `x` with another.
 
 use crate::tests::negotiate::script::{run_beside_told, run_told};
 
@@ -17,7 +17,7 @@ CHOICE-ASKED = a119 3017 a003 0a0101 a10b 0609 2a864882f712010202 a203 0401 '?'
 GOING = a10d 300b a003 0a0101 a204 0402 'ab'
 ";
 
-/// NTLM takes the place of Kerberos, which may not be used any more, and no question is left.
+/// NTLM takes the place of Kerberos, which may no longer be used, and no question is left.
 const FIRST_STEP: &str = r"
 handle DOM ann pw
 client kerberos
@@ -72,7 +72,7 @@ fn first_step(rt: HostRuntime) {
     run_beside_told(&rt, TOKENS, FIRST_STEP);
 }
 
-/// The same once a KDC has replied, to the first question or to a later one, or has not.
+/// The same once a KDC has replied, to the first question or a later one, or has failed to reply.
 const RESUMED: &str = r"
 handle DOM ann pw
 client kerberos

@@ -1,10 +1,10 @@
-//! Guests, whose agreement on NTLM needs no MIC: on a client by the user of the handle, on a server
+//! Guests, whose agreement on NTLM needs no MIC: a client goes by the user of the handle, a server
 //! by the name of the peer.
 
 use crate::tests::negotiate::script::run_plain;
 
-/// Names with their proofs: of a guest, of one in small letters, of a guest of a domain, and of one
-/// whose name only begins so; the MICs of a guest and of the last.
+/// Names with their proofs: of a guest, of one in lower case, of a guest of a domain, and of a user
+/// whose name only begins like that; the MICs of a guest and of that user.
 const TOKENS: &str = r"
 OFFER = 6022 0606 2b0601050502 a018 3016 a00e 300c 060a 2b06010401823702020a a204 0402 4e31
 PICK = a123 3021 a003 0a0101 a10c 060a 2b06010401823702020a a20c 040a 4e32 0000000000000000

@@ -1,12 +1,12 @@
-//! Negotiations over plain Kerberos, for `ann@example.com`. The KDC's replies are told by hand:
-//! `11` 32 times, and a session key of `22` 32 times; the server's ticket is `07` 32 times.
-//! docs/WIRE.md derives the tokens; the blobs and the proof of another key were computed apart in
-//! the same way.
+//! Negotiations over plain Kerberos, for `ann@example.com`. The KDC's replies are written by hand:
+//! a first key of `11` 32 times, and a session key of `22` 32 times. The server's ticket is `07` 32
+//! times. docs/WIRE.md derives the tokens; the blobs and the proof of another key were computed
+//! separately in the same way.
 
 use crate::tests::negotiate::script::run_plain;
 
-/// The questions for a first reply, and for a session key with the server's ticket and without one;
-/// the replies; the tokens of an exchange user-to-user, and of one to a service.
+/// The questions for a first key, and for a session key with the server's ticket and without one;
+/// the replies; the tokens of a user-to-user exchange, and of one with a service.
 const TOKENS: &str = r"
 FIRST-QUESTION = 'KA' 'ann@example.com'
 TICKET-QUESTION = 'KT' 11*32 07*32
@@ -195,9 +195,9 @@ fn kdcs(rt: HostRuntime) {
     run_plain(&rt, TOKENS, KDCS);
 }
 
-/// The KDC's refusals, by the number behind `KE`: 1 to 4 stand for a Kerberos that cannot be had,
-/// so that the client offers NTLM alone and takes no choice of Kerberos any more; 5 is a refusal of
-/// the user, which leaves the question waiting.
+/// The KDC's refusals, by the number after `KE`: 1 to 4 mean that Kerberos is unavailable, so the
+/// client offers only NTLM and no longer takes a choice of Kerberos; 5 is a refusal of the user,
+/// which leaves the question waiting.
 const FALLBACK: &str = r"
 handle - ann@example.com pw
 kdc-url tcp://kdc
@@ -423,8 +423,8 @@ fn malformed(rt: HostRuntime) {
     run_plain(&rt, TOKENS, MALFORMED);
 }
 
-/// A client that begins with Kerberos and comes to NTLM, whose MICs are then over all three names:
-/// the server may use NTLM alone, so the pick is the third, and the message of Kerberos is dropped.
+/// A client that begins with Kerberos and comes to NTLM, whose MICs are then over all three names.
+/// The server may use only NTLM, so the pick is the third, and the message of Kerberos is dropped.
 const NTLM_TOKENS: &str = r"
 THREE-OFFER = 6038 0606 2b0601050502 a02e 302c
   a024 3022 0609 2a864882f712010202 0609 2a864886f712010202 060a 2b06010401823702020a

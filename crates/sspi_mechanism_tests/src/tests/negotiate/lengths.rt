@@ -1,10 +1,10 @@
-//! Names of 65535 bytes, the most that the two bytes before a name in the plain mechanisms'
-//! messages can tell, and of one more.
+//! Names of 65535 bytes, the longest whose length fits the two bytes before it in a plain
+//! mechanism's message, and of one byte more.
 
 use crate::tests::negotiate::script::run_plain;
 
 /// With a name of 65535 letters: the tokens of NTLM, and the offer and the pick of Kerberos. The
-/// hashes were computed apart.
+/// hashes were computed separately.
 const TOKENS: &str = r"
 OFFER = 6022 0606 2b0601050502 a018 3016 a00e 300c 060a 2b06010401823702020a a204 0402 'N1'
 PICK = a123 3021 a003 0a0101 a10c 060a 2b06010401823702020a a20c 040a 'N2' 00*8

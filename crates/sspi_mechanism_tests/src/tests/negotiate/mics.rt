@@ -24,7 +24,7 @@ fn made(rt: &impl Test) -> Ntlm {
     given(rt, Ntlm::make(rt.alloc(), &MechConfig::Ntlm(&config)))
 }
 
-/// A step of a client, whatever comes of it.
+/// A step of a client, whatever its result.
 fn step(rt: &impl Test, ntlm: &mut Ntlm, ann: &CredentialsBuffers, input: &str) {
     let input = octets(rt, TOKENS, input);
     let flags = ClientRequestFlags::from_bits_retain(0);
@@ -70,7 +70,7 @@ fn before_a_key(rt: HostRuntime) {
     lacks_key(&rt, &mut NegotiatedProtocol::Ntlm(made(&rt)));
 }
 
-/// A MIC is verified as the next one, and once.
+/// A MIC is verified as the next one, and only once.
 fn has_key(rt: &impl Test, protocol: &mut Protocol) {
     let refusal = "refuses MessageAltered Tag";
     signs(rt, protocol, "LIST", "gives CLIENT-MIC");

@@ -1,4 +1,4 @@
-//! Package lists, and what the ends that are made of them have selected.
+//! Package lists, and what the ends that are made with them select.
 
 use crate::tests::came::refusal;
 use crate::tests::checks::{Test, comes, halves, holds, joined, lend};
@@ -82,7 +82,7 @@ fn server_begins<E: End>(rt: &impl Test, line: &str, config: &NegotiateConfig, w
     comes(rt, line, &begun, wanted);
 }
 
-/// A client and a server that begin with this mechanism come to that.
+/// Checks what a client and a server that begin with this mechanism select.
 fn begin<E: End>(
     rt: &impl Test,
     line: &str,
@@ -98,8 +98,8 @@ fn begin<E: End>(
 
 const NO_PACKAGE: &str = "refuses NoCredentials NoPackage";
 
-/// An end that begins with NTLM has it selected where its list allows it; else a client takes
-/// Kerberos, where that is allowed, and a server is not made.
+/// An end that begins with NTLM selects it if its list allows it. Otherwise a client takes
+/// Kerberos, if that is allowed, and a server is not made.
 fn beginning_with_ntlm(allowed: &str) -> (&'static str, &'static str) {
     match allowed {
         "both" => ("NTLM true", "NTLM true"),
@@ -109,8 +109,8 @@ fn beginning_with_ntlm(allowed: &str) -> (&'static str, &'static str) {
     }
 }
 
-/// One that begins with Kerberos has that selected where its list allows it, and else NTLM, where
-/// that is allowed.
+/// One that begins with Kerberos selects that if its list allows it, and otherwise NTLM, if that is
+/// allowed.
 fn beginning_with_kerberos(allowed: &str) -> (&'static str, &'static str) {
     match allowed {
         "both" => ("Kerberos true", "Kerberos true"),

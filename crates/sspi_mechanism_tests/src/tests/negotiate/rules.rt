@@ -1,5 +1,5 @@
-//! When a client takes another selected mechanism before a step: where a KDC serves the user's
-//! domain, and where the target is an address.
+//! When a client selects another mechanism before a step: if a KDC serves the user's domain, and if
+//! the target is an address.
 
 use crate::tests::negotiate::script::run_beside_told;
 

@@ -1,5 +1,5 @@
-//! What the lines of a case say before its calls: what an end is made of, the end, and what its
-//! next step is handed.
+//! What the lines of a case set before its calls: an end's configuration, the end, and the
+//! arguments of its next step.
 
 use crate::tests::checks::{Test, given, halves, lend, put, text};
 use crate::tests::negotiate::end::End;
@@ -13,7 +13,7 @@ use std::alloc::Global;
 use std::mem;
 use std::process::Abort;
 
-/// What a case has said so far.
+/// What a case has set so far.
 #[derive(Drop)]
 pub struct Scene<E> {
     known: Vec<AuthIdentity>,
@@ -84,7 +84,7 @@ pub fn config(rt: &impl Test, protocol: &str, packages: Option<&str>) -> Negotia
     config_with(rt, protocol, packages, None, KdcTable::new(rt.alloc()))
 }
 
-/// What was made, to be called.
+/// The value that was made, to be called.
 pub fn made<'a, E>(rt: &impl Abort, end: &'a mut Option<E>) -> &'a mut E {
     match end {
         Some(end) => end,
@@ -105,7 +105,7 @@ impl<E: End> Scene<E> {
         }
     }
 
-    /// The configuration in the words of a mechanism and a package list, where there is one.
+    /// The configuration from the words of a mechanism and, if there is one, a package list.
     fn config(&mut self, rt: &impl Test, words: &str) -> NegotiateConfig {
         let (protocol, packages) = halves(words);
         let packages = if packages.is_empty() {
@@ -141,7 +141,7 @@ impl<E: End> Scene<E> {
         given(rt, self.kdcs.push(realm, url));
     }
 
-    /// Takes a line that is no call.
+    /// Takes a line that is not a call.
     pub fn set(&mut self, rt: &impl Test, word: &str, words: &'static str) {
         match word {
             "known" => self.know(rt, words),

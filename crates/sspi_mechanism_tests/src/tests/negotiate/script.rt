@@ -6,29 +6,29 @@
 //!     kdc-url URL                 the next end's Kerberos asks this KDC, whatever the realm
 //!     client PROTOCOL [PACKAGES]  makes a client that begins with this mechanism and may use
 //!                                 these packages, or all
-//!     server PROTOCOL [PACKAGES]  makes a server; of `kerberos+ticket` its Kerberos has a ticket
-//!                                 of 32 bytes `07`
-//!     handle DOMAIN USER PASSWORD the steps to come are handed these credentials, or
+//!     server PROTOCOL [PACKAGES]  makes a server; with `kerberos+ticket` its Kerberos has a
+//!                                 ticket of 32 bytes `07`
+//!     handle DOMAIN USER PASSWORD later steps are given these credentials, or
 //!                                 `key-table NAME`, or `none`
-//!     flags FLAG                  the steps to come ask for this flag, or `none`, or all `others`
-//!     target NAME                 the steps to come are for this service
+//!     flags FLAG                  later steps ask for this flag, or `none`, or all `others`
+//!     target NAME                 later steps are for this service
 //!     state HAND, MIC needed      which mechanism is selected, and whether MICs are needed, or
 //!                                 `no MIC`
 //!     questions 2, one waits      how often a KDC may still be asked, and whether one is asked
 //!
-//! and the calls, with what comes of each behind an arrow, where OCTETS are in the words of
+//! and the calls, with the result of each after an arrow, where OCTETS are in the words of
 //! `octets`:
 //!
 //!     initialize OCTETS -> ContinueNeeded OCTETS    a client's step, its status and its token
 //!     accept OCTETS -> Ok OCTETS                    a server's step
-//!     resume OCTETS -> asks Tcp 'URL' OCTETS        the KDC answered this; another question comes
+//!     resume OCTETS -> asks Tcp 'URL' OCTETS        the KDC answered; another question follows
 //!     fail -> refuses KIND REASON                   the KDC did not answer
 //!     acquire USE CREDENTIALS -> gives-handle       credentials by NAME PASSWORD,
 //!                                                   `key-table NAME` or `none`
 //!     names -> gives OCTETS                         the name of the context
 //!     complete -> Ok                                the end of the authentication
-//!     identify CREDENTIALS -> takes                 the server is told an identity, or by `none`
-//!                                                   a list without any
+//!     identify CREDENTIALS -> takes                 gives the server an identity, or with `none`
+//!                                                   an empty list
 //!     seal OCTETS -> gives OCTETS                   and `unseal`
 
 use crate::tests::came::{
@@ -84,7 +84,7 @@ fn identify(rt: &impl Test, end: &mut impl End, words: &str) -> Result<(), Error
     }
 }
 
-/// What comes of a text that is sealed or opened.
+/// The result of sealing or opening a text.
 fn protect(rt: &impl Test, tokens: &str, end: &mut impl End, word: &str, words: &str) -> String {
     let text = octets(rt, tokens, words);
     let answer = match word {
@@ -94,7 +94,7 @@ fn protect(rt: &impl Test, tokens: &str, end: &mut impl End, word: &str, words: 
     of_octets(rt, answer)
 }
 
-/// What comes of a call that is no step.
+/// The result of a call that is not a step.
 fn call(
     rt: &impl Test,
     tokens: &str,
@@ -115,7 +115,7 @@ fn call(
     }
 }
 
-/// What comes of any call.
+/// The result of any call.
 fn came<E: End>(rt: &impl Test, tokens: &str, scene: &mut Scene<E>, told: &str) -> String {
     let (word, words) = halves(told);
     match word {
@@ -168,24 +168,23 @@ fn go_on<E: End>(rt: &impl Test, tokens: &str, scene: &mut Scene<E>, script: &'s
     }
 }
 
-/// Each line of the script comes true of ends of this type; a text of tokens defines the names in
-/// it.
+/// Checks each line of the script on ends of this type; a text of tokens defines the names in it.
 fn run<E: End>(rt: &impl Test, tokens: &str, script: &'static str) {
     let mut scene: Scene<E> = Scene::new(rt.alloc());
     go_on(rt, tokens, &mut scene, script);
 }
 
-/// The same of ends over the two plain mechanisms.
+/// The same for ends over the two plain mechanisms.
 pub fn run_plain(rt: &impl Test, tokens: &str, script: &'static str) {
     run::<Plain>(rt, tokens, script);
 }
 
-/// The same of ends over mechanisms that do as their tokens tell.
+/// The same for ends over mechanisms that do what their tokens say.
 pub fn run_told(rt: &impl Test, tokens: &str, script: &'static str) {
     run::<Negotiate<Scripted<Tokens, 3>, Scripted<Tokens, 2>>>(rt, tokens, script);
 }
 
-/// The same of ends over plain NTLM, with such a mechanism in the place of Kerberos.
+/// The same for ends over plain NTLM, with such a mechanism in place of Kerberos.
 pub fn run_beside_told(rt: &impl Test, tokens: &str, script: &'static str) {
     run::<Negotiate<Ntlm, Scripted<Tokens, 3>>>(rt, tokens, script);
 }

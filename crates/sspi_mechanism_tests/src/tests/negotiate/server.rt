@@ -1,4 +1,4 @@
-//! The places of a server over plain NTLM.
+//! The stages of a server over plain NTLM.
 
 use crate::tests::negotiate::script::run_plain;
 use crate::tests::negotiate::tokens::{LONGER_LISTS, NTLM};
@@ -53,9 +53,9 @@ fn later_choices(rt: HostRuntime) {
     run_plain(&rt, LONGER_LISTS, LATER_CHOICES);
 }
 
-/// The MIC is over the list as it is kept, encoded anew, and not over the bytes that came: NTLM
-/// alone, once with a length of two bytes where one would do, once with something after it that is
-/// no identifier, which ends the list.
+/// The MIC is over the list as it is kept, encoded anew, and not over the bytes received: NTLM
+/// alone, with a length of two bytes where one would do; and NTLM followed by something that is not
+/// an identifier, which ends the list.
 const SPELLINGS: &str = r"
 # The MIC over the shortest spelling.
 known DOM\ann pw
@@ -134,8 +134,8 @@ fn refused(rt: HostRuntime) {
     run_plain(&rt, NTLM, REFUSED);
 }
 
-/// A MIC is taken whatever result stands beside it, and only the client's first one over the list.
-/// NTLM has its message then, so that there is no second try.
+/// A MIC is taken with any result, and only if it is the client's first one over the list. By then
+/// NTLM has had its message, so there is no second try.
 const MICS: &str = r"
 known DOM\ann pw
 server ntlm ntlm
@@ -198,9 +198,9 @@ fn mics(rt: HostRuntime) {
     run_plain(&rt, NTLM, MICS);
 }
 
-/// A MIC that is missing is not excused by a client that holds the agreement for complete. Where
-/// the client does not, the server's own MIC would go first, for which NTLM has no key before an
-/// identity is found: beside accept-incomplete, another result and none.
+/// A missing MIC is not excused if the client reports that the agreement is complete. With any
+/// other result, the server's own MIC would go first, for which NTLM has no key before an identity
+/// is found. The results are accept-incomplete, another one and none.
 const NO_MICS: &str = r"
 known DOM\ann pw
 server ntlm ntlm
@@ -236,7 +236,7 @@ fn no_mics(rt: HostRuntime) {
     run_plain(&rt, NTLM, NO_MICS);
 }
 
-/// The name is compared without the case of its letters, but in its form; each of its identities is
+/// The name is compared without regard to case, but in its form; each identity of that name is
 /// tried; and a MIC is verified only once one of them is found.
 const IDENTITIES: &str = r"
 known DOM\bob pw

@@ -1,11 +1,11 @@
-//! The rows that plain NTLM does not come to: `Told` has the status that its token tells, and a MIC
-//! that is the list itself.
+//! Cases that plain NTLM does not reach, with a mechanism whose status is what its token says, and
+//! whose MIC is the list itself.
 
 use crate::tests::negotiate::script::run_told;
 
-/// What a mechanism is told stands in quotes; its own token is `ab` then. Tokens behind the offer:
-/// a token, an empty one, and each beside the own MIC, where the agreement is not held for complete
-/// and where it is; and the MIC alone.
+/// What a mechanism is told is in quotes; its own token is then `ab`. Tokens after the offer: a
+/// token, an empty one; the end's own MIC with a token or without, where the agreement is
+/// incomplete and where it is complete; and the MIC alone.
 const TOKENS: &str = r"
 OFFER = 6022 0606 2b0601050502 a018 3016 a00e 300c 060a 2b06010401823702020a a204 0402 'ab'
 EMPTY-OFFER = 6020 0606 2b0601050502 a016 3014 a00e 300c 060a 2b06010401823702020a a202 0400
@@ -184,8 +184,8 @@ fn first_steps(rt: HostRuntime) {
     run_told(&rt, TOKENS, FIRST_STEPS);
 }
 
-/// Each status but Ok and CompleteNeeded is passed on with the token; these two end the
-/// authentication, and a MIC beside them the negotiation.
+/// Each status except Ok and CompleteNeeded is passed on with the token. Those two end the
+/// authentication, and with a MIC also the negotiation.
 const LATER_STEPS: &str = r"
 known DOM\ann pw
 server ntlm ntlm

@@ -1,5 +1,5 @@
-//! Steps that ask a KDC: `Told` asks where it is told to by `?`, and what the KDC replies tells how
-//! it goes on.
+//! Steps that ask a KDC: a mechanism of `told.rt` asks when it is told `?`, and the KDC's reply
+//! says how it continues.
 
 use crate::tests::negotiate::script::run_told;
 

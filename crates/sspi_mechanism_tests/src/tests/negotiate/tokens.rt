@@ -1,5 +1,5 @@
-//! The tokens of `DOM\ann` with the password `pw`, where NTLM alone is offered and its challenge is
-//! zeros: docs/WIRE.md derives them, each from the inside out.
+//! The tokens of `DOM\ann` with the password `pw`, where only NTLM is offered and its challenge is
+//! zeros. docs/WIRE.md derives them, each from the inside out.
 
 pub const NTLM: &str = r"
 OFFER = 6022 0606 2b0601050502 a018 3016 a00e 300c 060a 2b06010401823702020a a204 0402 4e31
@@ -40,9 +40,9 @@ REFLECTED-PICK = a137 3035 a003 0a0101 a10c 060a 2b06010401823702020a a20c 040a 
   a312 0410 9579e8b49db2332ae5f5d92fc9491e35
 ";
 
-/// Lists of several mechanisms with NTLM in the last place: of Kerberos by both names, a mechanism
-/// that nobody knows and NTLM, and of Kerberos by both names and NTLM; with them the client's name
-/// and its MIC over that list, and the server's end.
+/// Lists of several mechanisms with NTLM last: Kerberos by both names, an unknown mechanism and
+/// NTLM; and Kerberos by both names and NTLM. With each come the client's name and MIC over that
+/// list, and the server's last token.
 pub const LONGER_LISTS: &str = r"
 FOUR-OFFER = 6044 0606 2b0601050502 a03a 3038
   a030 302e 0609 2a864882f712010202 0609 2a864886f712010202 060a 2b06010401823702021e 060a 2b06010401823702020a

@@ -1,14 +1,14 @@
-//! A mechanism that does as its token tells.
+//! A mechanism that does what its token says.
 
 use sspi_testing::{Script, Told};
 use sspi_types::{ErrorKind, Reason, SecurityStatus};
 
-/// The first byte of a token is the status or a refusal, and what follows is its own token. Told
-/// to, a client asks a KDC; the reply then tells what follows.
+/// The first byte of a token is the status or a refusal, and the rest is the mechanism's own token.
+/// On `?` a client asks a KDC; the reply then says what follows.
 #[derive(Drop)]
 pub struct Tokens;
 
-/// What a client is told to ask by.
+/// The token that makes a client ask.
 const QUESTION: &[u8] = b"?";
 
 fn status_of(word: u8) -> Option<SecurityStatus> {
@@ -32,7 +32,7 @@ fn refusal_of(word: u8) -> ErrorKind {
     }
 }
 
-/// The step that a token tells; it goes on where it tells nothing.
+/// The step that a token describes; an empty one continues.
 fn step_of<'a>(told: &'a [u8]) -> Told<'a> {
     let Some((word, output)) = told.split_first() else {
         return Told::Made(SecurityStatus::ContinueNeeded, b"");
