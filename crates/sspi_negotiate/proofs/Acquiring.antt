@@ -1,4 +1,4 @@
--- What comes of acquiring, once the mechanism is selected that acquires.
+-- The outcome of acquiring, once the mechanism that acquires is selected.
 use Rattle.std.proofs.Common.{◌≡◌, ◌≢◌, ◌&&◌, false, Option, option_map, Result, Ok, Err, IfOk, IfErr, OnOk, sym, ap, ◌∙◌, subst}
 use Rattle.sspi_types.specs.declared.credential_use.CredentialUse.{CredentialUse}
 use Rattle.sspi_types.specs.declared.error.Error.{Error}

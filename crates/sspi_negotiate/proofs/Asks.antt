@@ -1,4 +1,4 @@
--- A question of a resumed step to a KDC is one fewer to come, also where NTLM took the place of Kerberos.
+-- A resumed step's question to a KDC leaves fewer to come, even if NTLM has replaced Kerberos.
 use Rattle.std.proofs.Common.{◌≡◌, ◌&&◌, ◌<◌, ℕ, List, Bool, true, false, cond, refl, sym, ap, ◌∙◌, subst, arith}
 use Rattle.std.proofs.lemmas.Bool.{false≢true}
 use Rattle.sspi_types.specs.declared.error_kind.ErrorKind.{ErrorKind}
@@ -31,7 +31,7 @@ third true true d h = refl
 third true false d h = absurd (false≢true h)
 third false b d h = absurd (false≢true h)
 
--- the answer is no question
+-- the answer is not a question
 abbrev IsQuiet : {M : Type 0} → M → Answer → Values → Type 0
 IsQuiet m (Done step) v = Unit {0}
 IsQuiet m (Ask request) v = ⊥

@@ -1,4 +1,4 @@
--- The client's rows, of each way in which they may end: a fact of its steps is a record of its cases.
+-- The client's rows, with each way in which they may end: a fact of its steps is a record of cases.
 use Rattle.std.proofs.Common.{◌≡◌, ◌⊎◌, inl, inr, ◌&&◌, not, ℕ, Bool, true, false, List, [], Option, None, Some, option_map}
 use Rattle.std.proofs.Common.{option_and_then, cond, refl, ap}
 use Rattle.sspi_types.specs.declared.error.Error.{Error}
@@ -48,8 +48,8 @@ use Rattle.sspi_negotiate.proofs.Leads.{Leads, AtRefusal, Comes, by_itself, bad_
 use Rattle.sspi_negotiate.proofs.Leads.{goes, stops, takes, steps, resumes, either}
 use Rattle.sspi_negotiate.proofs.RowLeads.{written_leads, in_ntlm_leads, verifies_leads, completes_leads, signed_leads, carries_on_leads}
 
--- how what comes after the mechanism's step may end: after the first one, where Opens holds of the values, and after a later one,
--- where Good does
+-- how the rest may end after the mechanism's step: its first one, where Opens holds of the values,
+-- or a later one, where Good does
 pub record EndCases {M : Type 0} (c : Meaning Origin M) (R : M → Answer → Values → Type 0) (Opens Good : Values → Type 0) : Type 0 where
   -- the list is offered, or the step is refused
   pub offers : (m : M) (v : Values) (token text : List ℕ) →
@@ -58,7 +58,7 @@ pub record EndCases {M : Type 0} (c : Meaning Origin M) (R : M → Answer → Va
       (record v { state = states.InProgress; list = offered v.hand v.packages })
   pub unopened : (m : M) (v : Values) (branch : Branch) (error : Error) → Comes c error.error_type → Opens v →
       R m (Refused error) (record v { branch = branch })
-  -- it is refused, goes on, hands a MIC and waits for the peer's, or is over: the peer's MIC is verified, if there is a need
+  -- it is refused, goes on, sends a MIC and awaits the peer's, or ends: a needed MIC is verified
   pub refuses : (m : M) (v : Values) (branch : Branch) (error : Error) → Comes c error.error_type → Good v →
       R m (Refused error) (record v { branch = branch })
   pub goes_on : (m : M) (v : Values) (step : Step) → is_ok step.status ≡ false → Good v → R m (Done step) v
@@ -67,7 +67,7 @@ pub record EndCases {M : Type 0} (c : Meaning Origin M) (R : M → Answer → Va
   pub is_over : (m : M) (v : Values) (output : List ℕ) → (v.need ≡ false) ⊎ IsVerified c v.list m → Good v →
       R m (Done (record { status = statuses.Ok; output = output })) (record v { state = states.Ok })
 
--- the mechanism's step itself: it may wait for a KDC, and NTLM may make the first one in the place of Kerberos
+-- the mechanism's step: it may wait for a KDC, and NTLM may make the first one instead of Kerberos
 pub record StepCases {M : Type 0} (c : Meaning Origin M) (R : M → Answer → Values → Type 0) (Opens Good : Values → Type 0) : Type 0 where
   pub after : EndCases c R Opens Good
   pub opening : (m : M) (v : Values) (first : FirstStep) (q : NetworkRequest) → Opens v → R m (Ask q) (record v { branch = Opening first })
@@ -204,7 +204,7 @@ module _ {M : Type 0} (c : Meaning Origin M) (R : M → Answer → Values → Ty
       (λ m1 kind comes. stops c R _ kind m1 comes
       (λ m2 error why. cases.after.refuses m2 (record v { branch = Idle }) (Answering token) error why g))
 
-  -- a step that goes on once a KDC has replied; without one that waits it is refused, and leaves all as it was
+  -- a step goes on once a KDC has replied; if none waits, it is refused and leaves all as it was
   pub resumed_leads : (v : Values) (reply : Reply) (m : M) → AtRefusal c R v →
       ((first : FirstStep) → v.branch ≡ Opening first → Opens (record v { branch = Idle })) →
       ((token : NegTokenTarg) → v.branch ≡ Answering token → Good (record v { branch = Idle })) → Leads c R (spnego_resumed v reply) m

@@ -1,4 +1,4 @@
--- Where MICs are needed, an end comes to its end past a MIC over the list that it keeps.
+-- Where MICs are needed, an end finishes only after a MIC over the list that it keeps.
 use Rattle.std.proofs.Common.{◌≡◌, ◌≢◌, ◌⊎◌, inl, inr, true, sym, subst, Ok}
 use Rattle.sspi_mech.specs.declared.step.Answer.TheVariants.{Done}
 use Rattle.sspi_mech.specs.declared.step.Reply.{Reply}

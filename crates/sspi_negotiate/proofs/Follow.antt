@@ -94,7 +94,7 @@ module _ {M : Type 0} {c : Meaning Origin M} {m m2 : M} {v2 : Values} where
         reached = inr (m1, Refused error, h, p.reached);
       }
 
-  -- the same of the kind under which the refusal goes on
+  -- the same for the kind with which the refusal goes on
   pub not_stepped_as : {r : Answer} {v : Values} {args : StepArgs} {go : Step → Plan} {fall : ErrorKind → Plan} (m1 : M) (error : Error)
       (kind : ErrorKind) → kind ≡ error.error_type → c.steps m args (Refused error) m1 → UnlessMemory r (kind ≢ InsufficientMemory) →
       Meets c (fall kind) m1 r v2 m2 → Meets c (Steps args v go fall) m r v2 m2

@@ -1,4 +1,4 @@
--- The selected mechanism is a context, and asks a KDC less often with each question.
+-- The selected mechanism is a context, and can ask a KDC less often after each question.
 use Rattle.std.proofs.Common.{◌≡◌, ◌⊎◌, ◌<◌, ℕ, List, refl, ap, arith, inl, inr}
 use Rattle.sspi_types.specs.declared.error.Error.{Error}
 use Rattle.sspi_names.specs.declared.network.NetworkRequest.{NetworkRequest}
@@ -35,7 +35,7 @@ module _ {N K : Type 0} (r q : ℕ) (n : Meaning Setting N) (k : Meaning Setting
   left_falls (hands.Kerberos m) (hands.Ntlm m2) b e h = absurd h
   left_falls (hands.Kerberos m) (hands.Kerberos m2) b e h = omega (arith, lk.resume_asks m m2 b e h)
 
-  -- an NTLM that was just made, and asked once
+  -- an NTLM that was just made, and has asked once
   pub left_again : (computer : List ℕ) (m m2 : NegotiatedProtocol N K) (a : StepArgs) (e : NetworkRequest) →
       (hand n k).made (in_place_of_kerberos computer) m →
       (hand n k).steps m a (Ask e) m2 → asks_left r n k m2 < r

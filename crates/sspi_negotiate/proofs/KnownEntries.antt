@@ -1,4 +1,4 @@
--- The entries of a name, one entry after the other.
+-- The entries of a name, one by one.
 use Rattle.std.proofs.Common.{◌≡◌, ◌<◌, ◌+◌, ◌++◌, ℕ, List, [], ◌∷◌, length, take, get_or}
 use Rattle.std.proofs.Common.{arith, ◌||◌, ◌==◌, cond, not, Bool, true, false, filter, map, refl, sym, ◌∙◌, ap, append-nil}
 use Rattle.std.specs.List.{list_any}
@@ -28,7 +28,7 @@ named_at entries name i d which lt item is =
     ∙ ap (λ e. named name (take i entries) ++ cond (is_named name e) (e ∷ []) []) (sym item)
     ∙ ap (λ b. named name (take i entries) ++ cond b (d ∷ []) []) is
 
--- an entry of that name is copied, and another is not
+-- an entry of that name is copied, any other is not
 pub named_taken : (entries : List AuthIdentity) (name : Name) (i : ℕ) (d : AuthIdentity) (before after : List AuthIdentity) →
     i < length entries →
     d ≡ get_or entries i d → is_named name d ≡ true → after ≡ before ++ (d ∷ []) → before ≡ named name (take i entries) →

@@ -35,7 +35,7 @@ pub data Comes {M : Type 0} (c : Meaning Origin M) (kind : ErrorKind) : Type 0 w
   by_accept : (m m2 : M) (args : AcceptArgs) (error : Error) → c.accepts m args (Err error) m2 → error.error_type ≡ kind → Comes c kind
   by_call : (m : M) (call : Call) → c.refuses m call kind → Comes c kind
 
--- R is said of the mechanism that is left selected, the answer and the values
+-- R is a fact about the mechanism that is left selected, the answer and the values
 module _ {M : Type 0} (c : Meaning Origin M) (R : M → Answer → Values → Type 0) where
   pub record Leads (p : Plan) (m : M) : Type 0 where
     pub ends : (m2 : M) (r : Answer) (v2 : Values) → Follows c p m r v2 m2 → R m2 r v2
@@ -69,7 +69,7 @@ module _ {M : Type 0} (c : Meaning Origin M) (R : M → Answer → Values → Ty
   at_question {r = r} {v = v} {v2 = v2} {m2 = m2} stops comes on (refused error bad answer same) =
       at_end r (Refused error) v v2 m2 m2 answer same refl (stops m2 error (comes error bad))
 
-  -- ---- each way on
+  -- ---- each way to go on
 
   pub goes : (v : Values) (step : Step) (m : M) → R m (Done step) v → Leads (Goes v step) m
   goes v step m h = record { ends = λ m2 r v2 f. at_end r (Done step) v v2 m m2 f.0 f.1 f.2 h }

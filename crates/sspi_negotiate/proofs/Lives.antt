@@ -62,7 +62,7 @@ module _ {M : Type 0} (c : Meaning Origin M) where
   unfolding carries_on
   carries_on_still v token status m m2 r h = writes_still _ v v status m m2 r h
 
-  -- a step that signs does that alone
+  -- a step that signs does only that
   signs_once : (o : Option (List ℕ)) (v : Values) (rest : List ℕ → Plan) (m m2 : M) (r : Answer) →
       ((mic : List ℕ) (m1 : M) → Moved c (rest mic) m1 r m2 → ⊥) →
       Moved c (signs_text o v rest) m r m2 → m2 ≡ c.counted m (one_signing (c.counts m))

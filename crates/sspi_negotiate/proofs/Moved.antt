@@ -1,4 +1,4 @@
--- The steps of a negotiation, with what holds of out of memory too.
+-- The steps of a negotiation, with what also holds when out of memory.
 use Rattle.std.proofs.Common.{◌≡◌, ◌≢◌, ◌<◌, ◌↔◌, ◌&&◌, ℕ, Bool, true, false, IsTrue, Result, Ok, Err, OnErr, refl}
 use Rattle.sspi_types.specs.declared.error.Error.{Error}
 use Rattle.sspi_mech.specs.declared.step.Answer.{Answer}
@@ -125,7 +125,7 @@ module _ {N K : Type 0} (r q : ℕ) (n : Meaning Setting N) (k : Meaning Setting
     exact = exact;
   }
 
--- a further question to a KDC is one fewer to come
+-- each further question to a KDC leaves fewer to come
 pub resume_falls : {N K : Type 0} (r q : ℕ) (n : Meaning Setting N) (k : Meaning Setting K) → IsMechanism r n → IsMechanism q k →
     (s : Negotiation (NegotiatedProtocol N K)) (reply : Reply) (result : Result Progressing Error)
     (s2 : Negotiation (NegotiatedProtocol N K)) →

@@ -1,4 +1,4 @@
--- The rows that both ends of a negotiation have in common, of each way in which they may end.
+-- The rows that both ends of a negotiation have in common, with each way in which they may end.
 use Rattle.std.proofs.Common.{◌≡◌, ◌==◌, ℕ, Bool, length, map, List, Option, None, Some, refl}
 use Rattle.sspi_types.specs.declared.error_kind.ErrorKind.TheVariants.{InternalError, NoCredentials}
 use Rattle.sspi_types.specs.declared.security_status.SecurityStatus.{SecurityStatus}
@@ -49,7 +49,7 @@ module _ {M : Type 0} (c : Meaning Origin M) (R : M → Answer → Values → Ty
   signs_leads None v rest m refuse h = stops c R v InternalError m (by_itself (unwritten refl)) refuse
   signs_leads (Some text) v rest m refuse h = signs c R text v rest m refuse (λ m1 mic same. h m1 mic (having_signed same))
 
-  -- the MIC of the list was verified, and is still what counts where the rest makes at most its own
+  -- the MIC of the list was verified, and still counts if the rest makes at most its own
   abbrev pub Onward : List (List ℕ) → Plan → Type 0
   Onward list rest = (m : M) → ((m2 : M) → Leaves c m m2 → IsVerified c list m2) → Leads c R rest m
 

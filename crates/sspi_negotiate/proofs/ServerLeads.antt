@@ -1,4 +1,4 @@
--- The server's rows, of each way in which they may end: a fact of its steps is a record of its cases.
+-- The server's rows, with each way in which they may end: a fact of its steps is a record of cases.
 use Rattle.std.proofs.Common.{◌≡◌, ◌≢◌, ◌⊎◌, inl, inr, ◌&&◌, ◌==◌, ℕ, Bool, true, false, List, [], Option, None, Some}
 use Rattle.std.proofs.Common.{refl, sym, subst, ◌∙◌}
 use Rattle.std.proofs.lemmas.Bool.{false≢true}
@@ -38,20 +38,20 @@ use Rattle.sspi_negotiate.proofs.Leads.{goes, stops, accepts, pairs, names, eith
 use Rattle.sspi_negotiate.proofs.RowLeads.{AtDone, writes_leads, in_ntlm_leads, checks_leads, completes_leads, signed_leads}
 use Rattle.sspi_negotiate.proofs.RowLeads.{carries_on_leads}
 
--- this is selected once this choice is taken: Kerberos is only chosen where it is, and NTLM where it may be used
+-- what a choice selects: Kerberos is chosen only if it is selected, NTLM only if it may be used
 abbrev pub IsTaken : Choice → PackageListConfig → Protocol → Protocol → Type 0
 IsTaken choices.MsKerberos packages held hand = (hand ≡ held) × (held ≡ protocols.Kerberos)
 IsTaken choices.Kerberos packages held hand = (hand ≡ held) × (held ≡ protocols.Kerberos)
 IsTaken choices.Ntlm packages held hand = (hand ≡ protocols.Ntlm) × (packages.ntlm ≡ true)
 
--- the need of MICs that is told with a pick: there is one, or the pick is the client's own choice, which may do without
+-- the need of MICs set with a pick: true, or as `needs_mic` says if the pick is the client's choice
 abbrev pub IsNeedOf : Picked → Values → AcceptArgs → Bool → Type 0
 IsNeedOf p v args need = (need ≡ true) ⊎ (((p.index == 0) ≡ true) × (b : Bool) × (need ≡ needs_mic v args b))
 
 pub record ServerCases {M : Type 0} (c : Meaning Origin M) (args : AcceptArgs) (R : M → Answer → Values → Type 0)
     (Before : Values → Type 0) (Chosen : Picked → Values → Type 0) (Good : Values → Type 0) : Type 0 where
   pub unready : (m : M) (v : Values) (error : Error) → Comes c error.error_type → Before v → R m (Refused error) v
-  -- the first step: the list is read and one of it is picked; then it is told, or the negotiation is over at once
+  -- the first step: one of the list is picked; that is reported, or the negotiation ends at once
   pub chooses : (v : Values) (token : NegTokenInit) (list : List (List ℕ)) (p : Picked) (hand : Protocol) → v.state ≡ states.Initial →
       init_of args.input ≡ Some token → token.mech_types ≡ Some list → pick list v.packages v.hand ≡ Some p →
       IsTaken p.choice v.packages v.hand hand → Before v → Chosen p (record v { list = list; hand = hand })
@@ -61,8 +61,8 @@ pub record ServerCases {M : Type 0} (c : Meaning Origin M) (args : AcceptArgs) (
       R m (Done (record { status = statuses.ContinueNeeded; output = output })) (record v { need = need; state = state })
   pub at_once : (m : M) (v : Values) (p : Picked) (output : List ℕ) (b : Bool) → (p.index == 0) ≡ true → needs_mic v args b ≡ false →
       Chosen p v → R m (Done (record { status = statuses.Ok; output = output })) (record v { need = false; state = states.Ok })
-  -- later steps: refused, or the authentication goes on, a MIC is handed, or it is over: the peer's MIC is verified or it is a
-  -- guest, if there is a need
+  -- later steps: refused, going on, sending a MIC, or over: if MICs are needed, the peer's is
+  -- verified or the peer is a guest
   pub later : (v : Values) → v.state ≢ states.Initial → v.state ≢ states.Ok → Before v → Good v
   pub refuses : (m : M) (v : Values) (error : Error) → Comes c error.error_type → Good v → R m (Refused error) v
   pub goes_on : (m : M) (v : Values) (step : Step) → is_over step.status ≡ false → Good v → R m (Done step) v

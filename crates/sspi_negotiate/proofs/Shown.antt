@@ -1,5 +1,5 @@
--- Where MICs are needed, a negotiation comes to its end only past a MIC over the list; and a server that needs them goes on to need
--- them, but of a guest.
+-- Where MICs are needed, a negotiation ends only after a MIC over the list; and a server that needs
+-- them still does, except of a guest.
 use Rattle.std.proofs.Common.{◌≡◌, ◌≢◌, ◌⊎◌, inl, inr, ℕ, Bool, true, false, List, refl, sym, ◌∙◌, subst}
 use Rattle.std.proofs.lemmas.Bool.{false≢true}
 use Rattle.sspi_mech.specs.declared.step.Answer.{Answer}
@@ -95,7 +95,7 @@ module _ {M : Type 0} (c : Meaning Origin M) where
   -- ---- the server
 
   module _ (old : Values) where
-    -- what a step leaves that is made, and a later one of the need
+    -- what a step that is made leaves, and what a later one leaves of the need
     abbrev pub ServerShown : M → Answer → Values → Type 0
     ServerShown m (Done step) v =
         IsShown old.list m v × (old.state ≢ states.Initial → old.need ≡ true → (v.need ≡ true) ⊎ IsGuestNamed c m)

@@ -1,4 +1,4 @@
--- No step of a negotiation seals or opens, also where out of memory breaks it off.
+-- No step of a negotiation seals or opens, even if running out of memory breaks it off.
 use Rattle.std.proofs.Common.{◌≡◌, ◌⊎◌, ap, inl, inr, ◌∙◌}
 use Rattle.sspi_types.specs.declared.error.Error.{Error}
 use Rattle.sspi_types.specs.declared.error_kind.ErrorKind.{ErrorKind}

@@ -1,4 +1,4 @@
--- Where the last `/` of a target stands.
+-- Where the last `/` of a target is.
 use Rattle.std.proofs.Common.{◌≡◌, ℕ, ◌+◌, ◌≤◌, List, false, true, cond, Option, Some, None, MatchOption, drop, sym, ap, ◌∙◌, arith}
 use Rattle.std.specs.List.{list_any, after_last}
 use Rattle.std.specs.Str.{IsCharBoundary}

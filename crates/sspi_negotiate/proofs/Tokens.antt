@@ -1,4 +1,4 @@
--- Tokens that are read and written on the way.
+-- Tokens that a step reads and writes.
 use Rattle.std.proofs.Common.{◌≡◌, ◌≢◌, ℕ, List, true, Option, Some, None, Result, Ok, Err, refl, sym, ap, ◌∙◌, subst, inl}
 use Rattle.std.proofs.lemmas.Bool.{false≢true}
 use Rattle.sspi_types.specs.declared.error.Error.{Error}
@@ -46,7 +46,7 @@ module _ {M : Type 0} {c : Meaning Origin M} {m : M} where
   spelled None plan x h after = absurd h
   spelled {r = r} {v2 = v2} {m2 = m2} (Some y) plan x h after = subst (λ z. Meets c (plan (Some z)) m r v2 m2) h after
 
--- where there is no token, that is told
+-- if there is no token, the refusal says so
 pub unread_told : {T : Type 0} (o : Option T) (error : Error) → ReadsAs o (Err error) →
     TellsKind (unread_refusal o) (Refused (error_of (refusal_of error)))
 unread_told None error h = ap (λ e. e.error_type) h
@@ -64,7 +64,7 @@ module _ {N K : Type 0} {n : Meaning Setting N} {k : Meaning Setting K} where
   spelled_part {v = v} {result = result} {old = old} {new = new} (Some y) part x h after = subst
       (λ z. Passes n k (part (Some z)) v old result new) h after
 
--- out of memory is no kind after which NTLM takes the place of Kerberos
+-- out of memory is not a kind after which NTLM replaces Kerberos
 pub fallback_is_other : (kind : ErrorKind) → is_fallback kind ≡ true → kind ≢ InsufficientMemory
 unfolding is_fallback
 fallback_is_other kind falls memory = absurd (false≢true (sym (ap is_fallback memory) ∙ falls))

@@ -1,4 +1,4 @@
--- A first step makes and verifies no MIC, also where out of memory breaks it off.
+-- A first step makes and verifies no MIC, even if running out of memory breaks it off.
 use Rattle.std.proofs.Common.{◌≡◌, ◌⊎◌, ◌==◌, ◌&&◌, ℕ, List, Option, None, Some, Bool, true, false, cond, Result, Ok, Err, refl, sym, subst, inl, inr}
 use Rattle.std.proofs.lemmas.Bool.{false≢true}
 use Rattle.sspi_types.specs.declared.error.Error.{Error}

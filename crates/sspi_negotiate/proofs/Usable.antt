@@ -1,4 +1,4 @@
--- That a server picks NTLM only where it may be used.
+-- A server picks NTLM only if it may be used.
 use Rattle.std.proofs.Common.{◌≡◌, ◌&&◌, ℕ, List, Option, None, Some, Bool, true, false, refl}
 use Rattle.sspi_negotiate.specs.declared.package_list.PackageListConfig.{PackageListConfig}
 use Rattle.sspi_negotiate.specs.declared.pick.Choice.{Choice}

@@ -33,7 +33,7 @@ lacks protocol (Some (AuthIdentity identity)) = false
 lacks protocols.Ntlm (Some (Keytab identity)) = true
 lacks protocols.Kerberos (Some (Keytab identity)) = false
 
--- Kerberos may take the place of NTLM on a client that is given a name and a password
+-- Kerberos may replace NTLM on a client that is given a name and a password
 abbrev pub acquired_url : Role → Values → Option Credentials → Option (List ℕ)
 acquired_url Client v None = None
 acquired_url Client v (Some (AuthIdentity identity)) = rule_url v identity.username

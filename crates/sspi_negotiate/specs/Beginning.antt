@@ -1,4 +1,4 @@
--- What a client's first step leaves selected and of the packages where it is refused, out of memory
+-- The selected mechanism and the packages that a client's refused first step leaves, out of memory
 -- included.
 use Rattle.std.specs.Prelude.{◌≡◌, ℕ, List, Option, Some, true, false}
 use Rattle.sspi_types.specs.declared.error.Error.{Error}
@@ -23,27 +23,27 @@ pub record OnlyNtlm (old new : Values) : Type 0 where
   pub hand : new.hand ≡ Ntlm
   pub packages : new.packages ≡ record old.packages { kerberos = false }
 
--- the two are as they were, or only NTLM is left, for a cause
+-- both are as they were, or only NTLM is left, for a cause
 pub data FallsBy (Cause : Type 0) (old new : Values) : Type 0 where
   unmoved : SameHand old new → FallsBy Cause old new
   by_cause : Cause → OnlyNtlm old new → FallsBy Cause old new
 
 module _ {N K : Type 0} (c : Meaning Origin (NegotiatedProtocol N K)) where
-  -- a Kerberos refuses a step with a kind after which NTLM takes its place
+  -- a Kerberos refuses a step with a kind after which NTLM replaces it
   abbrev pub Falls : NegotiatedProtocol N K → StepArgs → Type 0
   Falls m args = (hand_of m ≡ Kerberos) × (error : Error) × (m2 : NegotiatedProtocol N K) ×
       c.steps m args (Refused error) m2
       × (is_fallback error.error_type ≡ true)
 
-  -- the same of a step that a KDC has replied to
+  -- the same for a step that a KDC has replied to
   abbrev pub FallsResumed : NegotiatedProtocol N K → Reply → Type 0
   FallsResumed m reply = (hand_of m ≡ Kerberos) × (error : Error) × (m2 : NegotiatedProtocol N K) ×
       c.resumes m reply (Refused error) m2
       × (is_fallback error.error_type ≡ true)
 
-  -- What a client's refused first step leaves of the two: as they were, or Kerberos selected
-  -- because of the URL of a KDC, or only NTLM, because of the target's address or because the
-  -- selected Kerberos refused the step so.
+  -- What a client's refused first step leaves of the two: both as they were; Kerberos selected,
+  -- because of the URL of a KDC; or only NTLM, because of the target's address or such a refusal by
+  -- the selected Kerberos.
   pub data MayBegin (ByAddress : Type 0) (url : Option (List ℕ)) (args : StepArgs)
       (old new : Negotiation (NegotiatedProtocol N K)) :
       Type 0 where

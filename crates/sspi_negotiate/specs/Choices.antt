@@ -1,5 +1,5 @@
--- What a server's choice of a mechanism is to a client: one that a step has taken stays (RFC 4178,
--- section 4.2.2).
+-- What a server's choice of a mechanism means to a client: once taken by a step, it stays (RFC
+-- 4178, section 4.2.2).
 use Rattle.std.specs.Prelude.{ℕ, List, ◌&&◌, Option, None, Some, option_and_then, option_map, Bool}
 use Rattle.std.specs.Prelude.{true, false}
 use Rattle.sspi_mech.specs.declared.step.Answer.{Answer}
@@ -28,11 +28,11 @@ abbrev pub chosen_by : Option NegTokenTarg → Option Protocol
 chosen_by None = None
 chosen_by (Some token) = option_and_then protocol_of (option_map kind_of token.supported_mech)
 
--- the mechanism that the server's token chooses, if it is one that is known
+-- the mechanism that the server's token chooses, if it is a known one
 abbrev pub chosen_in : List ℕ → Option Protocol
 chosen_in input = chosen_by (targ_of input)
 
--- the same in a state: a choice is taken only while the selected mechanism authenticates
+-- the same for a state: a choice is taken only while the selected mechanism authenticates
 abbrev pub chosen_at : NegotiateState → List ℕ → Option Protocol
 chosen_at Initial input = None
 chosen_at InProgress input = chosen_in input
@@ -44,8 +44,7 @@ is_ntlm_choice None = false
 is_ntlm_choice (Some Kerberos) = false
 is_ntlm_choice (Some Ntlm) = true
 
--- whether a choice can take a client's need of MICs away: one of NTLM, which may be used, for a
--- guest
+-- whether a choice can drop a client's need of MICs: one of NTLM, which may be used, for a guest
 abbrev pub excuses_guest : Option Protocol → Values → StepArgs → Bool
 excuses_guest choice v args = is_ntlm_choice choice && v.packages.ntlm && is_guest args.handle
 
@@ -53,7 +52,7 @@ abbrev pub other_protocol : Protocol → Protocol
 other_protocol Kerberos = Ntlm
 other_protocol Ntlm = Kerberos
 
--- a fact where a step was made, or waits for a KDC
+-- a fact that holds if a step was made, or waits for a KDC
 abbrev pub UnlessRefused : Answer → Type 0 → Type 0
 UnlessRefused (Done step) P = P
 UnlessRefused (Ask request) P = P

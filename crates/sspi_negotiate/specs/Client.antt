@@ -46,13 +46,13 @@ use Rattle.sspi_negotiate.specs.Values.{Values, is_waiting}
 
 -- ---- the credentials of a step
 
--- the credentials, where they are a name and a password
+-- the credentials, if they are a name and a password
 abbrev pub passwords : Option CredentialsBuffers → Option CredentialsBuffers
 passwords None = None
 passwords (Some (AuthIdentity buffers)) = Some (AuthIdentity buffers)
 passwords (Some (Keytab identity)) = None
 
--- NTLM steps with the password that the client keeps, Kerberos with what the call hands it
+-- NTLM steps with the password that the client keeps, Kerberos with what the call passes in
 abbrev pub handle_for : Protocol → Option CredentialsBuffers → Option CredentialsBuffers →
     Option CredentialsBuffers
 handle_for protocols.Ntlm kept handle = passwords kept
@@ -101,7 +101,7 @@ has_begun statuses.NoLsaContext = false
 abbrev pub begun : Values → Step → Plan
 begun v step = if has_begun step.status then offers v step.output else Stops v InternalError
 
--- NTLM makes the first step in the place of Kerberos
+-- NTLM makes the first step in place of Kerberos
 unfoldable pub steps_again : Values → FirstStep → Plan
 steps_again v first =
     Steps (record {
@@ -121,7 +121,7 @@ falls_back v first =
       packages = record v.packages { kerberos = false };
     }) first)
 
--- the first step was refused: Kerberos gives way to NTLM after some kinds, where that may be used
+-- the first step was refused: after some kinds NTLM replaces Kerberos, if it may be used
 abbrev pub falls : Values → Values → FirstStep → ErrorKind → Plan
 falls w v first kind = if is_fallback kind && is_kerberos_hand v.hand && v.packages.ntlm
     then falls_back v first else Stops w kind
@@ -136,7 +136,7 @@ at_initial v args = first_step (first_step_of args)
 
 -- ---- InProgress
 
--- the negotiation is over; nothing is left to be sent where the server said that it is complete
+-- the negotiation is over; nothing is left to send if the server said that it is complete
 abbrev pub verified : Bool → Values → List ℕ → Plan
 verified true v token = Goes (record v { state = states.Ok })
     (record { status = statuses.Ok; output = [] })
@@ -147,7 +147,7 @@ unprotected true v token = Goes (record v { state = states.Ok })
     (record { status = statuses.Ok; output = [] })
 unprotected false v token = completes v token v.need
 
--- the authentication is over: by the need, and by the MIC of the server
+-- the authentication is over: what follows depends on the need and on the server's MIC
 abbrev pub settles : Bool → Option (List ℕ) → Bool → Values → List ℕ → Plan
 settles false mic complete v token = unprotected complete v token
 settles true (Some mic) complete v token = verifies mic v (verified complete v token)
@@ -170,7 +170,7 @@ stepped token v step =
     then settles v.need token.mech_list_mic (is_complete token.neg_result) v step.output
     else carries_on v step.output step.status
 
--- the selected mechanism takes the server's token, or nothing
+-- the selected mechanism takes the server's token, or an empty one
 unfoldable pub answers : NegTokenTarg → Values → StepArgs → Plan
 answers token v args =
     Steps (record (step_of v args) { input = or_empty token.response_token })
@@ -180,7 +180,7 @@ answers token v args =
 abbrev pub without_ntlm : Values → Values
 without_ntlm v = record v { packages = record v.packages { ntlm = false } }
 
--- a choice of Kerberos: a new one is taken where NTLM was selected, and then MICs are needed
+-- a choice of Kerberos: if NTLM was selected, a new Kerberos replaces it, and MICs are needed
 abbrev pub in_kerberos : Protocol → NegTokenTarg → Values → StepArgs → Plan
 in_kerberos protocols.Kerberos token v args = answers token v args
 in_kerberos protocols.Ntlm token v args =
@@ -191,7 +191,7 @@ unfoldable pub chooses_kerberos : NegTokenTarg → Values → StepArgs → Plan
 chooses_kerberos token v args = if v.packages.kerberos
     then in_kerberos v.hand token (without_ntlm v) args else Stops v InvalidToken
 
--- a choice of NTLM: MICs are needed but for a guest
+-- a choice of NTLM: MICs are needed, except for a guest
 unfoldable pub chooses_ntlm : NegTokenTarg → Values → StepArgs → Plan
 chooses_ntlm token v args =
     if v.packages.ntlm
@@ -209,7 +209,7 @@ chooses kinds.Kerberos token v args = chooses_kerberos token v args
 chooses kinds.Ntlm token v args = chooses_ntlm token v args
 chooses kinds.Other token v args = Stops v InvalidToken
 
--- a token without a choice changes nothing of the kind
+-- a token without a choice changes neither the mechanism, the packages nor the need
 abbrev pub chosen : Option MechKind → NegTokenTarg → Values → StepArgs → Plan
 chosen None token v args = answers token v args
 chosen (Some kind) token v args = chooses kind token v args
@@ -264,7 +264,7 @@ passwords_of (Some credentials) = password_buffers credentials
 unfoldable pub with_handle : Values → StepArgs → Plan
 with_handle v args = converts (passwords_of args.handle) v args
 
--- a target that is named by its IP address is for NTLM alone, where that may be used
+-- a target that is named by its IP address is for NTLM alone, if that may be used
 abbrev pub by_target : Bool → Values → StepArgs → Plan
 by_target ip v args =
     if ip && v.packages.ntlm
@@ -275,7 +275,7 @@ by_target ip v args =
     }) args)
     else with_handle v args
 
--- whether no step can be begun
+-- whether no step can begin
 abbrev pub is_closed : Role → NegotiateState → Branch → Bool
 is_closed Server state branch = true
 is_closed Client states.Initial branch = is_waiting branch
@@ -290,7 +290,7 @@ spnego_client ip v args = if is_closed v.role v.state v.branch then Stops v OutO
 
 -- ---- once a KDC has replied
 
--- refused, the step still waits
+-- if the mechanism refuses it, the step still waits
 unfoldable pub resumes_opening : FirstStep → Values → Reply → Plan
 resumes_opening first v reply =
     Resumes reply (record v { branch = Opening first }) (begun v)

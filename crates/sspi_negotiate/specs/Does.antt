@@ -1,4 +1,4 @@
--- That a call does what a plan says.
+-- What it means that a call does what a plan says.
 use Rattle.std.specs.Prelude.{◌≡◌, ◌≢◌, Bool, true, false, Result, Ok, Err}
 use Rattle.sspi_types.specs.declared.error.Error.{Error}
 use Rattle.sspi_types.specs.declared.error_kind.ErrorKind.TheVariants.{InsufficientMemory}
@@ -18,7 +18,7 @@ use Rattle.sspi_negotiate.specs.Reaches.{Reaches}
 use Rattle.sspi_negotiate.specs.Values.{Values, Negotiation, values_of}
 use Rattle.sspi_negotiate.specs.Verified.{HasNoMic}
 
--- a fact, but for a refusal when out of memory, which may come at any time
+-- a fact, except after a refusal when out of memory, which can happen at any time
 abbrev pub UnlessMemory : Answer → Type 0 → Type 0
 UnlessMemory (Done step) P = P
 UnlessMemory (Ask request) P = P
@@ -29,9 +29,8 @@ abbrev pub told : Result Step Error → Answer
 told (Ok step) = Done step
 told (Err error) = Refused error
 
--- The plan is followed to its end, but for a refusal when out of memory. That breaks it off, and
--- then too the selected mechanism is the one from before, or what the first calls of the plan made
--- of that.
+-- The plan is followed to its end, unless running out of memory breaks it off. Even then the
+-- selected mechanism is the one from before, or what the first calls of the plan made of it.
 pub record Meets {M : Type 0} (c : Meaning Origin M) (p : Plan) (m : M) (r : Answer) (v2 : Values)
     (m2 : M) : Type 0 where
   pub as_planned : UnlessMemory r (Follows c p m r v2 m2)
@@ -43,21 +42,21 @@ module _ {N K : Type 0} (n : Meaning Setting N) (k : Meaning Setting K) where
       Negotiation (NegotiatedProtocol N K) → Type 0
   Does p old r new = Meets (hand n k) p old.mech r (values_of new) new.mech
 
-  -- what was sealed and opened is as before, or nothing was, by a mechanism that was just taken
+  -- what was sealed and opened is as before, or a mechanism just taken has done neither
   abbrev pub StaysSilent : Negotiation (NegotiatedProtocol N K) →
       Negotiation (NegotiatedProtocol N K) → Type 0
   StaysSilent old new = NeitherSealsNorOpens ((hand n k).counts old.mech)
       ((hand n k).counts new.mech)
 
-  -- where no MIC was made or verified, none is
+  -- if no MIC was made or verified before, none was after
   abbrev pub StaysUnmarked : Negotiation (NegotiatedProtocol N K) →
       Negotiation (NegotiatedProtocol N K) → Type 0
   StaysUnmarked old new = HasNoMic ((hand n k).counts old.mech) →
       HasNoMic ((hand n k).counts new.mech)
 
--- what a refused call leaves as it was, the step that waits included: all but the selected
--- mechanism and the packages, which stay in agreement, the kept credentials and the need, and the
--- list that a server keeps
+-- What a refused call leaves as it was, including the step that waits. All but the selected
+-- mechanism and the packages, which stay consistent, the kept credentials, the need, and a server's
+-- list.
 pub record Stays (old new : Values) : Type 0 where
   pub role : new.role ≡ old.role
   pub state : new.state ≡ old.state
@@ -68,8 +67,8 @@ pub record Stays (old new : Values) : Type 0 where
   pub kdcs : new.kdcs ≡ old.kdcs
   pub branch : new.branch ≡ old.branch
 
--- what a refused resume leaves: the step waits on, and all is as it was, or it is over, and the
--- rest stays as after other refusals
+-- what a refused resume leaves: the step still waits and everything is as it was, or the step is
+-- over and the rest stays as after other refusals
 pub data WaitsOn {N K : Type 0} (waiting over new : Negotiation (NegotiatedProtocol N K)) : Type 0
   where
     as_before : new ≡ waiting → WaitsOn waiting over new
@@ -88,12 +87,12 @@ pub record StaysConfigured (old new : Values) : Type 0 where
   pub packages : new.packages ≡ old.packages
   pub kept : new.kept ≡ old.kept
 
--- where MICs were needed, they are, but for a guest who is excused
+-- if MICs were needed, they still are, except for a guest who is excused
 abbrev pub StaysNeeded : Bool → Values → Values → Type 0
 StaysNeeded excused old new = old.need ≡ true → excused ≡ false → new.need ≡ true
 
--- what a resumed step leaves: the need and the kept credentials, and, where the one that waits is
--- no first step, the list, the packages and what is selected
+-- what a resumed step leaves as it was: the need and the kept credentials and, unless a first step
+-- waits, the list, the packages and the name of the selected mechanism
 pub record StaysResumed (old new : Values) : Type 0 where
   pub need : new.need ≡ old.need
   pub kept : new.kept ≡ old.kept

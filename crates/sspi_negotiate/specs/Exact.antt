@@ -1,5 +1,4 @@
--- Refusals of a step for which no memory is asked, so that out of memory never comes in their
--- place.
+-- Refusals of a step that allocate nothing, and so are never reported as out of memory.
 use Rattle.std.specs.Prelude.{ℕ, List, Option, None, Some, Bool, true, false, not}
 use Rattle.sspi_types.specs.declared.error_kind.ErrorKind.{ErrorKind}
 use Rattle.sspi_types.specs.declared.error_kind.ErrorKind.TheVariants.{InvalidToken, OutOfSequence}
@@ -17,7 +16,7 @@ use Rattle.sspi_negotiate.specs.Client.{is_closed}
 use Rattle.sspi_negotiate.specs.Follows.{IsRefusal}
 use Rattle.sspi_negotiate.specs.Values.{is_waiting}
 
--- where there is such a refusal, the answer is one of this kind
+-- if there is such a refusal, the answer is a refusal of this kind
 abbrev pub TellsKind : Option ErrorKind → Answer → Type 0
 TellsKind None r = Unit {0}
 TellsKind (Some kind) r = IsRefusal kind r
@@ -26,13 +25,13 @@ abbrev pub kind_if : Bool → ErrorKind → Option ErrorKind
 kind_if true kind = Some kind
 kind_if false kind = None
 
--- bytes that begin with no token of the form that is read
+-- bytes that do not begin with a token of the form that is read
 abbrev pub unread_refusal : {T : Type 0} → Option T → Option ErrorKind
 unread_refusal None = Some InvalidToken
 unread_refusal (Some token) = None
 
--- a server's step: on a client, past the end, and for bytes that begin with no token of the form
--- that the state has
+-- a server's step: on a client, after the end, and for bytes that do not begin with a token of the
+-- form for the state
 abbrev pub server_refusal : Role → NegotiateState → List ℕ → Option ErrorKind
 server_refusal Client state input = Some OutOfSequence
 server_refusal Server states.Initial input = unread_refusal (init_of input)
@@ -40,11 +39,11 @@ server_refusal Server states.InProgress input = unread_refusal (targ_of input)
 server_refusal Server states.VerifyMic input = unread_refusal (targ_of input)
 server_refusal Server states.Ok input = Some OutOfSequence
 
--- a client's step, where none can begin
+-- a client's step, if none can begin
 abbrev pub client_refusal : Role → NegotiateState → Branch → Option ErrorKind
 client_refusal role state branch = kind_if (is_closed role state branch) OutOfSequence
 
--- a resumed step, where none waits
+-- a resumed step, if none waits
 abbrev pub resumed_refusal : Branch → Option ErrorKind
 resumed_refusal branch = kind_if (not (is_waiting branch)) OutOfSequence
 

@@ -1,4 +1,4 @@
--- After which refusals of Kerberos a client goes on with NTLM.
+-- The refusals of Kerberos after which a client goes on with NTLM.
 use Rattle.std.specs.Prelude.{Bool, true, false}
 use Rattle.sspi_types.specs.declared.error_kind.ErrorKind.{ErrorKind}
 use Rattle.sspi_types.specs.declared.error_kind.ErrorKind.TheVariants.{TimeSkew}

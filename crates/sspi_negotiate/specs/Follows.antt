@@ -1,4 +1,4 @@
--- What comes of a plan, each answer being one that the mechanism then selected gives.
+-- Where a plan leads, each answer being one that the mechanism selected at that point gives.
 use Rattle.std.specs.Prelude.{◌≡◌, ◌≢◌, Some, Ok, Err}
 use Rattle.sspi_types.specs.declared.error.Error.{Error}
 use Rattle.sspi_types.specs.declared.error_kind.ErrorKind.{ErrorKind}
@@ -20,14 +20,14 @@ IsRefusal kind (Done step) = ⊥
 IsRefusal kind (Ask request) = ⊥
 IsRefusal kind (Refused error) = error.error_type ≡ kind
 
--- A question that is answered or refused. Refused, the whole step is refused with the same error,
--- and leaves these values.
+-- A question that is answered or refused. If it is refused, so is the whole step, with the same
+-- error, and these values are left.
 pub data Asked {M T : Type 0} (Good : T → M → Type 0) (Bad : Error → M →
     Type 0) (r : Answer) (v v2 : Values) (m2 : M) : Type 0 where
   answered : (t : T) (m1 : M) → Good t m1 → Asked Good Bad r v v2 m2
   refused : (error : Error) → Bad error m2 → r ≡ Refused error → v2 ≡ v → Asked Good Bad r v v2 m2
 
--- A client's step is made, waits for a KDC, or is refused. Out of memory has no plan.
+-- A client's step is made, waits for a KDC, or is refused. No plan covers running out of memory.
 abbrev pub Went : {M : Type 0} → Answer → (Step → Type 0) → (ErrorKind → Type 0) → Answer → Values →
     Values → M → M → Type 0
 Went (Done step) go fall r v v2 m1 m2 = go step
@@ -35,12 +35,12 @@ Went (Ask request) go fall r v v2 m1 m2 = (r ≡ Ask request) × (v2 ≡ v) × (
 Went (Refused error) go fall r v v2 m1 m2 = (error.error_type ≢ InsufficientMemory) ×
     fall error.error_type
 
--- the mechanism refuses a call that is no step, and stays as it was
+-- the mechanism refuses a call that is not a step, and stays as it was
 abbrev pub RefusedTo : {M : Type 0} → Meaning Origin M → Call → M → Error → M → Type 0
 RefusedTo c call m error m2 = c.refuses m call error.error_type × (m2 ≡ m)
 
 module _ {M : Type 0} (c : Meaning Origin M) where
-  -- by this plan m becomes m2, the answer is r, and v2 are the values then
+  -- by this plan m becomes m2, the answer is r, and the values are then v2
   abbrev pub Follows : Plan → M → Answer → Values → M → Type 0
   Follows (Goes v step) m r v2 m2 = (r ≡ Done step) × (v2 ≡ v) × (m2 ≡ m)
   Follows (Stops v kind) m r v2 m2 = IsRefusal kind r × (v2 ≡ v) × (m2 ≡ m)

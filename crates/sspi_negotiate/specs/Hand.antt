@@ -14,18 +14,18 @@ use Rattle.sspi_negotiate.specs.declared.protocol.Protocol.TheVariants.{Kerberos
 use Rattle.sspi_negotiate.specs.declared.protocol_config.ProtocolConfig.{ProtocolConfig}
 use Rattle.sspi_negotiate.specs.declared.protocol_config.ProtocolConfig.TheVariants as configs
 
--- What a mechanism that is taken selected is made of: a configuration, or, in the place of an NTLM,
--- a Kerberos with this URL, these KDCs and this computer name.
+-- What a newly selected mechanism is made from: a configuration or, for a Kerberos in place of an
+-- NTLM, this URL, these KDCs and this computer name.
 pub data Origin : Type 0 where
   Configured : ProtocolConfig → Origin
   InPlaceOfNtlm : Option (List ℕ) → List KdcEntry → List ℕ → Origin
 
--- NTLM that comes in for Kerberos: its challenge is eight zero bytes
+-- an NTLM that replaces Kerberos: its challenge is eight zero bytes
 abbrev pub in_place_of_kerberos : List ℕ → Origin
 in_place_of_kerberos computer = Configured
     (configs.Ntlm (record { client_computer_name = Some computer; challenge = replicate 8 0 }))
 
--- Kerberos that comes in for NTLM
+-- a Kerberos that replaces NTLM
 abbrev pub kerberos_setting : Option (List ℕ) → List KdcEntry → List ℕ → Setting
 kerberos_setting url kdcs computer = OfKerberos
     (record { kdc_url = url; kdcs = kdcs; client_computer_name = computer })
@@ -64,8 +64,8 @@ abbrev pub is_ntlm_hand : Protocol → Bool
 is_ntlm_hand Kerberos = false
 is_ntlm_hand Ntlm = true
 
--- How often it may still ask a KDC. An NTLM may take the place of a Kerberos, and ask `requests`
--- times in its turn.
+-- How often it may still ask a KDC. An NTLM may replace a Kerberos, and then ask up to `requests`
+-- times.
 abbrev pub asks_left : {N K : Type 0} → ℕ → Meaning Setting N → Meaning Setting K →
     NegotiatedProtocol N K → ℕ
 asks_left requests n k (hands.Ntlm m) = n.left m

@@ -1,5 +1,5 @@
--- What a client's step may leave selected, of the packages, of the need of MICs, and keep, whatever
--- it answers.
+-- What a client's step may do to the selected mechanism, the packages, the need of MICs and the
+-- kept credentials, whatever it answers.
 use Rattle.std.specs.Prelude.{◌≡◌, ℕ, List, Option, Some, option_and_then, Bool, true, false}
 use Rattle.sspi_types.specs.declared.client_request_flags.ClientRequestFlags.{ClientRequestFlags}
 use Rattle.sspi_names.specs.Identity.{buffers_of, identity_of}
@@ -17,11 +17,11 @@ use Rattle.sspi_negotiate.specs.Rule.{rule_url}
 use Rattle.sspi_negotiate.specs.Target.{IsNamedByIp}
 use Rattle.sspi_negotiate.specs.Values.{Values}
 
--- the user that a call hands over with a name and a password
+-- the user whose name and password a call passes in
 abbrev pub user_of : Option CredentialsBuffers → Option Identity
 user_of handle = option_and_then identity_of (passwords_of handle)
 
--- the URL for which Kerberos takes the place of NTLM
+-- the URL for which Kerberos replaces NTLM
 abbrev pub user_url : Values → Option Identity → Option (List ℕ)
 user_url v user = option_and_then (λ identity. rule_url v identity.username) user
 
@@ -36,7 +36,7 @@ pub data MayHold (ByAddress : Type 0) (url : Option (List ℕ)) (choice : Option
       MayHold ByAddress url choice held new
 
 -- The packages are those from before, or one is disabled: Kerberos because of the target's address,
--- or the one beside the server's choice, which may be used.
+-- or the one not chosen by the server, whose choice may be used.
 pub data MayAllow (ByAddress : Type 0) (choice : Option Protocol)
     (old new : PackageListConfig) : Type 0 where
   as_allowed : new ≡ old → MayAllow ByAddress choice old new
@@ -64,7 +64,7 @@ pub data MayNeed (flags : ClientRequestFlags) (need new : Bool) : Type 0 where
   as_needed : new ≡ need → MayNeed flags need new
   as_asked : new ≡ client_wants_mic flags → MayNeed flags need new
 
--- what a client's later step leaves selected and of the packages
+-- the selected mechanism and the packages that a client's later step leaves
 abbrev pub StaysHeld : Values → StepArgs → Values → Type 0
 StaysHeld old args new = MayHave (IsNamedByIp args.target × (old.packages.ntlm ≡ true))
     (user_url old (user_of args.handle))

@@ -22,19 +22,19 @@ is_answering Idle = false
 is_answering (Opening first) = false
 is_answering (Answering token) = true
 
--- the list of mechanisms was offered, on a server read
+-- the list of mechanisms was offered or, on a server, read
 pub record HasList (v : Values) : Type 0 where
   pub begun : v.state ≢ Initial
   pub made : is_opening v.branch ≡ false
 
--- no package is enabled again, and the selected mechanism may be used
+-- no package is enabled again, and the selected mechanism may be used if that was so before
 pub record KeepsPackages (old : PackageListConfig) (held : Protocol) (new : PackageListConfig)
     (hand : Protocol) : Type 0 where
   pub ntlm : new.ntlm ≡ true → old.ntlm ≡ true
   pub kerberos : new.kerberos ≡ true → old.kerberos ≡ true
   pub in_hand : may_use old held ≡ true → may_use new hand ≡ true
 
--- besides, the list of mechanisms stays once it is there
+-- in addition, the list of mechanisms stays once it is there
 pub record Keeps (old new : Values) : Type 0 where
   pub packages : KeepsPackages old.packages old.hand new.packages new.hand
   pub list : HasList old → new.list ≡ old.list

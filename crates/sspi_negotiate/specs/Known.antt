@@ -6,6 +6,6 @@ use Rattle.sspi_names.specs.declared.identity.AuthIdentity.{AuthIdentity}
 abbrev pub is_named : Name → AuthIdentity → Bool
 is_named name identity = equals_ignoring_case identity.username name
 
--- those whose name is the peer's but for the case of ASCII letters
+-- those that have the peer's name, ignoring ASCII case
 unfoldable pub named : Name → List AuthIdentity → List AuthIdentity
 named name known = filter (is_named name) known

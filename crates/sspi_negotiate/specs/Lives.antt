@@ -1,4 +1,4 @@
--- What a server's later step may make of the selected mechanism.
+-- What a server's later step may do to the selected mechanism.
 use Rattle.std.specs.Prelude.{◌≡◌, ◌⊎◌, ℕ, List, Result}
 use Rattle.sspi_types.specs.declared.error.Error.{Error}
 use Rattle.sspi_names.specs.declared.credentials.Credentials.{Credentials}
@@ -9,7 +9,7 @@ use Rattle.sspi_negotiate.specs.Hand.{Origin}
 use Rattle.sspi_negotiate.specs.Verified.{Leaves}
 
 -- The mechanism that is left is the one from before: in this order, and each at most once, it took
--- a token, was told who its peer may be, verified a MIC and made one. No other is made.
+-- a token, got the peer's identities, verified a MIC and made one. No other is made.
 pub record LivesOn {M : Type 0} (c : Meaning Origin M) (args : AcceptArgs) (old new : M) : Type 0
   where
     pub stepped : M

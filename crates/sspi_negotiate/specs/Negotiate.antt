@@ -30,10 +30,10 @@ use Rattle.sspi_negotiate.specs.Server.{spnego_server}
 use Rattle.sspi_negotiate.specs.Target.{IsNamedByIp}
 use Rattle.sspi_negotiate.specs.Values.{Negotiation, values_of, is_waiting}
 
--- A step by a plan; before there is a list to protect it makes and verifies no MIC. Kept says what
--- a refused one leaves, and Protected what stays of the need of MICs; a refusal that asks no memory
--- is told with its kind (`Exact`). Of a step that out of memory breaks off the plan says what is
--- left selected (`Meets`), and the others hold of it too.
+-- A step by a plan. Until there is a list to protect, it makes and verifies no MIC. Kept says what
+-- a refused step leaves, and Protected how the need of MICs stays. A refusal that allocates nothing
+-- is reported with its own kind (`Exact`). If out of memory breaks a step off, the plan says what
+-- is left selected (`Meets`), and the other fields still hold.
 pub record Moves {N K : Type 0} (n : Meaning Setting N) (k : Meaning Setting K)
     (IsFirstStep Kept Protected : Type 0)
     (refusal : Option ErrorKind) (p : Plan) (s : Negotiation (NegotiatedProtocol N K)) (r : Answer)
@@ -45,8 +45,8 @@ pub record Moves {N K : Type 0} (n : Meaning Setting N) (k : Meaning Setting K)
   pub protected : Protected
   pub exact : TellsKind refusal r
 
--- what a refused resume leaves; of a first step, NTLM takes the place of Kerberos only where that
--- refuses the step so
+-- what a refused resume leaves; in a first step, NTLM replaces Kerberos only if Kerberos refuses
+-- the step with such a kind (`is_fallback`)
 pub record ResumeStays {N K : Type 0} (n : Meaning Setting N) (k : Meaning Setting K)
     (s : Negotiation (NegotiatedProtocol N K))
     (reply : Reply) (s2 : Negotiation (NegotiatedProtocol N K)) : Type 0 where
@@ -54,10 +54,10 @@ pub record ResumeStays {N K : Type 0} (n : Meaning Setting N) (k : Meaning Setti
   pub begun : is_opening s.branch ≡ true →
       FallsBy (FallsResumed (hand n k) s.mech reply) (values_of s) (values_of s2)
 
--- a client's step, whose plan depends on whether the target is named by its IP address; behind the
--- first one the need of MICs goes only where the server chooses NTLM for a guest, and what is
--- selected and the packages change only as StaysHeld says; a first one that is refused leaves of
--- the two what MayBegin says, and the need of MICs stays there or is what the flags say
+-- A client's step, whose plan depends on whether the target is named by its IP address. After the
+-- first one, MICs stop being needed only if the server chooses NTLM for a guest; the selection and
+-- the packages change only as StaysHeld says. If a first one is refused, MayBegin says what is left
+-- of those two. A first one keeps the need of MICs, or sets it as the flags say.
 pub record ClientMoves {N K : Type 0} (n : Meaning Setting N) (k : Meaning Setting K)
     (s : Negotiation (NegotiatedProtocol N K))
     (args : StepArgs) (r : Answer)
@@ -75,9 +75,9 @@ pub record ClientMoves {N K : Type 0} (n : Meaning Setting N) (k : Meaning Setti
       OnRefused r (MayBegin (hand n k) (IsNamedByIp args.target × (s.packages.ntlm ≡ true))
       (user_url (values_of s) (user_of args.handle)) args s s2)
 
--- a server's step, which leaves the packages and the kept credentials, and the need of MICs where
--- it is refused; once it has read the list, it leaves that and the name of the mechanism that it
--- picked, which lives on by its plan (`LivesOn`)
+-- A server's step, which keeps the packages and the kept credentials and, if it is refused, the
+-- need of MICs. Once the list was read, it keeps that and the name of the mechanism that was
+-- picked, which lives on by its plan (`LivesOn`).
 pub record ServerMoves {N K : Type 0} (n : Meaning Setting N) (k : Meaning Setting K)
     (s : Negotiation (NegotiatedProtocol N K))
     (args : AcceptArgs) (result : Result Step Error)
@@ -90,7 +90,7 @@ pub record ServerMoves {N K : Type 0} (n : Meaning Setting N) (k : Meaning Setti
   pub configured : StaysConfigured (values_of s) (values_of s2)
 
 module _ {N K : Type 0} (requests : ℕ) (n : Meaning Setting N) (k : Meaning Setting K) where
-  -- the entry of the package is always there
+  -- the package entry is always available
   abbrev pub Refuses : Negotiation (NegotiatedProtocol N K) → Call → ErrorKind → Type 0
   Refuses s (ToAcquire use_ asked) kind = RefusesToAcquire n k s use_ asked kind
   Refuses s ToDescribe kind = ⊥

@@ -20,7 +20,7 @@ use Rattle.sspi_negotiate.specs.Hand.{Origin, Configured, InPlaceOfNtlm, in_plac
 use Rattle.sspi_negotiate.specs.PackageList.{packages_of}
 use Rattle.sspi_negotiate.specs.Values.{Negotiation}
 
--- what an end of a negotiation is made of; a server also of the identities that it knows
+-- what an end of a negotiation is made from; for a server, also the identities that it knows
 pub data NegotiateSetting : Type 0 where
   ForClient : NegotiateConfig → NegotiateSetting
   ForServer : NegotiateConfig → List AuthIdentity → NegotiateSetting
@@ -63,7 +63,7 @@ abbrev pub IsUnmade : Result Origin ErrorKind → ErrorKind → Type 0
 IsUnmade (Ok origin) kind = ⊥
 IsUnmade (Err refusal) kind = refusal ≡ kind
 
--- the kind of a refusal, where only memory may be wanting for a mechanism that there is
+-- the kind of a refusal: only out of memory, if there is a mechanism to make
 abbrev pub TellsUnmade : Result Origin ErrorKind → ErrorKind → Type 0
 TellsUnmade (Ok origin) kind = kind ≡ InsufficientMemory
 TellsUnmade (Err refusal) kind = kind ≡ refusal

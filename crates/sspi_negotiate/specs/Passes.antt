@@ -12,7 +12,7 @@ use Rattle.sspi_negotiate.specs.Hand.{hand}
 use Rattle.sspi_negotiate.specs.Does.{Meets}
 
 module _ {N K : Type 0} (n : Meaning Setting N) (k : Meaning Setting K) where
-  -- a part of a step: done, whatever follows comes after it; refused, the whole step is refused
+  -- a part of a step: if it is done, the rest follows; if it is refused, so is the whole step
   abbrev pub Onward : {T : Type 0} → (Plan → Plan) → Values → Negotiation (NegotiatedProtocol N K) →
       Result T Error →
       Negotiation (NegotiatedProtocol N K) → Type 0

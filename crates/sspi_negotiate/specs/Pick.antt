@@ -1,4 +1,4 @@
--- Which of the mechanisms that a client offers its server picks (MS-SPNG 3.1.5).
+-- Which of the mechanisms that a client offers the server picks (MS-SPNG 3.1.5).
 use Rattle.std.specs.Prelude.{ℕ, List, [], ◌∷◌, ◌&&◌, ◌++◌, position, Option, None, Some, Bool}
 use Rattle.std.specs.Prelude.{true, false, if◌then◌else◌}
 use Rattle.sspi_tokens.specs.declared.oid.MechKind.{MechKind}
@@ -31,11 +31,11 @@ is_kind Ntlm kinds.Kerberos = false
 is_kind Ntlm kinds.Ntlm = true
 is_kind Ntlm kinds.Other = false
 
--- its first place in the list
+-- its first position in the list
 abbrev pub place_of : Choice → List (List ℕ) → Option ℕ
 place_of choice list = position (λ oid. is_kind choice (kind_of oid)) list
 
--- the mechanism, where it may be used and is offered, and else what comes after it
+-- the mechanism if it is offered, else `other`
 abbrev pub found_or : Choice → Option ℕ → Option Picked → Option Picked
 found_or choice None other = other
 found_or choice (Some index) other = Some (record { choice = choice; index = index })
@@ -44,16 +44,16 @@ abbrev pub picked_or : Bool → Choice → List (List ℕ) → Option Picked →
 picked_or false choice list other = other
 picked_or true choice list other = found_or choice (place_of choice list) other
 
--- Kerberos under its identifier of Windows 2000, then under its own, each where it may be used and
--- is selected; then NTLM, where it may be used
+-- Kerberos under its identifier of Windows 2000, then under its own, if it may be used and is
+-- selected; then NTLM, if it may be used
 abbrev pub pick : List (List ℕ) → PackageListConfig → Protocol → Option Picked
 pick list packages protocol =
     picked_or (packages.kerberos && is_kerberos_hand protocol) MsKerberos list
     (picked_or (packages.kerberos && is_kerberos_hand protocol) Kerberos list
     (picked_or packages.ntlm Ntlm list None))
 
--- what a client offers: Kerberos, under both identifiers, where it is selected, and NTLM where it
--- may be used
+-- what a client offers: Kerberos, under both identifiers, if it is selected, and NTLM if it may be
+-- used
 abbrev pub offered : Protocol → PackageListConfig → List (List ℕ)
 offered protocol packages =
     (if is_kerberos_hand protocol then ms_krb5 ∷ krb5 ∷ [] else []) ++

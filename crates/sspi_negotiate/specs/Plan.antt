@@ -1,6 +1,6 @@
 -- A step as a plan: what the selected mechanism is asked in turn, what is done with each answer,
--- and how it ends. The values beside a question are those that a refusal of it, or a request to a
--- KDC, leaves.
+-- and how the step ends. The values next to a question are those left if it is refused, or a KDC is
+-- asked.
 use Rattle.std.specs.Prelude.{ℕ, List, Bool}
 use Rattle.sspi_types.specs.declared.error_kind.ErrorKind.{ErrorKind}
 use Rattle.sspi_names.specs.Name.{Name}
@@ -16,9 +16,9 @@ pub data Plan : Type 0 where
   Goes : Values → Step → Plan
   -- it is refused with this kind
   Stops : Values → ErrorKind → Plan
-  -- another mechanism is made and taken selected
+  -- another mechanism is made and selected
   Takes : Origin → Plan → Plan
-  -- a client's step, and the same step once a KDC has replied; the last is what comes of a refusal
+  -- a client's step, and the same step once a KDC has replied; the last is what follows a refusal
   Steps : StepArgs → Values → (Step → Plan) → (ErrorKind → Plan) → Plan
   Resumes : Reply → Values → (Step → Plan) → (ErrorKind → Plan) → Plan
   -- a server's step

@@ -1,5 +1,5 @@
--- How far a step went by a plan, as the selected mechanism shows it, also where out of memory broke
--- the step off.
+-- How far a step got in a plan, as the selected mechanism shows, even if running out of memory
+-- broke the step off.
 use Rattle.std.specs.Prelude.{◌≡◌, ◌⊎◌, List, ℕ, Some, Result, Ok, Err}
 use Rattle.sspi_types.specs.declared.error.Error.{Error}
 use Rattle.sspi_types.specs.declared.error_kind.ErrorKind.{ErrorKind}
@@ -13,7 +13,7 @@ use Rattle.sspi_negotiate.specs.Hand.{Origin}
 use Rattle.sspi_negotiate.specs.Plan.{Plan, Goes, Stops, Takes, Steps, Resumes, Accepts, Pairs}
 use Rattle.sspi_negotiate.specs.Plan.{Names, Identifies, Signs, Verifies}
 
--- Behind a client's step nothing more, or what follows its answer. A request to a KDC ends the
+-- After a client's step comes nothing more, or what follows its answer. A request to a KDC ends the
 -- step.
 abbrev pub Onwards : {M : Type 0} → Answer → (Step → Type 0) → (ErrorKind → Type 0) → Answer → M →
     M → Type 0
@@ -21,13 +21,13 @@ Onwards (Done step) go fall r m1 m2 = (m2 ≡ m1) ⊎ go step
 Onwards (Ask request) go fall r m1 m2 = (m2 ≡ m1) × (r ≡ Ask request)
 Onwards (Refused error) go fall r m1 m2 = (m2 ≡ m1) ⊎ fall error.error_type
 
--- the same behind a server's step, whose refusal is that of the whole
+-- the same after a server's step, whose refusal refuses the whole
 abbrev pub Accepted : {M : Type 0} → Result Step Error → (Step → Type 0) → Answer → M → M → Type 0
 Accepted (Ok step) go r m1 m2 = (m2 ≡ m1) ⊎ go step
 Accepted (Err error) go r m1 m2 = (m2 ≡ m1) × (r ≡ Refused error)
 
 module _ {M : Type 0} (c : Meaning Origin M) where
-  -- m2 is what the first calls of this plan made of m, one of them at least; the answer is r
+  -- m2 is what the first calls of this plan made of m, at least one of them; the answer is r
   abbrev pub Moved : Plan → M → Answer → M → Type 0
   Moved (Goes v step) m r m2 = ⊥
   Moved (Stops v kind) m r m2 = ⊥

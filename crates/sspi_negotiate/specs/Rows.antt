@@ -26,8 +26,7 @@ use Rattle.sspi_negotiate.specs.Values.{Values}
 
 -- ---- flags, statuses and texts
 
--- whether a client asks for one of USE_SESSION_KEY and USE_DCE_STYLE, and a server for
--- USE_DCE_STYLE
+-- whether a client asks for USE_SESSION_KEY or USE_DCE_STYLE, and a server for USE_DCE_STYLE
 abbrev pub client_wants_mic : ClientRequestFlags → Bool
 client_wants_mic flags = (bit_and flags.0 0x20 == 0x20) || (bit_and flags.0 0x200 == 0x200)
 
@@ -66,7 +65,7 @@ targ result mech token mic = record {
   mech_list_mic = mic;
 }
 
--- a token that is empty is left out, and one that is left out is empty
+-- an empty token is left out, and one that is left out counts as empty
 abbrev pub if_some : List ℕ → Option (List ℕ)
 if_some [] = None
 if_some (byte ∷ bytes) = Some (byte ∷ bytes)
@@ -85,7 +84,7 @@ writes token v v2 status = written (spelled_targ token) v v2 status
 
 -- ---- the selected mechanism
 
--- NTLM is selected for what follows: a new one, where Kerberos was
+-- NTLM is selected for what follows: a new one, if Kerberos was selected
 abbrev pub in_ntlm : Protocol → List ℕ → Plan → Plan
 in_ntlm protocols.Ntlm computer rest = rest
 in_ntlm protocols.Kerberos computer rest = Takes (in_place_of_kerberos computer) rest
@@ -120,22 +119,22 @@ checks mic v rest = identifies v (verifies mic v rest)
 
 -- ---- the end of an authentication
 
--- the negotiation is over, without a MIC; whether MICs were needed is pinned with it
+-- the negotiation is over, without a MIC, and the need of MICs is set
 unfoldable pub completes : Values → List ℕ → Bool → Plan
 completes v token need = writes (targ AcceptComplete None (if_some token) None) v
     (record v { need = need; state = states.Ok }) statuses.Ok
 
--- the same with the own MIC over the list
+-- a step ends with a token that has this end's MIC over the list
 unfoldable pub answers_signed : NegResult → NegotiateState → SecurityStatus → Values → List ℕ → Plan
 answers_signed result state status v token =
     signs v (λ mic. writes (targ result None (if_some token) (Some mic)) v
     (record v { state = state }) status)
 
--- both MICs are made
+-- the negotiation ends with this end's MIC, once the peer's was verified
 abbrev pub completes_signed : Values → List ℕ → Plan
 completes_signed v token = answers_signed AcceptComplete states.Ok statuses.Ok v token
 
--- the own MIC goes first, and the peer's is to come
+-- this end's MIC goes first, and the peer's is still expected
 abbrev pub hands_mic : Values → List ℕ → Plan
 hands_mic v token = answers_signed AcceptIncomplete states.VerifyMic statuses.ContinueNeeded v token
 

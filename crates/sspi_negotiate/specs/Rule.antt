@@ -1,4 +1,4 @@
--- When a client takes Kerberos in the place of NTLM: where a KDC serves the domain of the name.
+-- When a client replaces NTLM by Kerberos: if a KDC serves the domain of the name.
 use Rattle.std.specs.Prelude.{◌≡◌, ℕ, List, ◌&&◌, Option, None, Some, if◌then◌else◌}
 use Rattle.sspi_names.specs.Kdcs.{url_of}
 use Rattle.sspi_names.specs.Name.{Name, domain_of}
@@ -14,7 +14,7 @@ abbrev pub url_for : List KdcEntry → Option (List ℕ) → Option (List ℕ)
 url_for kdcs None = None
 url_for kdcs (Some domain) = url_of kdcs domain
 
--- the URL for which Kerberos is taken, where NTLM is selected and Kerberos may be used
+-- the URL for which Kerberos is taken, if NTLM is selected and Kerberos may be used
 abbrev pub rule_url : Values → Name → Option (List ℕ)
 rule_url v name = if is_ntlm_hand v.hand && v.packages.kerberos then url_for v.kdcs (domain_of name)
     else None

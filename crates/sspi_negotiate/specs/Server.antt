@@ -31,18 +31,18 @@ use Rattle.sspi_negotiate.specs.Values.{Values}
 
 -- ---- Initial
 
--- the pick is told with this token, and the negotiation goes on
+-- the pick is reported with this token, and the negotiation goes on
 abbrev pub goes_on_with : Picked → Option (List ℕ) → Bool → NegotiateState → Values → Plan
 goes_on_with p token need state v =
     writes (targ AcceptIncomplete (Some (oid_of p.choice)) token None) v
     (record v { need = need; state = state }) statuses.ContinueNeeded
 
--- the pick is not the mechanism that the client likes best: its token is dropped, and the list is
--- to be protected
+-- the pick is not the mechanism that the client prefers: the client's token is dropped, and the
+-- list must be protected
 unfoldable pub drops : Picked → Values → Plan
 drops p v = goes_on_with p None true states.InProgress v
 
--- the pick is that mechanism, and the client sent no token for it
+-- the pick is the preferred mechanism, and the client sent no token for it
 unfoldable pub waits_for_token : Picked → Values → Bool → Plan
 waits_for_token p v need = goes_on_with p None need states.InProgress v
 
@@ -50,11 +50,11 @@ waits_for_token p v need = goes_on_with p None need states.InProgress v
 unfoldable pub goes_on : Picked → Values → Bool → Step → Plan
 goes_on p v need step = goes_on_with p (Some step.output) need states.InProgress v
 
--- the mechanism is over with this token, and MICs are to come
+-- the mechanism has finished with this token, and MICs are still to be exchanged
 unfoldable pub awaits_mic : Picked → Values → Step → Plan
 awaits_mic p v step = goes_on_with p (Some step.output) true states.VerifyMic v
 
--- the mechanism is over with this token, and so is the negotiation
+-- the mechanism has finished with this token, and so has the negotiation
 unfoldable pub ends_at_once : Picked → Values → Step → Plan
 ends_at_once p v step =
     writes (targ AcceptComplete (Some (oid_of p.choice)) (Some step.output) None) v
@@ -64,7 +64,7 @@ abbrev pub opens : Picked → Values → Step → Bool → Plan
 opens p v step need = if is_over step.status
     then (if need then awaits_mic p v step else ends_at_once p v step) else goes_on p v need step
 
--- whether MICs are needed where the client's choice stands; whether it authenticates user-to-user
+-- whether MICs are needed if the client's choice is picked; whether it authenticates user-to-user
 -- is known after the step
 abbrev pub needs_mic : Values → AcceptArgs → Bool → Bool
 needs_mic v args pairs = is_ntlm_hand v.hand || pairs || server_wants_mic args.requirements
@@ -78,7 +78,7 @@ first_token (Some token) p v args =
 unfoldable pub placed : Option (List ℕ) → Picked → Values → AcceptArgs → Plan
 placed token p v args = if p.index == 0 then first_token token p v args else drops p v
 
--- the mechanism that was picked is selected; a Kerberos is picked only where it is
+-- the mechanism that was picked is selected; Kerberos is picked only if it already is
 abbrev pub takes_pick : Choice → Option (List ℕ) → Picked → Values → AcceptArgs → Plan
 takes_pick choices.MsKerberos token p v args = placed token p v args
 takes_pick choices.Kerberos token p v args = placed token p v args
@@ -100,7 +100,7 @@ at_initial (Some token) v args = reads_list token.mech_types token.mech_token v 
 
 -- ---- InProgress
 
--- Beside accept-completed a MIC may be missing. A guest needs none, and the need goes once the
+-- With accept-completed a MIC may be missing. A guest needs none, and the need is dropped once the
 -- negotiation is over.
 abbrev pub excuses : Values → List ℕ → Name → Plan
 excuses v token name = if is_guest_text (inner_of name) then completes v token false
@@ -110,7 +110,7 @@ unfoldable pub without_mic : Bool → Values → List ℕ → Plan
 without_mic true v token = Names v (λ name. excuses v token name)
 without_mic false v token = hands_mic v token
 
--- the authentication is over: by the need, and by the MIC of the client
+-- the authentication is over: what follows depends on the need and on the client's MIC
 abbrev pub settles : Bool → Option (List ℕ) → Bool → Values → List ℕ → Plan
 settles false mic complete v token = completes v token v.need
 settles true (Some mic) complete v token = checks mic v (completes_signed v token)

@@ -4,8 +4,7 @@ use Rattle.sspi_types.specs.declared.error.Error.{Error}
 use Rattle.sspi_types.specs.declared.error_kind.ErrorKind.TheVariants.{InternalError}
 use Rattle.sspi_types.specs.declared.error_kind.ErrorKind.TheVariants.{InsufficientMemory}
 
--- exactly this text, or `InternalError` where there is none; out of memory may come in place of a
--- text
+-- exactly this text, unless memory runs out, or `InternalError` if there is none
 abbrev pub IsSpelled : Option (List ℕ) → Result (List ℕ) Error → Type 0
 IsSpelled (Some text) (Ok bytes) = bytes ≡ text
 IsSpelled (Some text) (Err error) = error.error_type ≡ InsufficientMemory

@@ -6,7 +6,7 @@ use Rattle.sspi_negotiate.specs.IpText.{IsIpText}
 abbrev pub is_slash : ℕ → Bool
 is_slash byte = byte == 47
 
--- what stands behind the last `/` of a target, as the host of `TERMSRV/host`
+-- what follows the last `/` of a target, as `host` in `TERMSRV/host`, or all of it without one
 abbrev pub host_of : List ℕ → List ℕ
 host_of target = if list_any is_slash target then after_last is_slash target else target
 

@@ -1,4 +1,4 @@
--- That a pick of NTLM may be used.
+-- What it means that a picked NTLM may be used.
 use Rattle.std.specs.Prelude.{◌≡◌, Option, None, Some, true}
 use Rattle.sspi_negotiate.specs.declared.package_list.PackageListConfig.{PackageListConfig}
 use Rattle.sspi_negotiate.specs.declared.pick.Choice.{Choice}

@@ -1,4 +1,4 @@
--- What one end of a negotiation knows beside the selected mechanism.
+-- What one end of a negotiation knows besides the selected mechanism.
 use Rattle.std.specs.Prelude.{ℕ, List, Option, Bool, true, false}
 use Rattle.sspi_names.specs.declared.credentials.CredentialsBuffers.{CredentialsBuffers}
 use Rattle.sspi_names.specs.declared.identity.AuthIdentity.{AuthIdentity}
@@ -12,7 +12,7 @@ use Rattle.sspi_negotiate.specs.declared.state.NegotiateState.{NegotiateState}
 use Rattle.sspi_negotiate.specs.declared.state.Role.{Role}
 use Rattle.sspi_negotiate.specs.Hand.{hand_of}
 
--- what the steps look at and change
+-- what the steps read and change
 pub record Values : Type 0 where
   pub role : Role
   pub state : NegotiateState
@@ -21,18 +21,18 @@ pub record Values : Type 0 where
   pub packages : PackageListConfig
   -- the mechanisms that the client offered; empty until then
   pub list : List (List ℕ)
-  -- whether the list is to be protected by MICs
+  -- whether the list must be protected by MICs
   pub need : Bool
   -- the credentials that a client keeps, and the identities that a server knows
   pub kept : Option CredentialsBuffers
   pub known : List AuthIdentity
-  -- what a mechanism is made of that is taken later
+  -- what a mechanism selected later is made from
   pub computer : List ℕ
   pub kdcs : List KdcEntry
   -- which step waits for a KDC
   pub branch : Branch
 
--- one end: the same without the name, and the mechanism itself
+-- one end: the same, with the selected mechanism itself in place of its name
 pub record Negotiation (M : Type 0) : Type 0 where
   pub role : Role
   pub state : NegotiateState

@@ -13,13 +13,13 @@ pub record HasNoMic (n : Counts) : Type 0 where
   pub signings : n.signings ≡ 0
   pub verifications : n.verifications ≡ 0
 
--- what is left of a mechanism: itself, or with one MIC more that it made
+-- what is left of a mechanism: itself, or itself after making one more MIC
 pub data Leaves {M : Type 0} (c : Meaning Origin M) (m left : M) : Type 0 where
   as_it_was : left ≡ m → Leaves c m left
   having_signed : left ≡ c.counted m (one_signing (c.counts m)) → Leaves c m left
 
--- The mechanism that is left selected took this MIC of the peer as its next one and found it to be
--- that of the list; since then it has made at most its own.
+-- The mechanism that is left selected verified this MIC as the peer's next one, over the list;
+-- since then it has made at most its own.
 pub record IsVerified {M : Type 0} (c : Meaning Origin M) (list : List (List ℕ)) (left : M) : Type 0
   where
     pub before : M
@@ -32,7 +32,7 @@ pub record IsVerified {M : Type 0} (c : Meaning Origin M) (list : List (List ℕ
     pub counted : after ≡ c.counted before (one_verification (c.counts before))
     pub last : Leaves c after left
 
--- the peer is a guest by the name that the mechanism gives of it
+-- the peer is a guest by the name that the mechanism gives for it
 pub record IsGuestNamed {M : Type 0} (c : Meaning Origin M) (m : M) : Type 0 where
   pub name : Name
   pub named : c.names m ≡ Some name

@@ -62,13 +62,13 @@ impl<N, K> Negotiate<N, K> {
 }
 
 impl<N: Mechanism, K: Mechanism> Negotiate<N, K> {
-    /// The buffers for the handle of these credentials (AcquireCredentialsHandle), which are kept;
-    /// none without credentials.
+    /// The buffers for the handle of these credentials (AcquireCredentialsHandle), which are also
+    /// kept; none without credentials.
     ///
     /// `NoCredentials` for an outbound use without credentials, or with a keytab while NTLM is
-    /// selected. Else a client in whose table a KDC serves the domain of the name takes Kerberos,
-    /// where that may be used, and the selected mechanism answers. A refusal leaves all as it was,
-    /// the selected mechanism too.
+    /// selected. Else a client selects Kerberos, if that may be used and a KDC in its table serves
+    /// the domain of the name. Then the selected mechanism answers. A refusal leaves everything as
+    /// it was, including the selected mechanism.
     pub fn acquire_credentials_handle(
         &mut self,
         credential_use: CredentialUse,
@@ -98,7 +98,7 @@ impl<N: Mechanism, K: Mechanism> Negotiate<N, K> {
         }
     }
 
-    /// A Kerberos for the place of NTLM on a client, where a KDC serves the domain of a name with a
+    /// A Kerberos to replace NTLM on a client, if a KDC serves the domain of a name with a
     /// password.
     fn kerberos_for(
         &self,

@@ -39,7 +39,7 @@ use sspi_tokens::{MechKind, NegTokenTarg};
 use sspi_types::{Bytes, Error, Reason};
 use std::mem;
 
-/// Which mechanism a server's token chooses.
+/// The mechanism that a server's token chooses.
 fn choice_of(token: &NegTokenTarg) -> Option<MechKind>
     ensures { result ≡ option_map kind_of token.now.supported_mech }
 {
@@ -180,8 +180,8 @@ impl<N: Mechanism, K: Mechanism> Negotiate<N, K> {
         }
     }
 
-    /// NTLM is disabled only once Kerberos is selected, so that out of memory leaves no disabled
-    /// mechanism selected.
+    /// Disables NTLM only once Kerberos is selected, so that running out of memory leaves no
+    /// disabled mechanism selected.
     fn replace_ntlm(
         &mut self,
         token: NegTokenTarg,
@@ -394,11 +394,11 @@ impl<N: Mechanism, K: Mechanism> Negotiate<N, K> {
         }
     }
 
-    /// Goes on with the step that was suspended, once it is known what came of its request.
+    /// Continues the suspended step, once the outcome of its request is known.
     ///
-    /// `OutOfSequence` where no step is suspended. Else as the step that was suspended. Refused by
-    /// its mechanism, it stays suspended, but where NTLM took the place of Kerberos; refused for
-    /// what comes after the mechanism's step, it does not.
+    /// `OutOfSequence` if no step is suspended. Else as the suspended step. If the mechanism
+    /// refuses it, it stays suspended, unless NTLM has replaced Kerberos. If what follows the
+    /// mechanism's step is refused, it does not.
     pub fn resume(&mut self, reply: &Reply) -> Result<Progressing, Error>
         ensures step { (negotiate N.REQUESTS N.meaning K.meaning).resumes self.old reply.now
             (answer_of result) self.new }

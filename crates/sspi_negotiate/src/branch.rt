@@ -10,18 +10,18 @@ use sspi_tokens::NegTokenTarg;
 use sspi_types::{Bytes, ClientRequestFlags, DataRepresentation, Text};
 use std::alloc::{AllocError, Global};
 
-/// Which client's step waits for a KDC, with what the rest of it needs.
+/// Which step of a client waits for a KDC, with what the rest of it needs.
 #[derive(Drop)]
 pub enum Branch {
     /// No step waits.
     Idle,
     /// The first step, which another mechanism may make again.
     Opening(Opening),
-    /// A step that took this token of the server.
+    /// A step that took this token from the server.
     Answering(NegTokenTarg),
 }
 
-/// What the first step was given, but for the credentials, which are kept.
+/// What the first step was given, except for the credentials, which the negotiation keeps.
 #[derive(Drop)]
 pub struct Opening {
     pub context_requirements: ClientRequestFlags,
@@ -31,7 +31,7 @@ pub struct Opening {
 }
 
 impl Opening {
-    /// A copy of what a step is given.
+    /// A copy of what a step was given.
     pub(crate) fn of(
         alloc: Global,
         args: &InitializeSecurityContext<'_>,

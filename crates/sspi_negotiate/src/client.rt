@@ -46,15 +46,15 @@ impl<N, K> Negotiate<N, K> {
 }
 
 impl<N: Mechanism, K: Mechanism> Negotiate<N, K> {
-    /// A client's step (InitializeSecurityContext). Suspended, it goes on by `resume`.
+    /// A client's step (InitializeSecurityContext). If it is suspended, `resume` continues it.
     ///
     /// `OutOfSequence` while a step waits for a KDC, on a server, and after the end.
-    /// `InvalidParameter` where the handle's user and domain mix the forms of a name.
-    /// `InvalidToken` for a token of another form than the state has, for a choice of a mechanism
-    /// that may not be used, and in the last state for one that is not complete. `InternalError`
-    /// where the first step of the mechanism ends with another status than `Ok` and
-    /// `ContinueNeeded`, and for a token past `sspi_ber::MAX_CONTENT`, 1048576 octets. Else the
-    /// refusals of the selected mechanism, which may have moved then; the state stays.
+    /// `InvalidParameter` if the handle's user and domain mix the forms of a name. `InvalidToken`
+    /// for a token of the wrong form for the state, and for a choice of an unknown or disabled
+    /// mechanism; in the last state, also for a token without accept-completed. `InternalError` if
+    /// the mechanism's first step ends with a status other than `Ok` and `ContinueNeeded`, and for
+    /// a token longer than `sspi_ber::MAX_CONTENT`, 1048576 octets. Else the refusals of the
+    /// selected mechanism, which may have changed by then; the state stays.
     pub fn initialize_security_context(
         &mut self,
         args: &InitializeSecurityContext<'_>,

@@ -16,7 +16,7 @@ use sspi_types::{Error, ErrorKind, SecurityStatus};
 
 impl<N: Mechanism, K: Mechanism> Negotiate<N, K> {
     /// The name that was authenticated: on a server the peer's, on a client its own. With the plain
-    /// mechanisms `OutOfSequence` before it is known.
+    /// mechanisms, `OutOfSequence` before it is known.
     pub fn query_context_names(&self) -> Result<ContextNames, Error>
         ensures named { IfOk result (λ names. (negotiate N.REQUESTS N.meaning K.meaning).names
             self.now ≡ Some names.username) }
@@ -51,7 +51,7 @@ impl<N: Mechanism, K: Mechanism> Negotiate<N, K> {
     }
 
     /// Tells a server which identities its peer may have. NTLM takes those with a password,
-    /// Kerberos the first. The kept credentials stay.
+    /// Kerberos the first one. The kept credentials stay.
     pub fn custom_set_auth_identities(&mut self, identities: Vec<Credentials>) -> Result<(), Error>
         // What `Ok` holds.
         ensures identified { OnOk result ((negotiate N.REQUESTS N.meaning K.meaning).identifies
@@ -70,7 +70,7 @@ impl<N: Mechanism, K: Mechanism> Negotiate<N, K> {
         Ok(self.protocol.set_identities(identities)?)
     }
 
-    /// Completes the authentication (CompleteAuthToken). With the plain mechanisms `OutOfSequence`
+    /// Completes the authentication (CompleteAuthToken). With the plain mechanisms, `OutOfSequence`
     /// before there is a key.
     pub fn complete_auth_token(&mut self) -> Result<SecurityStatus, Error>
         // What stays, and what `Ok` holds.
@@ -88,10 +88,10 @@ impl<N: Mechanism, K: Mechanism> Negotiate<N, K> {
         Ok(self.protocol.complete()?)
     }
 
-    /// Seals a text for the peer, as the next of its messages: a blob of at least 16 bytes.
+    /// Seals a text for the peer as this end's next message: a blob of at least 16 bytes.
     ///
-    /// With the plain mechanisms `OutOfSequence` before there is a key, `ContextExpired` once all
-    /// numbers of messages are used.
+    /// With the plain mechanisms, `OutOfSequence` before there is a key, and `ContextExpired` once
+    /// all message numbers are used.
     pub fn seal(&mut self, text: &[u8]) -> Result<Vec<u8>, Error>
         // What `Ok` holds.
         ensures blob { let c = negotiate N.REQUESTS N.meaning K.meaning in
@@ -116,10 +116,10 @@ impl<N: Mechanism, K: Mechanism> Negotiate<N, K> {
         Ok(self.protocol.seal(text)?)
     }
 
-    /// Opens what the peer sealed, as the next of its messages.
+    /// Opens what the peer sealed as its next message.
     ///
-    /// With the plain mechanisms `OutOfSequence` before there is a key, `ContextExpired` once all
-    /// numbers of messages are used, `InvalidToken` for a blob of under 16 bytes, and
+    /// With the plain mechanisms, `OutOfSequence` before there is a key, and `ContextExpired` once
+    /// all message numbers are used. `InvalidToken` for a blob of under 16 bytes, and
     /// `MessageAltered` for one that the peer did not seal as this message.
     pub fn unseal(&mut self, blob: &[u8]) -> Result<Vec<u8>, Error>
         // What `Ok` holds.

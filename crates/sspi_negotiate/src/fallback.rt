@@ -1,11 +1,11 @@
-//! After which refusals of Kerberos a client goes on with NTLM.
+//! The refusals of Kerberos after which a client goes on with NTLM.
 
 ghost use Rattle.std.specs.Prelude.{◌≡◌};
 ghost use Rattle.sspi_negotiate.specs.Fallback.{is_fallback};
 
 use sspi_types::ErrorKind;
 
-/// The kinds of a Kerberos refusal after which a client goes on with NTLM, where that is enabled.
+/// The kinds of a Kerberos refusal after which a client goes on with NTLM, if that is enabled.
 pub const FALLBACK_ERROR_KINDS: [ErrorKind; 4] = [
     ErrorKind::TimeSkew,
     ErrorKind::NoAuthenticatingAuthority,

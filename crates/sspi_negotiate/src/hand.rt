@@ -1,4 +1,4 @@
-//! The selected mechanism: its calls, and how one takes the place of another.
+//! The selected mechanism: its calls, and how one replaces another.
 
 ghost use Rattle.std.specs.Prelude.{◌≡◌, ◌≢◌, ◌<◌, [], ◌∷◌, true, false, IsTrue, IsErr, IfOk};
 ghost use Rattle.std.specs.Prelude.{IfErr};
@@ -50,7 +50,7 @@ fn kerberos_config(
 }
 
 impl<N: Mechanism, K: Mechanism> NegotiatedProtocol<N, K> {
-    /// NTLM that comes in for Kerberos.
+    /// An NTLM that replaces Kerberos.
     pub(crate) fn new_ntlm(alloc: Global, client_computer_name: &Text) -> Result<Self, Refusal>
         ensures made { IfOk result (λ it. (hand N.meaning K.meaning).made
             (in_place_of_kerberos client_computer_name.now) it) }
@@ -63,7 +63,7 @@ impl<N: Mechanism, K: Mechanism> NegotiatedProtocol<N, K> {
         Ok(NegotiatedProtocol::Ntlm(ntlm))
     }
 
-    /// Kerberos that comes in for NTLM.
+    /// A Kerberos that replaces NTLM.
     pub(crate) fn new_kerberos(
         alloc: Global,
         kdc_url: Option<&str>,
@@ -216,7 +216,7 @@ impl<N: Mechanism, K: Mechanism> NegotiatedProtocol<N, K> {
         }
     }
 
-    /// The same of one identity. A keytab is refused while NTLM is selected.
+    /// The same for one identity. A keytab is refused while NTLM is selected.
     pub(crate) fn set_identity(&mut self, identity: &Credentials) -> Result<(), Refusal>
         // What `Ok` holds.
         ensures identified { OnOk result ((hand N.meaning K.meaning).identifies self.old
@@ -293,8 +293,8 @@ impl<N: Mechanism, K: Mechanism> NegotiatedProtocol<N, K> {
         }
     }
 
-    /// The MIC of a text for the peer, as the next of its MICs (MakeSignature). With the plain
-    /// mechanisms `OutOfSequence` before there is a key, `ContextExpired` once all numbers of MICs
+    /// Makes the MIC of a text for the peer, this end's next MIC (MakeSignature). With the plain
+    /// mechanisms, `OutOfSequence` before there is a key, and `ContextExpired` once all MIC numbers
     /// are used.
     pub fn generate_mic_token(&mut self, text: &[u8]) -> Result<Vec<u8>, Error>
         // What `Ok` holds, and that the mechanism is the same.
@@ -319,9 +319,9 @@ impl<N: Mechanism, K: Mechanism> NegotiatedProtocol<N, K> {
         }
     }
 
-    /// Whether `token` is the MIC that the peer made of `text` as the next of its MICs
-    /// (VerifySignature). With the plain mechanisms `MessageAltered` where it is not, also where it
-    /// has another length; `OutOfSequence` and `ContextExpired` as `generate_mic_token`.
+    /// Verifies that `token` is the MIC that the peer made of `text` as its next MIC
+    /// (VerifySignature). With the plain mechanisms, `MessageAltered` if it is not, even if only
+    /// its length is wrong; `OutOfSequence` and `ContextExpired` as for `generate_mic_token`.
     pub fn verify_mic_token(&mut self, token: &[u8], text: &[u8]) -> Result<(), Error>
         // What `Ok` holds, and that the mechanism is the same.
         ensures mic { let c = hand N.meaning K.meaning in

@@ -6,7 +6,7 @@ ghost use Rattle.sspi_negotiate.specs.IpText.{IsIpText};
 use std::net::IpAddr;
 
 /// Whether `s` is an IPv4 address in dotted decimals (RFC 3986, section 3.2.2), or an IPv6 address
-/// in one of the forms of RFC 4291, section 2.2, with no zone and no brackets.
+/// in a form of RFC 4291, section 2.2. A zone or brackets are not allowed.
 pub fn is_ip_text(s: &str) -> bool
     ensures { IsTrue result ↔ IsIpText s.now }
 {

@@ -8,7 +8,7 @@ ghost use Rattle.sspi_negotiate.specs.Known.{is_named, named};
 use sspi_names::{AuthIdentity, Credentials, Username};
 use std::alloc::{AllocError, Global};
 
-/// Whether one of the identities has this name, but for the case of ASCII letters.
+/// Whether one of the identities has this name, ignoring ASCII case.
 pub(crate) fn is_known(name: &Username, known: &[AuthIdentity]) -> bool
     ensures { result ≡ list_any (is_named name.now) known.now }
 {
@@ -17,7 +17,7 @@ pub(crate) fn is_known(name: &Username, known: &[AuthIdentity]) -> bool
         .any(|entry| entry.username.eq_ignore_ascii_case(name))
 }
 
-/// Copies of the identities whose name this is, but for the case of ASCII letters.
+/// Copies of the identities that have this name, ignoring ASCII case.
 fn copy_named(
     alloc: Global,
     name: &Username,
@@ -34,7 +34,7 @@ fn copy_named(
     Ok(copies)
 }
 
-/// The same as credentials.
+/// The same, as credentials.
 pub(crate) fn named(
     alloc: Global,
     name: &Username,

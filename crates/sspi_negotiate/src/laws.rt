@@ -6,9 +6,9 @@ ghost use Rattle.sspi_negotiate.specs.declared.fallback.TheConstants.{FALLBACK_E
 ghost use Rattle.sspi_negotiate.specs.Fallback.{is_fallback};
 ghost use Rattle.sspi_negotiate.specs.PackageList.{names_of, packages_of, in_turn};
 
-/// To read the names of a package list one after the other gives the same: both packages are
-/// allowed at first, the first name without the `!`, whatever it names, disables both before it is
-/// applied, and each name then sets its own package.
+/// Reading the names of a package list one by one gives the same. Both packages are allowed at
+/// first. The first name without the `!`, whatever it names, disables both before it is applied.
+/// Each name then sets its own package.
 pub fn names_count_in_turn()
     ensures { (list : List ℕ) → packages_of (Some list) ≡ in_turn false
         (record { ntlm = true; kerberos = true }) (names_of list) }

@@ -1,17 +1,16 @@
 //! SPNEGO negotiation (RFC 4178, MS-SPNG): agreeing on a mechanism, and protecting that agreement.
 //!
 //! - `Negotiate`: one end of a negotiation over any two mechanisms. Each step is a plan of
-//!   questions to the selected mechanism: `specs/Client.antt` and `specs/Server.antt` have a
-//!   definition for each row of their tables, `specs/Follows.antt` says what comes of a plan,
-//!   `specs/Reaches.antt` what is selected where out of memory breaks it off, and
-//!   `specs/Negotiate.antt` what a negotiation means. `specs/New.antt` says what it begins with.
-//! - `negotiation_laws`: a negotiation is a context; packages never grow, the list stays, and MICs
-//!   protect it.
-//! - `laws`: a package list says the same whether its names are read at once or one after the
-//!   other.
+//!   questions to the selected mechanism. `specs/Client.antt` and `specs/Server.antt` have a
+//!   definition for each row of their tables. `specs/Follows.antt` says where a plan leads, and
+//!   `specs/Reaches.antt` what is selected if running out of memory breaks it off.
+//!   `specs/Negotiate.antt` says what a negotiation means, `specs/New.antt` what it begins with.
+//! - `negotiation_laws`: a negotiation is a context; no package is enabled again, the list stays,
+//!   and MICs protect it.
+//! - `laws`: a package list means the same whether its names are read at once or one by one.
 //! - `PackageListConfig`: which packages a list of names allows; `is_ip_text`: whether a peer is
-//!   named by an IP address, which Kerberos has no name for; `ProtocolConfig`, `NegotiateConfig`:
-//!   what an end is made of; `NegotiatedProtocol`: the mechanism selected; `FALLBACK_ERROR_KINDS`:
+//!   named by an IP address, for which Kerberos has no name; `ProtocolConfig`, `NegotiateConfig`:
+//!   what an end is made of; `NegotiatedProtocol`: the selected mechanism; `FALLBACK_ERROR_KINDS`:
 //!   the refusals of Kerberos after which a client tries NTLM.
 #![tactic(auto)]
 

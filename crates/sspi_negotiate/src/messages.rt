@@ -39,11 +39,11 @@ impl<N: Mechanism, K: Mechanism> Protects for Negotiate<N, K> {
 
 impl<N: Mechanism, K: Mechanism> Negotiate<N, K> {
     /// Seals the text in Data as the next message (EncryptMessage): the first 16 bytes of the blob
-    /// go to Token, the rest stays in Data. The flags are not read.
+    /// go to Token, the rest stays in Data. The flags are ignored.
     ///
-    /// Of each type the first buffer without flags is taken; `InvalidToken` where Data or Token is
-    /// missing, before the mechanism is asked. With the plain mechanisms `OutOfSequence` before
-    /// there is a key, `ContextExpired` once all numbers of messages are used. Refused, the
+    /// Of each type the first buffer without flags is used; `InvalidToken` if Data or Token is
+    /// missing, before the mechanism is asked. With the plain mechanisms, `OutOfSequence` before
+    /// there is a key, and `ContextExpired` once all message numbers are used. After a refusal, the
     /// negotiation and all buffers are as they were.
     pub fn encrypt_message(
         &mut self,
@@ -63,15 +63,15 @@ impl<N: Mechanism, K: Mechanism> Negotiate<N, K> {
     }
 
     /// Opens the peer's next message (DecryptMessage) and leaves its text in Data. The blob is the
-    /// bytes of Stream, or without one those of Token followed by those of Data. Answers no flags.
+    /// bytes of Stream or, without one, those of Token followed by those of Data. Returns no flags.
     ///
-    /// Of each type the first buffer without flags is taken; `InvalidToken` where Data is missing,
-    /// where there is neither Stream nor Token, and for a blob of under 16 bytes, before the
-    /// mechanism is asked. With the plain mechanisms `OutOfSequence` before there is a key,
-    /// `ContextExpired` once all numbers of messages are used, `MessageAltered` for what the peer
-    /// did not seal as this message. Out of memory never stands for the refusal of a blob in
-    /// Stream; Token and Data are joined first, which takes memory. Refused, the negotiation and
-    /// all buffers are as they were.
+    /// Of each type the first buffer without flags is used. `InvalidToken` if Data is missing, if
+    /// there is neither Stream nor Token, and for a blob of under 16 bytes, before the mechanism is
+    /// asked. With the plain mechanisms, `OutOfSequence` before there is a key, and
+    /// `ContextExpired` once all message numbers are used; `MessageAltered` for what the peer did
+    /// not seal as this message. A refused blob in Stream is never reported as out of memory; Token
+    /// and Data are joined first, which allocates. After a refusal, the negotiation and all buffers
+    /// are as they were.
     pub fn decrypt_message(
         &mut self,
         message: &mut [SecurityBuffer],
@@ -91,13 +91,13 @@ impl<N: Mechanism, K: Mechanism> Negotiate<N, K> {
         decrypt_message(self, message)
     }
 
-    /// Leaves the MIC of the text in Data (MakeSignature), as the next of the own MICs, in Token.
-    /// Flags and sequence number are not read.
+    /// Puts the MIC of the text in Data, as this end's next MIC, in Token (MakeSignature). The
+    /// flags and the sequence number are ignored.
     ///
-    /// Of each type the first buffer without flags is taken; `InvalidToken` where Data or Token is
-    /// missing, before the mechanism is asked. With the plain mechanisms `OutOfSequence` before
-    /// there is a key, `ContextExpired` once all numbers of MICs are used. Refused, the negotiation
-    /// and all buffers are as they were.
+    /// Of each type the first buffer without flags is used; `InvalidToken` if Data or Token is
+    /// missing, before the mechanism is asked. With the plain mechanisms, `OutOfSequence` before
+    /// there is a key, and `ContextExpired` once all MIC numbers are used. After a refusal, the
+    /// negotiation and all buffers are as they were.
     pub fn make_signature(
         &mut self,
         _flags: u32,
@@ -115,14 +115,14 @@ impl<N: Mechanism, K: Mechanism> Negotiate<N, K> {
         make_signature(self, message)
     }
 
-    /// Checks that Token is the MIC that the peer made of the text in Data (VerifySignature), as
-    /// the next of its MICs, and answers 0. Changes no buffer and takes no memory. The sequence
-    /// number is not read.
+    /// Checks that Token is the MIC that the peer made of the text in Data as its next MIC
+    /// (VerifySignature), and returns 0. Changes no buffer and allocates nothing. The sequence
+    /// number is ignored.
     ///
-    /// Of each type the first buffer without flags is taken; `InvalidToken` where Data or Token is
-    /// missing, before the mechanism is asked. With the plain mechanisms `OutOfSequence` before
-    /// there is a key, `ContextExpired` once all numbers of MICs are used, `MessageAltered` for
-    /// another MIC. Refused, the negotiation is as it was.
+    /// Of each type the first buffer without flags is used; `InvalidToken` if Data or Token is
+    /// missing, before the mechanism is asked. With the plain mechanisms, `OutOfSequence` before
+    /// there is a key, `ContextExpired` once all MIC numbers are used, and `MessageAltered` for any
+    /// other MIC. After a refusal, the negotiation is as it was.
     pub fn verify_signature(
         &mut self,
         message: &mut [SecurityBuffer],

@@ -1,4 +1,4 @@
-//! Makes and verifies MICs over the mechanism list (RFC 4178 5).
+//! Makes and verifies MICs over the mechanism list (RFC 4178, section 5).
 
 ghost use Rattle.std.specs.Prelude.{◌≡◌, ◌≢◌, false, None, Some, IfOk, IfErr, OnOk, OnErr, map};
 ghost use Rattle.std.specs.List.{list_any};
@@ -49,7 +49,7 @@ fn sign_with<N: Mechanism, K: Mechanism>(
     Ok(Bytes::from_vec(mic))
 }
 
-/// A refusal has the kind of the mechanism's, and is never out of memory in its place.
+/// A refusal has the mechanism's kind, and is never reported as out of memory instead.
 fn verify_with<N: Mechanism, K: Mechanism>(
     protocol: &mut NegotiatedProtocol<N, K>,
     mic: &Bytes,
@@ -77,7 +77,7 @@ fn verify_with<N: Mechanism, K: Mechanism>(
 }
 
 impl<N: Mechanism, K: Mechanism> Negotiate<N, K> {
-    /// Takes the MIC of the client, of whom a server must know the identity first.
+    /// Verifies the client's MIC; the server must first know the client's identity.
     pub(crate) fn check(&mut self, mic: &Bytes) -> Result<(), Refusal>
         // The step.
         ensures step { Passes N.meaning K.meaning (checks mic.now (values_of self.old))
@@ -139,7 +139,7 @@ impl<N: Mechanism, K: Mechanism> Negotiate<N, K> {
         self.protocol.set_identities(found)
     }
 
-    /// Takes the peer's MIC, which must be over the list as it is kept.
+    /// Verifies the peer's MIC, which must be over the list as it is kept.
     pub(crate) fn verify(&mut self, mic: &Bytes) -> Result<(), Refusal>
         // The step.
         ensures step { Passes N.meaning K.meaning (verifies mic.now (values_of self.old))
@@ -169,7 +169,7 @@ impl<N: Mechanism, K: Mechanism> Negotiate<N, K> {
         verify_with(&mut self.protocol, mic, text)
     }
 
-    /// Ends a step with a token that has the own MIC over the list.
+    /// Ends a step with a token that has this end's MIC over the list.
     #[tactic(auto, unfolding(crate::specs::Rows::answers_signed))]
     pub(crate) fn answer_signed(
         &mut self,
@@ -219,7 +219,7 @@ impl<N: Mechanism, K: Mechanism> Negotiate<N, K> {
         self.write(&token, self.mic_needed, state, status)
     }
 
-    /// Both MICs are made.
+    /// Ends the negotiation with this end's MIC, once the peer's was verified.
     pub(crate) fn complete_signed(&mut self, token: Bytes) -> Result<Step, Refusal>
         // The step, and what a refused one leaves.
         ensures step { Does N.meaning K.meaning (completes_signed (values_of self.old) token)
@@ -237,7 +237,7 @@ impl<N: Mechanism, K: Mechanism> Negotiate<N, K> {
         )
     }
 
-    /// The own MIC goes first, and the peer's is to come.
+    /// Sends this end's MIC first; the peer's is still expected.
     pub(crate) fn hand_mic(&mut self, token: Bytes) -> Result<Step, Refusal>
         // The step, and what a refused one leaves.
         ensures step { Does N.meaning K.meaning (hands_mic (values_of self.old) token) self.old

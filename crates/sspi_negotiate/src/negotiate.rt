@@ -27,13 +27,13 @@ use sspi_types::{Bytes, SecurityStatus, Text};
 use std::alloc::Global;
 use std::marker::Model;
 
-/// One end of a negotiation (RFC 4178, section 5; MS-SPNG), over any two mechanisms in the places
-/// of NTLM and Kerberos.
+/// One end of a negotiation (RFC 4178, section 5; MS-SPNG), over any two mechanisms in the roles of
+/// NTLM and Kerberos.
 ///
-/// A client offers mechanisms with a first token of the one that it likes best; a server picks one;
-/// that one then authenticates inside the tokens of the negotiation. Where the pick could have been
-/// forged, each end sends a MIC over the list of what was offered, and no end that needs the
-/// other's MIC ends without it.
+/// A client offers mechanisms, with a first token of the one it prefers. A server picks one, which
+/// then authenticates inside the tokens of the negotiation. Where the pick could have been forged,
+/// each end sends a MIC over the list that was offered. No end that needs the other's MIC ends
+/// without it.
 #[derive(Drop)]
 pub struct Negotiate<N, K> {
     pub(crate) alloc: Global,
@@ -72,8 +72,7 @@ impl<N, K> Model for Negotiate<N, K> {
 }
 
 impl<N, K> Negotiate<N, K> {
-    /// Whether MICs over the mechanism list are needed, as far as it is known; true in a new
-    /// object.
+    /// Whether MICs over the mechanism list are needed, as far as is known; true in a new object.
     pub fn mic_needed(&self) -> bool
         ensures { result ≡ self.now.need }
     {
@@ -96,14 +95,14 @@ impl<N, K> Negotiate<N, K> {
 }
 
 impl<N: Mechanism, K: Mechanism> Negotiate<N, K> {
-    /// At most how often a KDC is still asked.
+    /// An upper bound on the number of requests to a KDC that can still follow.
     pub fn requests_left(&self) -> u64
         ensures { result ≡ asks_left N.REQUESTS N.meaning K.meaning self.now.mech }
     {
         self.protocol.requests_left()
     }
 
-    /// Selects a new NTLM in the place of Kerberos.
+    /// Selects a new NTLM, if Kerberos is selected.
     pub(crate) fn take_ntlm(&mut self) -> Result<(), Refusal>
         // The step.
         ensures step { Passes N.meaning K.meaning
@@ -166,7 +165,7 @@ impl<N: Mechanism, K: Mechanism> Negotiate<N, K> {
         Ok(Step { status, output })
     }
 
-    /// The negotiation is over, without a MIC, and the need of MICs is this.
+    /// Ends the negotiation without a MIC, and sets whether MICs are needed.
     #[tactic(auto, unfolding(crate::specs::Rows::completes))]
     pub(crate) fn complete(&mut self, token: Bytes, need: bool) -> Result<Step, Refusal>
         // The step, and what a refused one leaves.
@@ -187,7 +186,7 @@ impl<N: Mechanism, K: Mechanism> Negotiate<N, K> {
         self.write(&token, need, NegotiateState::Ok, SecurityStatus::Ok)
     }
 
-    /// The negotiation is over, and nothing is left to be sent.
+    /// Ends the negotiation with nothing more to send.
     pub(crate) fn end(&mut self) -> Result<Step, Refusal>
         // The step, and what a refused one leaves.
         ensures step { Does N.meaning K.meaning
@@ -206,7 +205,7 @@ impl<N: Mechanism, K: Mechanism> Negotiate<N, K> {
         })
     }
 
-    /// The authentication goes on with this status.
+    /// Continues the authentication with this status.
     #[tactic(auto, unfolding(crate::specs::Rows::carries_on))]
     pub(crate) fn carry_on(&mut self, token: Bytes, status: SecurityStatus) -> Result<Step, Refusal>
         // The step, and what a refused one leaves.

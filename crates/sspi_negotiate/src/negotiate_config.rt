@@ -12,17 +12,17 @@ use std::alloc::{AllocError, Global};
 pub struct NegotiateConfig {
     /// The mechanism that it begins with.
     pub protocol_config: ProtocolConfig,
-    /// Which packages it may use, as `PackageListConfig::parse` reads it; all of them where there
-    /// is no list.
+    /// The packages that it may use, in the form that `PackageListConfig::parse` reads; all of them
+    /// if there is no list.
     pub package_list: Option<Text>,
-    /// The name of the client's computer, for the mechanisms that are taken later.
+    /// The name of the client's computer, for the mechanisms that are selected later.
     pub client_computer_name: Text,
     /// Which KDC serves which realm.
     pub kdcs: KdcTable,
 }
 
 impl NegotiateConfig {
-    /// A configuration of these parts, which are moved and not copied.
+    /// A configuration of these parts, which are moved, not copied.
     pub fn new(
         protocol_config: ProtocolConfig,
         package_list: Option<Text>,
@@ -44,7 +44,7 @@ impl NegotiateConfig {
         }
     }
 
-    /// The same without a list of packages.
+    /// The same, without a list of packages.
     pub fn from_protocol_config(
         protocol_config: ProtocolConfig,
         client_computer_name: Text,

@@ -27,15 +27,15 @@ ghost use Rattle.sspi_negotiate.specs.Negotiate.{negotiate};
 
 use sspi_mech::Mechanism;
 
-/// A negotiation over any two mechanisms keeps what every context keeps: where nothing was sealed
-/// nothing is, and each further question to a KDC is one fewer to come, also where NTLM took the
-/// place of Kerberos in between.
+/// A negotiation over any two mechanisms keeps what every context keeps. No step seals or opens
+/// anything, and each further question to a KDC leaves fewer to come, even if NTLM has replaced
+/// Kerberos in between.
 pub fn negotiation_is_context<N: Mechanism, K: Mechanism>()
     ensures { IsContext (negotiate N.REQUESTS N.meaning K.meaning) }
 {}
 
-/// No step enables a package again or leaves a selected mechanism that may not be used, whatever it
-/// answers, out of memory too.
+/// Whatever it answers, out of memory included, no step enables a package again. If the selected
+/// mechanism may be used before a step, so may the one after it.
 pub fn packages_are_kept<N: Mechanism, K: Mechanism>()
     ensures client { (old new : Negotiation (NegotiatedProtocol N K)) (args : StepArgs)
         (answer : Answer) →
@@ -51,8 +51,8 @@ pub fn packages_are_kept<N: Mechanism, K: Mechanism>()
         KeepsPackages old.packages (hand_of old.mech) new.packages (hand_of new.mech) }
 {}
 
-/// No step replaces the list of mechanisms that the client once offered, beside what
-/// `packages_are_kept` says; out of memory apart, in which `Stays` says what stays.
+/// In addition to what `packages_are_kept` says, no step replaces the list of mechanisms that the
+/// client once offered. When out of memory, `Stays` says what stays.
 pub fn steps_keep<N: Mechanism, K: Mechanism>()
     ensures client { (old new : Negotiation (NegotiatedProtocol N K)) (args : StepArgs)
         (answer : Answer) →
@@ -68,10 +68,9 @@ pub fn steps_keep<N: Mechanism, K: Mechanism>()
         UnlessMemory (told result) (Keeps (values_of old) (values_of new)) }
 {}
 
-/// A server's choice stays: in a later step that takes it the client disables the other mechanism,
-/// and it takes no choice of one that is disabled. No package is enabled again
-/// (`packages_are_kept`), so once Kerberos was chosen a choice of NTLM is refused, and the other
-/// way round.
+/// A server's choice stays. The client's later step that takes it disables the other mechanism, and
+/// no step takes a choice of a disabled one. No package is enabled again (`packages_are_kept`), so
+/// once Kerberos has been chosen, a choice of NTLM is refused, and the other way round.
 pub fn choices_are_kept<N: Mechanism, K: Mechanism>()
     ensures disables { (old new : Negotiation (NegotiatedProtocol N K)) (args : StepArgs)
         (answer : Answer) (protocol : Protocol) →
@@ -87,16 +86,16 @@ pub fn choices_are_kept<N: Mechanism, K: Mechanism>()
         UnlessRefused answer ⊥ }
 {}
 
-/// What is selected, allowed and kept, out of memory included. Behind the first step, a client's
-/// step leaves the selected mechanism, or takes the one that the server chooses, NTLM where the
-/// target is named by its IP address and NTLM may be used, or Kerberos where a KDC serves the
-/// domain of the user that the call hands over; of the packages it disables at most the one beside
-/// that choice, or Kerberos because of the address. A resumed step, but for a resumed first one,
-/// and a server's later step leave the list, the packages and the selected mechanism. In each step
-/// of a client the kept credentials stay, or are the user's that the call hands over; a resumed
-/// step leaves them, and a server's step the packages too. A server makes no other mechanism of the
-/// same name: the one that is left is the one from before, or what at most one token, the peer's
-/// identities, one MIC verified and one MIC made of it.
+/// What is selected, allowed and kept, out of memory included. After the first step, a client's
+/// step keeps the selected mechanism or selects another. That is one of three: the server's choice;
+/// NTLM if the target is named by its IP address and NTLM may be used; or Kerberos if a KDC serves
+/// the domain of the call's user. The step disables at most one package: the one not chosen, or
+/// Kerberos because of the address. A resumed step, except a resumed first one, and a server's
+/// later step keep the list, the packages and the selected mechanism. A client's step leaves the
+/// kept credentials, or replaces them by those of the call's user. A resumed step leaves them; a
+/// server's step leaves them and the packages. A server's later step makes no new mechanism. What
+/// is left is the old one, after at most one token, the peer's identities, one verified MIC and one
+/// MIC made.
 pub fn hand_is_kept<N: Mechanism, K: Mechanism>()
     ensures client { (old new : Negotiation (NegotiatedProtocol N K)) (args : StepArgs)
         (answer : Answer) →
@@ -128,11 +127,11 @@ pub fn hand_is_kept<N: Mechanism, K: Mechanism>()
         old.state ≢ states.Initial → LivesOn (hand N.meaning K.meaning) args old.mech new.mech }
 {}
 
-/// A refusal for which no memory is asked is told with its kind, never as out of memory. It is
-/// `OutOfSequence` for a client's step on a server, while a step waits and after the end, for a
-/// resume where no step waits, and for a server's step on a client and after the end; and
-/// `InvalidToken` for a server's step whose bytes begin with no token of the form that its state
-/// has.
+/// A refusal that allocates nothing is reported with its own kind, never as out of memory. The kind
+/// is `OutOfSequence` for a client's step on a server, while a step waits, and after the end; for a
+/// resume if no step waits; and for a server's step on a client, and after the end. It is
+/// `InvalidToken` for a server's step if its bytes begin with no token of the form that its state
+/// requires.
 pub fn refusals_are_exact<N: Mechanism, K: Mechanism>()
     ensures client { (old new : Negotiation (NegotiatedProtocol N K)) (args : StepArgs)
         (answer : Answer) →
@@ -148,11 +147,11 @@ pub fn refusals_are_exact<N: Mechanism, K: Mechanism>()
         TellsKind (server_refusal old.role old.state args.input) (told result) }
 {}
 
-/// Where MICs are needed they stay so, out of memory included: a server's refused step leaves the
-/// need as it was, and so does a resumed step, whatever it answers. A client's first step leaves
-/// it, or makes it what the flags of the step say. Behind the first step, a client's step takes it
-/// away only by the server's choice of NTLM, which may be used, for a guest, and a server's only
-/// where the peer is a guest by the name that the mechanism then selected gives.
+/// If MICs are needed, they stay needed, out of memory included. A server's refused step leaves the
+/// need as it was, and so does any resumed step. A client's first step leaves it, or sets it as the
+/// flags of the step say. After the first step, a client drops it only if the server chooses NTLM,
+/// which may be used, for a guest. A server then drops it only if the mechanism selected after the
+/// step names the peer as a guest.
 pub fn mic_need_is_kept<N: Mechanism, K: Mechanism>()
     ensures client { (old new : Negotiation (NegotiatedProtocol N K)) (args : StepArgs)
         (answer : Answer) →
@@ -179,12 +178,11 @@ pub fn mic_need_is_kept<N: Mechanism, K: Mechanism>()
         (new.need ≡ true) ⊎ IsGuestNamed (hand N.meaning K.meaning) new.mech }
 {}
 
-/// An end that needs MICs comes to its end only where, in that very step, the mechanism that is
-/// left selected verified the peer's next MIC over the list of mechanisms as it is kept, and since
-/// then made at most its own (RFC 4178, section 5). That holds where MICs are needed after the
-/// step, and, behind the first step, where they were needed before it: but on a client where the
-/// server chose NTLM, which may be used, for a guest, and on a server where the mechanism names its
-/// peer as a guest.
+/// An end that needs MICs finishes only by a step in which the peer's MIC is verified (RFC 4178,
+/// section 5). The mechanism left selected verifies the peer's next MIC over the kept list, and
+/// then makes at most its own. That holds if MICs are needed after the step and, after the first
+/// step, if they were needed before it. The latter has two exceptions: a client whose server chose
+/// NTLM, which may be used, for a guest, and a server whose mechanism names the peer as a guest.
 pub fn mics_protect_the_list<N: Mechanism, K: Mechanism>()
     ensures client { (old new : Negotiation (NegotiatedProtocol N K)) (args : StepArgs)
         (step : Step) →

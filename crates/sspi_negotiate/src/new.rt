@@ -1,4 +1,4 @@
-//! Makes a negotiation of its configuration.
+//! Makes a negotiation from its configuration.
 
 ghost use Rattle.std.specs.Prelude.{◌≡◌, ◌≢◌, None, IfOk, IfErr};
 ghost use Rattle.sspi_mech.specs.Calls.{no_counts};
@@ -31,7 +31,7 @@ fn packages_in(config: &NegotiateConfig) -> PackageListConfig
     PackageListConfig::parse(list)
 }
 
-/// What takes the place of an NTLM that may not be used.
+/// What replaces an NTLM that may not be used.
 fn make_without_ntlm<N: Mechanism, K: Mechanism>(
     alloc: Global,
     role: Role,
@@ -62,7 +62,7 @@ fn make_without_ntlm<N: Mechanism, K: Mechanism>(
     }
 }
 
-/// What takes the place of a Kerberos that may not be used.
+/// What replaces a Kerberos that may not be used.
 fn make_without_kerberos<N: Mechanism, K: Mechanism>(
     alloc: Global,
     config: &NegotiateConfig,
@@ -161,10 +161,10 @@ fn begin<N: Mechanism, K: Mechanism>(
 impl<N: Mechanism, K: Mechanism> Negotiate<N, K> {
     /// The client of a negotiation.
     ///
-    /// It begins with the mechanism of its configuration where the list of packages enables that,
-    /// else with the other one. An NTLM in that place is of the configuration's computer name; a
-    /// Kerberos is of that and of its KDCs, without a URL of its own. `NoCredentials` exactly where
-    /// no package is enabled.
+    /// It begins with the mechanism of its configuration if the list of packages enables it, else
+    /// with the other one. A replacing NTLM gets the configuration's computer name; a replacing
+    /// Kerberos gets that and the KDCs, but no URL. `NoCredentials` exactly if no package is
+    /// enabled.
     pub fn new_client(alloc: Global, config: &NegotiateConfig) -> Result<Self, Error>
         ensures made { IfOk result (λ it. MadeOf N.meaning K.meaning (ForClient config.now) it) }
         ensures fresh { IfOk result (λ it. (hand N.meaning K.meaning).counts it.mech ≡ no_counts) }
@@ -179,8 +179,8 @@ impl<N: Mechanism, K: Mechanism> Negotiate<N, K> {
 
     /// The server of a negotiation, which knows these identities of its peers.
     ///
-    /// As `new_client`, but no Kerberos takes the place of an NTLM: `InternalError` where it is
-    /// configured with NTLM, which is disabled, and Kerberos is enabled.
+    /// As `new_client`, except that no Kerberos replaces an NTLM: `InternalError` if it is
+    /// configured with NTLM, NTLM is disabled, and Kerberos is enabled.
     pub fn new_server(
         alloc: Global,
         config: &NegotiateConfig,

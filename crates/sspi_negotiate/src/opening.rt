@@ -31,7 +31,7 @@ use sspi_names::CredentialsBuffers;
 use sspi_tokens::NegTokenInit;
 use sspi_types::{Bytes, ErrorKind, Reason, SecurityStatus};
 
-/// A step that asks nothing more.
+/// A step that asks no KDC.
 pub(crate) fn done(ended: Result<Step, Refusal>) -> Result<Progressing, Refusal>
     ensures { answer_of (answered result) ≡ told (answered ended) }
 {
@@ -191,7 +191,7 @@ impl<N: Mechanism, K: Mechanism> Negotiate<N, K> {
         })
     }
 
-    /// Whether NTLM takes the place of Kerberos after this refusal.
+    /// Whether NTLM replaces Kerberos after this refusal.
     fn falls_back(&self, refusal: &Refusal) -> bool
         ensures { result ≡ (is_fallback refusal.now.error_type &&
             is_kerberos_hand (hand_of self.now.mech) && self.now.packages.ntlm) }
@@ -248,8 +248,8 @@ impl<N: Mechanism, K: Mechanism> Negotiate<N, K> {
         }
     }
 
-    /// NTLM makes the step. Where there is no memory for it, a step that waited for a KDC waits
-    /// still.
+    /// A new NTLM makes the step. If there is no memory for it, a step that waited for a KDC still
+    /// waits.
     #[tactic(auto, unfolding(crate::specs::Client::falls_back))]
     fn fall_back(&mut self, first: Opening, waited: bool) -> Result<Progressing, Refusal>
         // The step, and what a refused one leaves.

@@ -12,13 +12,13 @@ pub struct PackageListConfig {
 }
 
 impl PackageListConfig {
-    /// Reads a list of package names, which stand between commas and count in any mix of ASCII
-    /// case; none are trimmed.
+    /// Reads a list of package names, separated by commas. ASCII case is ignored, and no name is
+    /// trimmed.
     ///
-    /// A name allows its package, and with a `!` in front disallows it; of several names of one
-    /// package the last counts. A package that is not named is allowed exactly where each name has
-    /// the `!`: the first name without it, also an unknown or an empty one, disables whatever is
-    /// not named. No list at all allows both packages.
+    /// A name allows its package, and one that starts with `!` disallows it; of several names of
+    /// one package the last counts. A package that is not named is allowed exactly if every name
+    /// has the `!`. A name without it, even an unknown or empty one, disables what is not named. No
+    /// list at all allows both packages.
     pub fn parse(package_list: Option<&str>) -> PackageListConfig
         ensures { result ≡ packages_of (option_copied package_list.entry) }
     {
@@ -49,7 +49,7 @@ fn read_names(list: &str) -> PackageListConfig
     }
 }
 
-// Whether `name` allows the package, where it is the package's name, and else what was said before.
+// Whether `name` allows the package, if it is the package's name; otherwise what was said before.
 fn heard(before: Option<bool>, name: &str, expected: &str) -> Option<bool>
     ensures { result ≡ (if is_name_of expected.now name.now then Some (not (is_marked name.now))
         else before) }

@@ -1,4 +1,4 @@
-//! Which mechanism a server picks of a client's list.
+//! Which mechanism a server picks from a client's list.
 
 ghost use Rattle.std.specs.Prelude.{◌≡◌, IfOk};
 ghost use Rattle.sspi_negotiate.specs.Pick.{oid_of, is_kind, place_of, found_or, picked_or, pick};
@@ -17,7 +17,7 @@ pub enum Choice {
     Ntlm,
 }
 
-/// The mechanism that a server picked, and its first place in the client's list.
+/// The mechanism that a server picked, and its first position in the client's list.
 #[derive(Clone, Copy)]
 pub struct Picked {
     pub choice: Choice,
@@ -45,14 +45,14 @@ impl Choice {
         }
     }
 
-    /// Its first place in a list.
+    /// Its first position in a list.
     fn place(self, list: &[Oid]) -> Option<usize>
         ensures { result ≡ place_of self list.now }
     {
         list.iter().position(|oid| self.is_kind(oid.kind()))
     }
 
-    /// This mechanism, where it may be used and is offered.
+    /// This mechanism if it is offered, else `other`.
     fn found(self, list: &[Oid], other: Option<Picked>) -> Option<Picked>
         ensures { result ≡ found_or self (place_of self list.now) other }
     {
@@ -76,7 +76,7 @@ impl Choice {
     }
 }
 
-/// Which mechanism of the client's list a server picks.
+/// The mechanism that a server picks from the client's list.
 pub(crate) fn pick(list: &[Oid], packages: PackageListConfig, protocol: Protocol) -> Option<Picked>
     ensures { result ≡ pick list.now packages protocol }
 {

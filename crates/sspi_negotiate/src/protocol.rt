@@ -39,7 +39,7 @@ impl<N, K> NegotiatedProtocol<N, K> {
         }
     }
 
-    /// `Kerberos` or `NTLM`, the name of the package selected.
+    /// `Kerberos` or `NTLM`, the name of the selected package.
     pub fn protocol_name(&self) -> &'static str
         ensures { result.now ≡ protocol_name self.now }
     {

@@ -28,7 +28,7 @@ impl<N: Mechanism, K: Mechanism> Negotiate<N, K> {
         }
     }
 
-    /// The session key of the selected mechanism. With the plain mechanisms `OutOfSequence` before
+    /// The session key of the selected mechanism. With the plain mechanisms, `OutOfSequence` before
     /// there is one.
     pub fn query_context_session_key(&self) -> Result<SessionKeys, Error>
         ensures key { IfOk result (λ keys.

@@ -1,11 +1,11 @@
-//! The refusal of a token that may not come here.
+//! The refusal of a token that is not acceptable.
 
 ghost use Rattle.std.specs.Prelude.{◌≡◌};
 
 use sspi_mech::Refusal;
 use sspi_types::{ErrorKind, Reason};
 
-/// A token that may not come here.
+/// Refuses a token that is not acceptable, for this reason.
 pub(crate) fn invalid_token(reason: Reason) -> Refusal
     ensures { result.error_type ≡ ErrorKind.InvalidToken }
 {

@@ -88,7 +88,7 @@ pub(crate) fn passwords(kept: Option<&CredentialsBuffers>) -> Option<&Credential
     }
 }
 
-/// The credentials by which the selected mechanism steps.
+/// The credentials that the selected mechanism steps with.
 pub(crate) fn handle_for<'a>(
     protocol: Protocol,
     kept: Option<&'a CredentialsBuffers>,

@@ -1,4 +1,4 @@
-//! Which Kerberos takes the place of NTLM, where a KDC serves the name's domain.
+//! The Kerberos that replaces NTLM if a KDC serves the domain of the user's name.
 
 ghost use Rattle.std.specs.Prelude.{◌≡◌, None, IfOk, IfErr, IfSome, OnOk, OnErr, option_copied};
 ghost use Rattle.std.specs.Option.{unwrap_or};
@@ -35,7 +35,7 @@ impl<N: Mechanism, K: Mechanism> Negotiate<N, K> {
         }
     }
 
-    /// A Kerberos for the place of NTLM, where a KDC serves the name's domain.
+    /// A Kerberos to replace NTLM, if a KDC serves the name's domain.
     pub(crate) fn kerberos_by_rule(
         &self,
         name: &Username,
@@ -65,7 +65,7 @@ impl<N: Mechanism, K: Mechanism> Negotiate<N, K> {
         }
     }
 
-    /// Takes Kerberos in the place of NTLM, where a KDC serves the name's domain.
+    /// Selects Kerberos in place of NTLM, if a KDC serves the name's domain.
     pub(crate) fn take_by_rule(&mut self, name: &Username) -> Result<(), Refusal>
         // What `Ok` holds.
         ensures taken { OnOk result (TakenBy (hand N.meaning K.meaning)

@@ -58,7 +58,7 @@ pub(crate) fn accept_with<N: Mechanism, K: Mechanism>(
     })
 }
 
-/// A token with the pick.
+/// A token that names the pick.
 fn picked_targ(
     alloc: Global,
     result_field: NegResult,
@@ -79,11 +79,11 @@ fn picked_targ(
 impl<N: Mechanism, K: Mechanism> Negotiate<N, K> {
     /// A server's step (AcceptSecurityContext).
     ///
-    /// `OutOfSequence` for a client, and once the negotiation has ended. `InvalidToken` for a token
-    /// of another form than the state has, for a list that is absent or has nothing to pick, and
-    /// where a MIC is missing that is needed. `NoCredentials` where no known identity has the
-    /// peer's name. `InternalError` for a token past `sspi_ber::MAX_CONTENT`, 1048576 octets. Else
-    /// the refusals of the selected mechanism, which may have moved then; the state stays.
+    /// `OutOfSequence` on a client, and once the negotiation has ended. `InvalidToken` for a token
+    /// of the wrong form for the state, and for a needed MIC that is missing; also for a list that
+    /// is absent or has nothing to pick. `NoCredentials` if no known identity has the peer's name.
+    /// `InternalError` for a token longer than `sspi_ber::MAX_CONTENT`, 1048576 octets. Else the
+    /// refusals of the selected mechanism, which may have changed by then; the state stays.
     pub fn accept_security_context(
         &mut self,
         args: &AcceptSecurityContext<'_>,
@@ -263,7 +263,7 @@ impl<N: Mechanism, K: Mechanism> Negotiate<N, K> {
         }
     }
 
-    /// Tells the pick with this token, and the negotiation goes on.
+    /// Reports the pick with this token, and continues the negotiation.
     fn go_on_with(
         &mut self,
         picked: Picked,

@@ -1,4 +1,4 @@
-//! Encodes tokens and the mechanism list that MICs are over.
+//! Encodes tokens, and the mechanism list over which MICs are made.
 
 ghost use Rattle.sspi_mech.specs.Answered.{answered};
 ghost use Rattle.sspi_tokens.specs.Spelling.{spelled_init, spelled_list, spelled_targ};

@@ -1,13 +1,13 @@
-//! How far a negotiation has come, and by that which end it is.
+//! How far a negotiation has come, and which end of it this is.
 
-/// How far a negotiation came.
+/// How far a negotiation has come.
 #[derive(Clone, Copy, Debug, PartialEq, Eq)]
 pub enum NegotiateState {
-    /// No token was made or taken.
+    /// No token has been made or taken.
     Initial,
     /// The selected mechanism authenticates.
     InProgress,
-    /// The authentication is over, and a MIC over the mechanism list is to come.
+    /// The authentication is over; a MIC over the mechanism list is still expected.
     VerifyMic,
     /// The negotiation is over.
     Ok,

@@ -8,7 +8,7 @@ ghost use Rattle.sspi_negotiate.specs.Target.{IsNamedByIp, host_of, is_slash};
 
 use crate::ip_text::is_ip_text;
 
-/// Whether a target's part behind the last `/` is an IP address.
+/// Whether the host of a target, what follows its last `/` or all of it, is an IP address.
 pub(crate) fn is_named_by_ip(target: Option<&str>) -> bool
     ensures { IsTrue result ↔ IsNamedByIp (option_copied target.entry) }
 {
@@ -26,7 +26,7 @@ fn last_slash(target: &str) -> Option<usize>
     target.rfind('/')
 }
 
-/// What stands behind the ASCII character at `at`.
+/// What follows the ASCII character at `at`.
 fn after(text: &str, at: usize) -> &str
     requires within { at < length text.now }
     requires ascii { slice_index text.now at < 128 }
