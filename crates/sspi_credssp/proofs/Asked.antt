@@ -1,4 +1,4 @@
--- What a call of a proxy is among the calls of a turn.
+-- How one call of a proxy counts among the calls of a turn.
 use Rattle.std.proofs.Common.{◌≡◌, ◌∙◌, ◌+◌, ◌-◌, ◌<◌, ◌≤◌, ◌⊎◌, inl, inr, ℕ, zero, suc, add-zero, add-suc, List, [], Option, None}
 use Rattle.std.proofs.Common.{Some, IsSome, Result, Ok, Err, OnOk, refl, sym, ap, subst, arith}
 use Rattle.sspi_credssp.specs.declared.proxy.ProxyError.{ProxyError}
@@ -17,7 +17,7 @@ rises before now (Err InsufficientMemory) h = h
 none_told : (call : ℕ) → TellsFailure (Some []) call → ⊥
 none_told call fails = absurd (cc (fails))
 
--- a call that is answered so counted no fault, or was told to fail, where the failing calls are told
+-- if the failing calls are exposed: a call with this answer counted no fault, or is one of them
 failed_once : {X : Type 0} (failing : Option (List ℕ)) (call before now : ℕ) (r : Result X ProxyError) → IsSome failing →
     FailsAsTold failing call before now r → (now ≡ before) ⊎ TellsFailure failing call
 failed_once None call before now r told h = absurd (cc (told))
@@ -93,7 +93,7 @@ module _ {P : Type 0} (p : ProxyMeaning P) where
         (subst (λ x. TellsFailure (p.told before).failing (counted_after j x)) first.counted
         (subst (λ (t : ProxyTells). TellsFailure t.failing (counted_after j (p.calls mid))) first.told_same fails))
 
-  -- where it tells that no call fails, none does
+  -- if it exposes that no call fails, none does
   pub calm_by : (limit : ℕ) (before now : P) → IsAsked p limit before now → (p.told before).failing ≡ Some [] →
       p.faults now ≡ p.faults before
   calm_by limit before now asked calm = elim (asked.failed (rw calm refl)) [
@@ -111,7 +111,7 @@ module _ {P : Type 0} (p : ProxyMeaning P) where
     faults_stay = omega (arith, first.faults_stay, then.faults_stay);
   }
 
-  -- exactly so many, none of which was told to fail
+  -- exactly one call, which was not exposed as failing
   pub has_asked_once : {X : Type 0} (before : P) (r : Result X ProxyError) (now : P) → HasAnswered p before r now →
       OnOk r (HasAsked p 1 before now)
   has_asked_once before (Ok x) now h = record {

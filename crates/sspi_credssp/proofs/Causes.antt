@@ -38,7 +38,7 @@ made_later None (Some m) Cause Later some h = h
 made_later None None Cause Later some h = cc
 
 module _ {C : Type 0} (c : Meaning ContextSetting C) where
-  -- what a turn looks at past the version check is not the version
+  -- what a turn checks after the version check does not depend on the version
   state_cause_same : (state : CredSspState) (d : TsRequest) (v : ℕ) (new : ClientView C) (kind : ErrorKind) →
       StateCause c state (record d { version = v }) new kind → StateCause c state d new kind
   state_cause_same NegoToken d v new kind h = h
@@ -53,7 +53,7 @@ module _ {C : Type 0} (c : Meaning ContextSetting C) where
   state_exact_same AuthInfo d v new kind h = h
   state_exact_same Final d v new kind h = h
 
-  -- a turn that was refused past the version check
+  -- a turn that was refused after the version check
   pub client_cause_past : {T : Type 0} (old new : ClientView C) (d request : TsRequest) (state : CredSspState) (v : ℕ)
       (r : Result T Error) →
       is_waiting_in c old.context ≡ false → is_code d.error_code ≡ false →
@@ -68,7 +68,7 @@ module _ {C : Type 0} (c : Meaning ContextSetting C) where
       (state_cause_same state d v new e.error_type (subst (λ x. StateCause c state x new e.error_type) same (h memory))) in
       rw (idle, code, young, altered) (λ memory. made_later old.context new.context _ _ begun (later memory))
 
-  -- a turn that met a version that is too old was refused for that
+  -- a turn that met a version that is too old was refused for it
   pub too_old : (old : ClientView C) (d : TsRequest) (kind : ErrorKind) (new : ClientView C) →
       is_waiting_in c old.context ≡ false → is_code d.error_code ≡ false →
       is_old_in old.context old.settings.least old.noted d.version ≡ true → ClientCause c old d new kind → kind ≡ DowngradeDetected
@@ -87,7 +87,7 @@ module _ {C : Type 0} (c : Meaning ContextSetting C) where
       (stops_map (is_altered_in old.context old.noted d.version) MessageAltered kind _ _
       (λ given memory. made_by old.context new.context _ _ _ _ (λ cause. cause memory) (λ none. absurd none) given)) h)
 
-  -- what is told of both whatever memory there is
+  -- what is reported of both even when out of memory
   pub client_exact_begun : (old new : ClientView C) (d : TsRequest) (kind : ErrorKind) (Cause : Type 0) →
       is_waiting_in c old.context ≡ false → is_code d.error_code ≡ false →
       VersionStopsIn old.context old.settings.least old.noted d.version kind (MadeOr old.context new.context Cause ⊥) →

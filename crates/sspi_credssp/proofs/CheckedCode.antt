@@ -1,4 +1,4 @@
--- What a request's check for an error code tells a client of the code.
+-- What a request's check for an error code tells a client about the code.
 use Rattle.std.proofs.Common.{◌≡◌, Option, None, Some, Ok, Err, true, false, not, refl, ap, inl, inr}
 use Rattle.std.proofs.lemmas.Bool.Decides.{eqb_tells}
 use Rattle.sspi_types.specs.declared.error.Error.{Error}

@@ -1,4 +1,4 @@
--- A client refuses for the age of its server's version exactly where it meets one, but where its context refuses so.
+-- When a client refuses a version as too old, unless its context refuses with that kind.
 use Rattle.std.proofs.Common.{◌≡◌, ◌≢◌, ℕ, List, Option, None, Some, Result, Ok, Err, IfErr, IsErrAnd, Bool, true, false, refl, sym, subst}
 use Rattle.sspi_types.specs.declared.error.Error.{Error}
 use Rattle.sspi_types.specs.declared.error_kind.ErrorKind.{ErrorKind}
@@ -161,7 +161,7 @@ module _ {C : Type 0} (c : Meaning ContextSetting C) (never : NeverRefuses c Dow
             code.1;
       }
 
-  -- a resumed step refuses with that kind only where its context does
+  -- a resumed step refuses with that kind only if its context does
   pub resumed_never : (start : ClientView C) (d : TsRequest) (tries : ℕ) (log : List Asked) (r : Result Progress Error)
       (new : ClientView C) →
       IfErr r (λ error. OrMemory error.error_type (NegoCause c new.acts.status new error.error_type)) →

@@ -1,4 +1,4 @@
--- A turn of the client that is under way stays so over a step of its context.
+-- A client's turn stays under way over a step of its context.
 use Rattle.std.proofs.Common.{◌≡◌, ◌<◌, ℕ, List, Option, Some, true, refl, sym, ◌∙◌, ap, subst, inl, inr}
 use Rattle.sspi_names.specs.declared.network.NetworkRequest.{NetworkRequest}
 use Rattle.sspi_mech.specs.declared.step.Answer.{Answer}
@@ -22,7 +22,7 @@ pub not_yet : (s : CredSspState) (P : Type 0) → s ≡ NegoToken → OnceNegoti
 not_yet s P e = subst (λ x. OnceNegotiated x P) (sym e) tt
 
 module _ {S C : Type 0} (c : Meaning S C) where
-  -- in the authentication a step does no act
+  -- in the authentication a step seals and opens nothing
   counts_still : (start : CredSspState) (before context : Option C) (m m2 : C) → start ≡ NegoToken → context ≡ Some m →
       NeitherSealsNorOpens (c.counts m) (c.counts m2) → CountsEachAct c start before no_acts context →
       CountsEachAct c start before no_acts (Some m2)
@@ -66,7 +66,7 @@ module _ {C : Type 0} (c : Meaning ContextSetting C) where
         unspent = still_unspent c _ _ _ m m2 ready.unspent (sym ready.state ∙ nego) here silent;
       }
 
-  -- what a call forgets of the last one is nothing of the turn
+  -- what a call forgets of the last one does not belong to the turn
   pub ready_forgot : (start now : ClientView C) (d : TsRequest) (acts : Acts) (output : List ℕ) (kept : Option TsRequest) →
       IsReady c start d now → IsReady c start d (record now { acts = acts; output = output; kept = kept })
   ready_forgot start now d acts output kept ready = record {
@@ -101,7 +101,7 @@ module _ {C : Type 0} (c : Meaning ContextSetting C) (laws : IsContext c) where
     on_ask r (c.waits m2 ≡ true) (λ request is. laws.resume_waits m m2 b request (subst (λ x. c.resumes m b x m2) is step)),
   )
 
-  -- each further question is one fewer to come
+  -- each further question leaves fewer to come
   pub falls_on : (m m2 : C) (b : Reply) (r : Answer) → c.resumes m b r m2 → OnAsk r (c.left m2 < c.left m)
   falls_on m m2 b r step =
       on_ask r (c.left m2 < c.left m) (λ request is. laws.resume_asks m m2 b request (subst (λ x. c.resumes m b x m2) is step))

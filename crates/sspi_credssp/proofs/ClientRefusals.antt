@@ -1,4 +1,4 @@
--- What a client tells of a proof that it did not open.
+-- What a client reports about a proof that it did not open.
 use Rattle.std.proofs.Common.{◌≡◌, ℕ, List, Option, None, Some, false, sym, subst}
 use Rattle.sspi_types.specs.declared.error_kind.ErrorKind.{ErrorKind}
 use Rattle.sspi_mech.specs.Answered.{IsRefusedAs}

@@ -9,7 +9,7 @@ use Rattle.sspi_mech.specs.Answered.{answered}
 use Rattle.sspi_credssp.specs.Refusal.{IsRefusedBy}
 use Rattle.sspi_credssp.specs.Refused.{IsRefusedFor}
 
--- an error without a code is all in its kind and its reason
+-- an error without a code is determined by its kind and its reason
 pub codeless_again : (error : Error) → error.nstatus ≡ None → error_of (refusal_of error) ≡ error
 codeless_again error none = ap (λ (code : Option NStatusCode). record error { nstatus = code }) (sym none)
 

@@ -1,4 +1,4 @@
--- A context by one of two mechanisms, or by a negotiation over them, is a context.
+-- A context of one of two mechanisms, or of a negotiation over them, keeps the laws of a context.
 use Rattle.std.proofs.Common.{◌≡◌, ℕ, ◌⊎◌, inl, inr, refl, filter, take}
 use Rattle.sspi_mech.specs.Context.{IsContext}
 use Rattle.sspi_mech.specs.Laws.{IsMechanism}

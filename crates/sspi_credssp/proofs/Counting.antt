@@ -1,4 +1,4 @@
--- What a context counts that nothing was sealed or opened with in the authentication.
+-- What a context counts that has sealed and opened nothing in the authentication.
 use Rattle.std.proofs.Common.{◌≡◌, ◌+◌, ℕ, Option, None, Some, refl, sym, ap, add-zero, ◌∙◌, inl, inr}
 use Rattle.sspi_mech.specs.Meaning.{Meaning}
 use Rattle.sspi_credssp.specs.declared.acts.Acts.{Acts}
@@ -12,7 +12,7 @@ module _ {S C : Type 0} (c : Meaning S C) where
   unused_counts None h = (refl, refl)
   unused_counts (Some m) h = (h.sealings, h.unsealings)
 
-  -- a context that has counted no act yet, and then these
+  -- a context that has counted no effects yet, and then these
   pub counts_more : (state : CredSspState) (before mid : Option C) (acts : Acts) (now : Option C) →
       CountsEachAct c state before no_acts mid → AddsActs c mid acts now → CountsEachAct c state before acts now
   counts_more state before mid acts now (inl counts) adds = inl (
@@ -27,7 +27,7 @@ module _ {S C : Type 0} (c : Meaning S C) where
     ),
   )
 
-  -- there both ways of counting say the same
+  -- for such a context both ways of counting agree
   pub counted_by : (state : CredSspState) (before : Option C) (acts : Acts) (now : Option C) →
       (state ≡ NegoToken → IsUnusedIn c before) → CountsEachAct c state before acts now → AddsActs c before acts now
   counted_by state before acts now unused (inl counts) = counts

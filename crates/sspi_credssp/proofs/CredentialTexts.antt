@@ -1,4 +1,4 @@
--- What credentials and their texts are to the two ends; no refusal of them has an NTSTATUS code.
+-- What credentials and their texts mean to the two ends; no refusal of them has an NTSTATUS code.
 use Rattle.std.proofs.Common.{◌≡◌, ◌≢◌, ◌⊎◌, inl, inr, ◌∙◌, ℕ, List, Option, None, Some, Result, Ok, Err, IfOk, IfErr, refl, sym, ap}
 use Rattle.sspi_types.specs.declared.error.Error.{Error}
 use Rattle.sspi_types.specs.declared.error_kind.ErrorKind.TheVariants.{InsufficientMemory}

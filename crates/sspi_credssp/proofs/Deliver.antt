@@ -27,7 +27,7 @@ module _ {S C : Type 0} (c : Meaning S C) (laws : IsContext c) where
   seals_still m m2 n i text blob e o =
       laws.seals_counted m2 (c.counts m) i text blob (subst (λ x. c.seals x i text blob) (sym (counted_back m m2 n e)) o)
 
-  -- after the right proof the end seals what it owes and notes it, or that is refused
+  -- after the right proof the end seals what it owes and records it, or its sealing is refused
   pub exchanged : {E : Type 0} (m m1 m2 : C) (acts acts1 : Acts) (before now : Bool) (blob proof : List ℕ) (same : Bool)
       (r : Result (List ℕ) E) →
       before ≡ false → HasOpened c m m1 acts acts1 blob proof same → same ≡ true →

@@ -1,4 +1,4 @@
--- The walk of a carry over a little-endian number, and that it adds one or takes one away.
+-- The walk of a carry over a little-endian number, and that it adds or subtracts one.
 use Rattle.std.proofs.Common.{◌≡◌, ℕ, zero, suc, ◌+◌, ◌-◌, ◌*◌, ◌/◌, ◌%◌, ◌^◌, ◌<◌, ◌≤◌, ◌≢◌, inl, inr, false, add-one, lit<, cond}
 use Rattle.std.proofs.Common.{eqb, List, [], ◌∷◌, ◌++◌, length, take, drop, get_or, All, refl, sym, ◌∙◌, ap, arith}
 use Rattle.std.proofs.lemmas.Bool.Decides.{eqb_tells}
@@ -20,7 +20,7 @@ abbrev pub borrowed : List ℕ → List ℕ
 borrowed [] = []
 borrowed (b ∷ bs) = cond (eqb b 0) (255 ∷ borrowed bs) ((b - 1) ∷ bs)
 
--- a number that is one byte and 256 times the rest falls apart again
+-- a number made of one byte and 256 times the rest splits into both again
 pub low_byte : (b n : ℕ) → b < 256 → (b + 256 * n) % 256 ≡ b
 low_byte b n h = omega arith
 
@@ -35,7 +35,7 @@ bytes_of-little_endian [] h = refl
 bytes_of-little_endian (b ∷ bs) h =
     digits (length bs) b (little_endian bs) _ h.0 refl ∙ ap (λ xs. b ∷ xs) (bytes_of-little_endian bs h.1)
 
--- what is added in steps of 256 stays out of the low byte
+-- adding a multiple of 256 leaves the low byte unchanged
 pub low_wrap : (n m : ℕ) → (n + 256 * m) % 256 ≡ n % 256
 low_wrap n m = omega arith
 
@@ -45,7 +45,7 @@ high_wrap n m = omega arith
 pub power_suc : (k : ℕ) → 256 ^ suc k ≡ 256 * 256 ^ k
 power_suc k = rw (pow-suc 256 k) (omega arith)
 
--- a number past the count of bytes encodes the same bytes
+-- a number plus 256^k encodes the same k bytes
 pub bytes_of-wrap : (k n : ℕ) → bytes_of k (n + 256 ^ k) ≡ bytes_of k n
 bytes_of-wrap zero n = refl
 bytes_of-wrap (suc k) n =
@@ -124,7 +124,7 @@ borrowed-carried (b ∷ bs) h =
       | inr w ↦ rw (w.0, eqb_positive b) (ap (λ x. x ∷ bs) (let e : b + 1 - 1 ≡ b = omega arith in e))
     ]
 
--- what was added is taken away again
+-- decrementing undoes incrementing
 pub decremented-incremented : (bs : List ℕ) → AreBytes bs → decremented (incremented bs) ≡ bs
 decremented-incremented bs h =
     rw (sym (carried-incremented bs h)) (sym (borrowed-decremented (carried bs) (carried-bytes bs h)) ∙ borrowed-carried bs h)
@@ -151,12 +151,12 @@ carried-borrowed (b ∷ bs) h =
           (ap (λ x. x ∷ bs) (let d : b ≢ 0 = w.1 in let e : b - 1 + 1 ≡ b = omega arith in e))
     ]
 
--- what was taken away is added again
+-- incrementing undoes decrementing
 pub incremented-decremented : (bs : List ℕ) → AreBytes bs → incremented (decremented bs) ≡ bs
 incremented-decremented bs h =
     rw (sym (borrowed-decremented bs h)) (sym (carried-incremented (borrowed bs) (borrowed-bytes bs h)) ∙ carried-borrowed bs h)
 
--- where a walk stops it has written one more byte, and what it leaves stays
+-- a walk that stops has written one more byte, and leaves the rest as it was
 pub carried_stops : (i : ℕ) (bs : List ℕ) → i < length bs → get_or bs i 0 ≢ 255 →
     take i bs ++ carried (drop i bs) ≡ set bs i (get_or bs i 0 + 1)
 carried_stops i [] h n = absurd (omega arith)

@@ -1,4 +1,4 @@
--- What follows where a blob opens to one text.
+-- What follows from a blob opening to a single text.
 use Rattle.std.proofs.Common.{◌≡◌, ℕ, ◌-◌, List, Bool, true, Option, None, Some, Result, Ok, Err, OnErr, IfErr, sym, ◌∙◌, ap, subst}
 use Rattle.sspi_types.specs.declared.error_kind.ErrorKind.{ErrorKind}
 use Rattle.sspi_names.specs.declared.identity.AuthIdentity.{AuthIdentity}
@@ -26,7 +26,7 @@ module _ {C : Type 0} (c : Meaning ContextSetting C) (laws : IsContext c) where
   one_held (Some m) None identity other holds again = absurd holds
   one_held (Some m) (Some blob) identity other holds again = one_opened m blob identity other holds again
 
-  -- a context that differs in its counts alone opens alike
+  -- a context that differs only in its counts opens a blob to the same text
   opens_before : (m m2 : C) (n : ℕ) (blob text : List ℕ) → cleared c m2 ≡ cleared c m → c.opens m2 n blob text → c.opens m n blob text
   opens_before m m2 n blob text same opens = laws.opens_counted m (c.counts m2) n blob text
       (subst (λ (x : C). c.opens x n blob text) (recounted_as c laws m m2 same) opens)
@@ -47,14 +47,14 @@ module _ {C : Type 0} (c : Meaning ContextSetting C) (laws : IsContext c) where
       rw (ap (λ (a : Acts). a.checked) opened.noted) (other_is_altered
       (λ other. absurd (not_altered m2 blob proof (subst (λ (b : Bool). OpensAs c m2 blob proof b) is opened.holds) other)))
 
-  -- whatever comes of the rest
+  -- whatever the rest answers
   pub owed_always : {T : Type 0} {acts acts2 : Acts} {same : Bool} (r : Result T Refusal) (m m2 : C) (blob proof : List ℕ) →
       HasOpened c m m2 acts acts2 blob proof same → same ≡ true →
       IfErr r (λ e. AlteredExactly c acts2.checked m2 blob proof e.error_type)
   owed_always (Ok x) m m2 blob proof opened is = tt
   owed_always (Err e) m m2 blob proof opened is = owed_exactly m m2 blob proof e.error_type opened is
 
-  -- what the end then owes is sealed, or that is refused
+  -- what the end then owes is sealed, or its sealing is refused
   pub sealed_exactly : {T : Type 0} {acts acts2 : Acts} {same : Bool} (r : Result T Refusal) (m m1 m2 : C) (blob proof : List ℕ) →
       HasOpened c m m1 acts acts2 blob proof same → same ≡ true → OnErr r (m2 ≡ m1) →
       IfErr r (λ e. AlteredExactly c acts2.checked m2 blob proof e.error_type)

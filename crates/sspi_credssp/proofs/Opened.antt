@@ -1,4 +1,4 @@
--- What is known of a blob that was opened, once it is known whether it held the proof.
+-- What is known of an opened blob, depending on whether it held the proof.
 use Rattle.std.proofs.Common.{◌≡◌, ◌≢◌, ℕ, ◌-◌, List, Bool, true, false, Result, Ok, Err, OnErr, IfErr, refl, ap, subst}
 use Rattle.sspi_types.specs.declared.error_kind.ErrorKind.{ErrorKind}
 use Rattle.sspi_types.specs.declared.error_kind.ErrorKind.TheVariants.{InsufficientMemory, MessageAltered}
@@ -29,7 +29,7 @@ pub owed_stops : {S C : Type 0} {c : Meaning S C} {m m2 : C} {acts acts2 : Acts}
 owed_stops {c = c} {m2 = m2} {blob = blob} {proof = proof} kind Unsealed opened is why =
     rw (ap (λ (a : Acts). a.checked) opened.noted) (unsealed (subst (λ b. OpensAs c m2 blob proof b) is opened.holds) why)
 
--- the same of what the end then owes, sealed or refused
+-- the same for what the end then owes, sealed or refused
 pub owed_causes : {T S C : Type 0} {c : Meaning S C} {m m1 : C} {acts acts2 : Acts} {blob proof : List ℕ} {same : Bool} (m2 : C)
     (Unsealed : ErrorKind → Type 0) (r : Result T Refusal) → HasOpened c m m1 acts acts2 blob proof same → same ≡ true →
     OnErr r (m2 ≡ m1) → IfErr r (λ e. e.error_type ≢ InsufficientMemory → Unsealed e.error_type) →

@@ -1,4 +1,4 @@
--- Which statuses have a server look its peer up.
+-- At which statuses a server looks up its peer.
 use Rattle.std.proofs.Common.{◌≡◌, Some, refl}
 use Rattle.sspi_types.specs.declared.security_status.SecurityStatus.{SecurityStatus}
 use Rattle.sspi_types.specs.declared.security_status.SecurityStatus.TheVariants as statuses

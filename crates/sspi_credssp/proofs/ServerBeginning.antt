@@ -1,4 +1,4 @@
--- A server's call that is refused while it makes its context or looks at its client's version.
+-- A server's call that is refused while it makes its context or checks its client's version.
 use Rattle.std.proofs.Common.{inl, ◌≡◌, ℕ, List, [], Option, None, Some, IsSome, Result, Ok, Err, OnErr, Bool, true, false}
 use Rattle.std.proofs.Common.{refl, sym, ◌∙◌, ap, subst}
 use Rattle.sspi_types.specs.declared.credential_use.CredentialUse.TheVariants.{Inbound}
@@ -57,7 +57,7 @@ module _ {C : Type 0} (c : Meaning ContextSetting C) where
     as_new told old new None h = h
     as_new told old new (Some m) h = is_made told h
 
-    -- the version was refused that a new context met first
+    -- the first version that a new context met was refused
     pub new_refused : {T E : Type 0} (told : Option (List AuthIdentity)) (r : Result T E) (old new : ServerView C P) (version : ℕ) →
         old.context ≡ None → old.noted ≡ None → old.state ≡ NegoToken → IsUnusedIn c new.context →
         IfContext new.context (λ m. Begun c old.context old.handle (ForServer old.settings.mode told) Inbound None new.handle m) →
@@ -77,7 +77,7 @@ module _ {C : Type 0} (c : Meaning ContextSetting C) where
           bare = not_yet old.state _ state;
         }
 
-    -- what a server says of its last call is nothing of its context
+    -- what a server keeps of its last call does not concern its context
     new_still : (old new : ServerView C P) (acts : Acts) (output : List ℕ) (m : C) →
         IsNew c (record old { acts = acts; output = output }) new m → IsNew c old new m
     new_still old new acts output m (is_made told begun) = is_made told begun

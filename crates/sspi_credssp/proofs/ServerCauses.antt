@@ -33,7 +33,7 @@ module _ {C : Type 0} (c : Meaning ContextSetting C) where
       (stops_map (is_old old.settings.least old.noted d.version) DowngradeDetected kind _ _
       (stops_map (differs old.noted d.version) MessageAltered kind _ _ (λ none. absurd none))) h
 
-  -- what is told of both whatever memory there is
+  -- what is reported of both even when out of memory
   pub server_exact_begun : {P : Type 0} (old new : ServerView C P) (d : TsRequest) (kind : ErrorKind) (Cause : Type 0) →
       MadeOr old.context new.context Cause (VersionStops old.settings.least old.noted d.version kind ⊥) → ServerExact c old d new kind
   server_exact_begun old new d kind Cause h =
@@ -62,7 +62,7 @@ module _ {C : Type 0} (c : Meaning ContextSetting C) where
       (subst (λ x. StateExact c state x new refusal.error.error_type) same h))))
 
   module _ {P : Type 0} (p : ProxyMeaning P) where
-    -- a turn that was refused past the version check
+    -- a turn that was refused after the version check
     pub server_cause_past : {T : Type 0} (old new : ServerView C P) (d : TsRequest) (state : CredSspState) (r : Result T ServerError) →
         is_old old.settings.least old.noted d.version ≡ false → differs old.noted d.version ≡ false → IsSome new.context →
         state ≡ old.state →
@@ -93,7 +93,7 @@ module _ {C : Type 0} (c : Meaning ContextSetting C) where
     over_causes s old d new (Ok x) over h = h
     over_causes s old d new (Err e) over h = λ memory. over_cause s old d new e.error_type over (h memory)
 
-    -- once the context has come to its end
+    -- once the context is completed
     pub known_causes : {T : Type 0} (s : SecurityStatus) (old : ServerView C P) (d request : TsRequest) (v : ℕ) (new : ServerView C P)
         (r : Result T Refusal) →
         request ≡ record d { version = v } → HasCome c p Completed s old d new →

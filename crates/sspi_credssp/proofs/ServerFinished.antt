@@ -1,4 +1,4 @@
--- The server's last turn, of what opening the credentials did to it.
+-- The server's last turn, from what opening the credentials did to it.
 use Rattle.std.proofs.Common.{◌≡◌, ℕ, List, [], Option, None, Some, IsSome, Ok, false, refl, sym, ◌∙◌, ap, subst, add-zero, arith}
 use Rattle.sspi_names.specs.declared.identity.AuthIdentity.{AuthIdentity}
 use Rattle.sspi_tsreq.specs.declared.request.TsRequest.{TsRequest}

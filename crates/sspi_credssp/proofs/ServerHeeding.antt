@@ -1,4 +1,4 @@
--- A server refuses for the age of its client's version exactly where it meets one, but where its context refuses so.
+-- When a server refuses a version as too old, unless its context refuses with that kind.
 use Rattle.std.proofs.Common.{◌≡◌, ℕ, List, Option, None, Some, IsSome, Result, Ok, Err, IfErr, IsErrAnd, Bool, true, false, refl}
 use Rattle.std.proofs.Common.{sym, subst}
 use Rattle.sspi_types.specs.declared.error.Error.{Error}

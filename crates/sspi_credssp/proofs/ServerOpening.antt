@@ -1,4 +1,4 @@
--- What opening the credentials did to the server, of what it did to its context.
+-- What opening the credentials did to the server, from what it did to its context.
 use Rattle.std.proofs.Common.{◌≡◌, ◌≢◌, ℕ, List, Option, None, Some, Result, Ok, Err, IfOk, IfErr, OnOk, Bool, true, refl, sym, ◌∙◌}
 use Rattle.std.proofs.Common.{ap, subst, ◌+◌}
 use Rattle.sspi_types.specs.declared.error_kind.ErrorKind.TheVariants.{InsufficientMemory}

@@ -1,4 +1,4 @@
--- A turn of the server that is under way stays so over a step of its context, and while the context only counts.
+-- A server's turn stays under way over a step of its context, and while the context only counts.
 use Rattle.std.proofs.Common.{◌≡◌, ℕ, List, Some, refl, sym, ◌∙◌}
 use Rattle.sspi_mech.specs.Context.{NeitherSealsNorOpens}
 use Rattle.sspi_mech.specs.Meaning.{Meaning}

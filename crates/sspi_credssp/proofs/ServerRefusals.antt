@@ -1,4 +1,4 @@
--- What the server makes of a request of its own version it makes of the delivered one.
+-- The server answers a request with its own version as it answers the delivered one.
 use Rattle.std.proofs.Common.{◌≡◌, ℕ, Some, Result, Ok, Err, refl, sym, ◌∙◌, ap, subst}
 use Rattle.sspi_types.specs.declared.error.Error.{Error}
 use Rattle.sspi_types.specs.declared.error_kind.ErrorKind.{ErrorKind}
@@ -40,7 +40,7 @@ module _ {C P : Type 0} (c : Meaning ContextSetting C) where
       subst (λ (r : ServerError). ServerTurn c start d (outcome.Refused r.error.error_type r.ts_request) new) (sym given)
       (subst (λ r. ServerTurn c start d (outcome.Refused error.error_type (Some r)) new) (sym told) h)
 
-  -- as the call hands it back
+  -- as the call returns it
   pub halted_as : (start new : ServerView C P) (d request : TsRequest) (state : CredSspState) (version : ℕ) (error : Error)
       (refusal : ServerError)
       (result : Result ServerState ServerError) → result ≡ Err refusal →

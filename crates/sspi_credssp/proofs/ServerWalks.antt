@@ -1,4 +1,4 @@
--- A server's walk goes on where its context only counts, and as it comes to know its peer.
+-- A server's walk continues while its context only counts, and as it comes to know its peer.
 use Rattle.std.proofs.Common.{◌≡◌, ℕ, List, Option, Some, None, Result, Ok, Err, true, refl, sym, subst}
 use Rattle.sspi_types.specs.declared.error.Error.{Error}
 use Rattle.sspi_types.specs.declared.security_status.SecurityStatus.{SecurityStatus}
@@ -28,7 +28,7 @@ module _ {C P : Type 0} (c : Meaning ContextSetting C) (laws : IsContext c) (p :
   accepted_on start handle token known answer (Some m) (Some m2) same accepted =
       recounted m m2 (c.counts m2) known answer accepted (recounted_as c laws m m2 same) (silent_as c laws m m2 same)
 
-  -- the same step of a view that has its handle and its output
+  -- the same step for a view with the same handle and output
   pub come_on : (known : Knowing) (status : SecurityStatus) (start old new : ServerView C P) (d : TsRequest) → new.handle ≡ old.handle →
       new.output ≡ old.output →
       IfContext new.context (Accepted c p start old.handle d.nego_tokens known (Ok (record { status = status; output = old.output }))) →
@@ -42,7 +42,7 @@ module _ {C P : Type 0} (c : Meaning ContextSetting C) (laws : IsContext c) (p :
   known_so_far start handle token known answer None accepted = absurd accepted
   known_so_far start handle token known answer (Some m) accepted = so_far known accepted
 
-  -- a call that only has the context count, once the peer is known
+  -- a call that changes only the context's counts, once the peer is known
   pub completed_on : {T : Type 0} (start : ServerView C P) (handle : Option CredentialsBuffers) (token : Option (List ℕ))
       (answer : Result Step Error)
       (r : Result T Error) (o o2 : Option C) → SameBut c o o2 → IfContext o (Accepted c p start handle token Completed answer) →
@@ -51,7 +51,7 @@ module _ {C P : Type 0} (c : Meaning ContextSetting C) (laws : IsContext c) (p :
   completed_on start handle token answer (Err e) o o2 same accepted =
       known_so_far start handle token Completed answer o2 (accepted_on start handle token Completed answer o o2 same accepted)
 
-  -- a call that was refused before it looked its peer up
+  -- a call that was refused before it looked up its peer
   pub unknown_at : (s : SecurityStatus) (start : ServerView C P) (handle : Option CredentialsBuffers) (token : Option (List ℕ))
       (answer : Result Step Error)
       (m : C) → Accepted c p start handle token Unknown answer m → RefusedAt c p (Some s) start handle token answer m
@@ -114,7 +114,7 @@ module _ {C P : Type 0} (c : Meaning ContextSetting C) (laws : IsContext c) (p :
       HasAccepted c p start d (Ok value) now
   turn_done start now d status value answered h = subst (λ s. DoneStep c p s start d now) (sym answered) h
 
-  -- what a call made of the end of the authentication
+  -- the result of a call at the end of the authentication
   pub turn_completed : {T : Type 0} (start now : ServerView C P) (d : TsRequest) (status : SecurityStatus)
       (handle : Option CredentialsBuffers) (output : List ℕ) (r : Result T Error) →
       now.acts.negotiated ≡ true → now.acts.status ≡ Some status → known_at c p status ≡ Completed → now.handle ≡ handle →
@@ -137,7 +137,7 @@ module _ {C P : Type 0} (c : Meaning ContextSetting C) (laws : IsContext c) (p :
       (subst (λ x. IfContext now.context (AcceptedSoFar c p start handle d.nego_tokens (Ok (record { status = status; output = x }))))
       (sym same_output) h)))
 
-  -- with the error that the call hands back
+  -- with the error that the call returns
   pub refused_as : (start now : ServerView C P) (d : TsRequest) (error error2 : Error) → error2 ≡ error →
       OnStep c p now.acts.negotiated (IfContext now.context (RefusedAt c p now.acts.status start now.handle d.nego_tokens
       (refused_step now.acts.status now.output error))) →

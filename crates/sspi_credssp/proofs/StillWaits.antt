@@ -1,4 +1,4 @@
--- A client whose refused resume waits again is under way as before.
+-- A client whose refused resume waits again is still under way.
 use Rattle.std.proofs.Common.{◌≡◌, ℕ, ◌+◌, List, [], ◌∷◌, Some, None, Result, Ok, Err, IsErr, OnErr, true, sym, ◌∙◌, ap, subst}
 use Rattle.sspi_types.specs.declared.error.Error.{Error}
 use Rattle.sspi_names.specs.declared.network.NetworkRequest.{NetworkRequest}
@@ -24,7 +24,7 @@ use Rattle.sspi_credssp.specs.Context.{ContextSetting}
 use Rattle.sspi_credssp.proofs.ClientReady.{ready_stepped, ready_forgot}
 
 module _ {C : Type 0} (c : Meaning ContextSetting C) (laws : IsContext c) where
-  -- `v` is the client before the call, `stepped` it once its context took the reply, and `new` it as the call leaves it
+  -- `v`: the client before the call; `stepped`: once its context took the reply; `new`: after it
   pub still_waits : (start : ClientView C) (d : TsRequest) (tries : ℕ) (log : List Asked) (q : NetworkRequest)
       (v stepped new : ClientView C)
       (m m2 : C) (reply : Reply) (request : TsRequest) (progress : Result Progressing Refusal) (result : Result Progress Refusal) →

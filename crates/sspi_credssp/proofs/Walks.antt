@@ -1,4 +1,4 @@
--- A walk goes on where the context only counts.
+-- A walk continues while the context only counts.
 use Rattle.std.proofs.Common.{◌≡◌, ℕ, List, Option, Some, None, sym, ◌∙◌, ap}
 use Rattle.sspi_names.specs.declared.credentials.CredentialsBuffers.{CredentialsBuffers}
 use Rattle.sspi_mech.specs.declared.step.Answer.{Answer}
@@ -9,7 +9,7 @@ use Rattle.sspi_credssp.specs.Ends.{ClientView}
 use Rattle.sspi_credssp.specs.ClientTurn.{Asked, Walked, recounted}
 use Rattle.sspi_credssp.specs.Acts.{SameBut, silent, cleared}
 
--- two contexts that differ in their counts alone
+-- two contexts that differ only in their counts
 pub recounted_as : {S C : Type 0} (c : Meaning S C) → IsContext c → (m m2 : C) →
     cleared c m2 ≡ cleared c m → m2 ≡ c.counted m (c.counts m2)
 recounted_as c laws m m2 same =

@@ -1,5 +1,5 @@
--- What an end did on its security context in one call, and how many messages a context has made and
--- taken.
+-- What an end did on its security context in one call, and how many messages a context has sealed
+-- and opened.
 use Rattle.std.specs.Prelude.{ℕ, ◌+◌, ◌⊎◌, Bool, true, false, None, ◌≡◌, List, Option, Some}
 use Rattle.sspi_mech.specs.Calls.{Counts}
 use Rattle.sspi_mech.specs.Meaning.{Meaning}
@@ -21,16 +21,16 @@ abbrev pub count_of : Bool → ℕ
 count_of true = 1
 count_of false = 0
 
--- how many texts these acts sealed, and how many blobs they unsealed
+-- how many sealings these effects include, and how many unsealings
 abbrev pub sealings_by : Acts → ℕ
 sealings_by acts = count_of acts.proved + count_of acts.sealed
 
 abbrev pub unsealings_by : Acts → ℕ
 unsealings_by acts = count_of acts.checked + count_of acts.opened
 
--- ---- what a context counts, where there is one
+-- ---- what a context counts, if there is one
 
--- of one that sealed and opened nothing, and made and took as many MICs
+-- the same counts without sealings and unsealings; those of MICs stay
 abbrev pub silent : Counts → Counts
 silent n = record n { sealings = 0; unsealings = 0 }
 
@@ -43,23 +43,23 @@ module _ {S C : Type 0} (c : Meaning S C) where
   unsealings_in None = 0
   unsealings_in (Some m) = (c.counts m).unsealings
 
-  -- the counts are those before and the acts
+  -- the counts are those before plus the effects
   abbrev pub AddsActs : Option C → Acts → Option C → Type 0
   AddsActs before acts now =
       (sealings_in now ≡ sealings_in before + sealings_by acts) ×
       (unsealings_in now ≡ unsealings_in before + unsealings_by acts)
 
-  -- The counts are those before and the acts; or the acts alone, in the authentication, where a
-  -- step may take another mechanism.
+  -- The counts are those before plus the effects; or the effects alone, in the authentication,
+  -- where a step may select another mechanism.
   abbrev pub CountsEachAct : CredSspState → Option C → Acts → Option C → Type 0
   CountsEachAct state before acts now = AddsActs before acts now ⊎
       ((state ≡ NegoToken) × AddsActs None acts now)
 
-  -- the context but for what it sealed and opened
+  -- the context without its counts of sealings and unsealings
   abbrev pub cleared : C → C
   cleared m = c.counted m (silent (c.counts m))
 
-  -- the same context, but for what it sealed and opened
+  -- the same context, except for its counts of sealings and unsealings
   abbrev pub SameBut : Option C → Option C → Type 0
   SameBut None None = Unit {0}
   SameBut (Some m) (Some m2) = cleared m2 ≡ cleared m

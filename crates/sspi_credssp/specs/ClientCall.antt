@@ -1,5 +1,4 @@
--- What one call of `CredSspClient::process`, and one of `resume`, is, whatever it answers (MS-CSSP
--- 3.1.5.1).
+-- What one call of `CredSspClient::process` or `resume` is, whatever it answers (MS-CSSP 3.1.5.1).
 use Rattle.std.specs.Prelude.{◌≡◌, ◌<◌, ◌+◌, ℕ, List, [], ◌∷◌, None, Result, IsSome, IsErr, IfErr}
 use Rattle.std.specs.Prelude.{OnErr, true, false}
 use Rattle.sspi_types.specs.declared.error.Error.{Error}
@@ -26,16 +25,16 @@ OnlyForgets old result new = IsErr result × (new ≡ record old { acts = no_act
 module _ {C : Type 0} (c : Meaning ContextSetting C) where
   -- ---- what both calls share
 
-  -- A turn on d that began at `start` is suspended at this question, after those of the log, the
-  -- newest first; so many refused resumes were tried again.
+  -- A turn on d that began at `start` is suspended at this question, after those of the log, newest
+  -- first; `tries` refused resumes were tried again.
   pub record Awaits (start : ClientView C) (d : TsRequest) (tries : ℕ) (log : List Asked)
       (q : NetworkRequest) (now : ClientView C) :
       Type 0 where
     pub underway : IsUnderway c start d now
     pub walked : StepsTo c start d tries log (Ask q) now
 
-  -- the step that such a turn takes of its context, and that it is refused for the age of the
-  -- server's version exactly there
+  -- the step that such a turn takes of its context, and exactly when it is refused because the
+  -- server's version is too old
   pub record ClientSteps (start : ClientView C) (d : TsRequest) (tries : ℕ) (log : List Asked)
       (result : Result Progress Error)
       (new : ClientView C) : Type 0 where
@@ -44,15 +43,15 @@ module _ {C : Type 0} (c : Meaning ContextSetting C) where
 
   -- ---- process
 
-  -- why it is refused; an NTSTATUS code is the server's own
+  -- why it is refused; any NTSTATUS code is the server's own
   pub record ClientIsRefused (old : ClientView C) (d : TsRequest) (result : Result Progress Error)
       (new : ClientView C) : Type 0 where
     pub kind : IfErr result (λ error. ClientCause c old d new error.error_type)
     pub exact : IfErr result (λ error. ClientExact c old d new error.error_type)
     pub status : IfErr result (λ error. error.nstatus ≡ status_of c old d)
 
-  -- What it leaves alone: a suspended turn waits on, a server that reports an error or changes its
-  -- version moves nothing, and nor does a call that leaves no context.
+  -- What it leaves unchanged: a suspended turn keeps waiting; a server that reports an error or
+  -- changes its version changes nothing, and neither does a call that leaves no context.
   pub record ClientKeeps (old : ClientView C) (d : TsRequest) (result : Result Progress Error)
       (new : ClientView C) : Type 0 where
     pub waited : is_waiting_in c old.context ≡ true → OnlyForgets old result new
@@ -75,14 +74,14 @@ module _ {C : Type 0} (c : Meaning ContextSetting C) where
 
   -- ---- resume
 
-  -- why it is refused; no NTSTATUS code tells it
+  -- why it is refused, without an NTSTATUS code
   pub record ResumeIsRefused (old : ClientView C) (result : Result Progress Error)
       (new : ClientView C) : Type 0 where
     pub kind : IfErr result (λ error. ResumeCause c old new error.error_type)
     pub codeless : IfErr result (λ error. error.nstatus ≡ None)
 
-  -- what it leaves alone: a turn that it refuses waits on where the context does, and without one
-  -- nothing moves
+  -- what it leaves unchanged: a refused turn keeps waiting if the context does, and without a
+  -- suspended turn nothing changes
   pub record ResumeKeeps (old : ClientView C) (reply : Reply) (result : Result Progress Error)
       (new : ClientView C) : Type 0 where
     pub same : new.settings ≡ old.settings
@@ -92,14 +91,14 @@ module _ {C : Type 0} (c : Meaning ContextSetting C) where
         is_waiting_in c new.context ≡ true →
         Awaits start d (tries + 1) (record { question = q; reply = reply } ∷ log) q new)
     pub idle : is_waiting_in c old.context ≡ false → OnlyForgets old result new
-    -- the request is dropped where the context waits no more
+    -- the request is dropped if the context no longer waits
     pub dropped : is_waiting_in c old.context ≡ true → IsSome old.kept →
         OnErr result (is_waiting_in c new.context ≡ false → new.kept ≡ None)
-    -- nor where the context waits by itself, for no turn that is suspended
+    -- nothing changes either if the context waits without a suspended turn
     pub stray : is_waiting_in c old.context ≡ true → old.kept ≡ None → OnlyForgets old result new
 
-  -- the call goes on with the turn that is suspended, by a step of its context; another question is
-  -- one fewer to come
+  -- the call continues the suspended turn with a step of its context; another question leaves fewer
+  -- to come
   pub record ResumeCall (old : ClientView C) (reply : Reply) (result : Result Progress Error)
       (new : ClientView C) : Type 0 where
     pub turn : (start : ClientView C) (d : TsRequest) → IsUnderway c start d old →

@@ -1,5 +1,5 @@
--- Why a client's turn was refused, in the order in which it looks. What it finds before it takes
--- memory stands whatever memory there is.
+-- Why a client's turn was refused, in the order of its checks. What it finds before it allocates is
+-- reported even when out of memory.
 use Rattle.std.specs.Prelude.{◌≡◌, ℕ, List, Option, None, Some, Result, Ok, Err, true, not}
 use Rattle.std.specs.Prelude.{if◌then◌else◌}
 use Rattle.sspi_types.specs.declared.credential_use.CredentialUse.TheVariants.{Outbound}
@@ -26,7 +26,7 @@ use Rattle.sspi_credssp.specs.Noted.{StopsIf, VersionStopsIn, OrMemory}
 use Rattle.sspi_credssp.specs.Requests.{is_code}
 
 module _ {C : Type 0} (c : Meaning ContextSetting C) where
-  -- the NTSTATUS code of a refusal: the peer's error code, where that is the reason
+  -- the NTSTATUS code of a refusal: the peer's error code, if that is the reason
   abbrev pub status_of : ClientView C → TsRequest → Option NStatusCode
   status_of old d = if is_waiting_in c old.context then None
       else (if is_code d.error_code then d.error_code else None)
@@ -43,13 +43,13 @@ module _ {C : Type 0} (c : Meaning ContextSetting C) where
       (SealsCause m (delegated_text new.settings.credentials new.settings.delegation) kind) kind
   BlobOpens noted context blob new kind = ⊥
 
-  -- pubKeyAuth is absent, too short, or what it opens to is refused
+  -- pubKeyAuth is absent or too short, or opening it, or what follows, is refused
   abbrev pub DeliverCause : Option (List ℕ) → ClientView C → ErrorKind → Type 0
   DeliverCause field new kind = BlobStops field kind
       (λ blob. BlobOpens new.noted new.context blob new kind)
 
-  -- What of these is told whatever memory there is: a field that is absent or too short, and an
-  -- altered proof.
+  -- Which of these are reported even when out of memory: a field that is absent or too short, and
+  -- an altered proof.
   abbrev pub BlobExact : Option ℕ → Option C → List ℕ → ClientView C → ErrorKind → Type 0
   BlobExact (Some noted) (Some m) blob new kind =
       AlteredExactly c new.acts.checked m blob
@@ -67,8 +67,8 @@ module _ {C : Type 0} (c : Meaning ContextSetting C) where
   ProveCause (Some noted) (Some m) new kind =
       c.refuses m (ToSeal (prescribed Client noted new.settings.nonce new.settings.public_key)) kind
 
-  -- the context refused the step, with this error, as the clause on the step says; or its end is
-  -- refused
+  -- the context refused the step, with this error, as the clause on the step says; or the end of
+  -- the authentication is refused
   abbrev pub NegoCause : Option SecurityStatus → ClientView C → ErrorKind → Type 0
   NegoCause None new kind = new.acts.negotiated ≡ true
   NegoCause (Some statuses.Ok) new kind = ProveCause new.noted new.context new kind
@@ -90,7 +90,7 @@ module _ {C : Type 0} (c : Meaning ContextSetting C) where
       (Some old.settings.credentials) kind)
       (StateCause old.state d new kind)))))
 
-  -- the kinds that are told whatever memory there is, past the version check
+  -- the kinds that are reported even when out of memory, after the version check
   abbrev pub StateExact : CredSspState → TsRequest → ClientView C → ErrorKind → Type 0
   StateExact NegoToken d new kind = Unit {0}
   StateExact PubKeyInfo d new kind = kind ≡ OutOfSequence
@@ -108,7 +108,7 @@ module _ {C : Type 0} (c : Meaning ContextSetting C) where
   KeptCause None new kind = kind ≡ OutOfSequence
   KeptCause (Some request) new kind = NegoCause new.acts.status new kind
 
-  -- why a resume was refused; where a turn is suspended its request is kept
+  -- why a resume was refused; the request of a suspended turn is kept
   abbrev pub ResumeCause : ClientView C → ClientView C → ErrorKind → Type 0
   ResumeCause old new kind = StopsIf (not (is_waiting_in c old.context)) OutOfSequence kind
       (OrMemory kind (KeptCause old.kept new kind))

@@ -1,4 +1,4 @@
--- How far a client has come in the authentication of one call.
+-- How far a client has come in one call.
 use Rattle.std.specs.Prelude.{◌+◌, ◌≡◌, List, ℕ, Some, Result, IsSome, IsErr, true, ◌-◌, Option}
 use Rattle.std.specs.Prelude.{None, Ok, Err}
 use Rattle.sspi_types.specs.declared.error.Error.{Error}
@@ -20,7 +20,7 @@ use Rattle.sspi_credssp.specs.declared.public_key.EndpointType.TheVariants.{Clie
 use Rattle.sspi_credssp.specs.Turn.{AtNoted}
 
 module _ {C : Type 0} (c : Meaning ContextSetting C) where
-  -- Sealing the client's proof: refused it leaves the client as it was; else the blob is the
+  -- Sealing the client's proof: a refusal leaves the client unchanged; otherwise the blob is the
   -- context's last message.
   pub record Proved (old : ClientView C) (blob : List ℕ) (new : ClientView C) : Type 0 where
     pub rest : new ≡ record old { context = new.context; acts = record old.acts { proved = true } }
@@ -31,7 +31,7 @@ module _ {C : Type 0} (c : Meaning ContextSetting C) where
     pub unsealings : unsealings_in c new.context ≡ unsealings_in c old.context
     pub begun : IsSome new.context
 
-  -- Opening the server's proof, and sealing the credentials where it was the right one.
+  -- Opening the server's proof, and sealing the credentials if it was the right one.
   pub record ClientOpens (old : ClientView C) (field : Option (List ℕ)) (new : ClientView C) : Type
       0 where
     pub rest : new ≡ record old { context = new.context; acts = new.acts }
@@ -45,19 +45,19 @@ module _ {C : Type 0} (c : Meaning ContextSetting C) where
         new.acts.checked
     pub bare : SameBut c old.context new.context
 
--- it has a context, and this call did so much on it
+-- it has a context, and `did` is what this call did on it
 pub record HasDone {C : Type 0} (did : Acts) (now : ClientView C) : Type 0 where
   pub acts : now.acts ≡ did
   pub begun : IsSome now.context
 
 module _ {C : Type 0} (c : Meaning ContextSetting C) where
-  -- its context has taken its step, and what no call changes is as before
+  -- its context has taken its step, and the settings, which no call changes, are as before
   pub record HasGoneOn (old new : ClientView C) : Type 0 where
     pub same : new.settings ≡ old.settings
     pub negotiated : new.acts.negotiated ≡ true
     pub begun : IsSome new.context
 
-  -- what follows the answer of a step keeps that answer, and has the context count at most
+  -- what follows a step's answer keeps that answer, and changes at most the context's counts
   pub record KeepsStep (old : ClientView C) (came : SecurityStatus) (token : List ℕ)
       (new : ClientView C) : Type 0 where
     pub on : HasGoneOn old new
@@ -67,7 +67,7 @@ module _ {C : Type 0} (c : Meaning ContextSetting C) where
     pub status : new.acts.status ≡ Some came
     pub output : new.output ≡ token
 
-  -- A refused step: the client is as before, and keeps the request where its context waits again.
+  -- A refused step: the client is unchanged, and keeps the request if its context waits again.
   pub record KeepsRequest (old : ClientView C) (progress : Result Progressing Error)
       (request : TsRequest) (new : ClientView C) :
       Type 0 where

@@ -37,7 +37,7 @@ use Rattle.sspi_credssp.specs.Turn.{HoldsClient, client_shown, ShowsClient, Unle
 use Rattle.sspi_credssp.specs.Turn.{IfRefused, FitsNoted, ClientFrame, OnceNegotiated}
 use Rattle.sspi_credssp.specs.Turn.{IsUnspent}
 
--- ---- The step of its context in a client's turn, from the context before the turn to the one that it leaves.
+-- ---- The step of the context in a client's turn, from the context before it to the one after.
 
 -- MUTUAL_AUTH, USE_SESSION_KEY, INTEGRITY and CONFIDENTIALITY
 abbrev pub client_requirements : ClientRequestFlags
@@ -52,7 +52,7 @@ client_args handle target token = record {
   input = token_of token;
 }
 
--- a request to a KDC, and what came of it
+-- a request to a KDC, and its outcome
 pub record Asked : Type 0 where
   pub question : NetworkRequest
   pub reply : Reply
@@ -63,15 +63,15 @@ OnSuspended (Ok (Completed state)) P = Unit {0}
 OnSuspended (Ok (Suspended question)) P = P
 OnSuspended (Err error) P = Unit {0}
 
--- the answer of a step that had come to a status, or not
+-- the answer of a step that reached a status, or of a refused one
 abbrev pub refused_answer : Option SecurityStatus → List ℕ → Error → Answer
 refused_answer None output error = Refused error
 refused_answer (Some status) output error = Done (record { status = status; output = output })
 
 module _ {C : Type 0} (c : Meaning ContextSetting C) where
   -- A step of the turn that began at `start`: how many refused resumes were tried again, the
-  -- questions that it asked, the newest first, how far it came, and the context then. Nothing else
-  -- moves the context but sealing and opening.
+  -- questions that it asked, newest first, its answer, and the context after it. Apart from that,
+  -- only sealing and opening change the context.
   pub data Walked (start : ClientView C) (handle : Option CredentialsBuffers)
       (token : Option (List ℕ)) :
       ℕ → List Asked → Answer → C → Type 0 where
@@ -110,8 +110,8 @@ module _ {C : Type 0} (c : Meaning ContextSetting C) where
   OnStep true P = P
   OnStep false P = Unit {0}
 
-  -- The status and the output are the step's own answer, also where the turn was then refused; a
-  -- refused step was refused with this very error; and a turn is suspended exactly where the step
+  -- The status and the output are the step's own answer, even if the turn was then refused. A
+  -- refused step was refused with exactly this error. A turn is suspended exactly if the step
   -- asked, with its question.
   abbrev pub HasStepped : ClientView C → TsRequest → ℕ → List Asked → Result Progress Error →
       ClientView C → Type 0
@@ -132,7 +132,7 @@ state_after state outcome.Finished proved = Final
 state_after state (outcome.Refused kind reply) proved = state
 
 module _ {C : Type 0} (c : Meaning ContextSetting C) where
-  -- what its bytes can show, and what stands behind them
+  -- what its bytes can show, and what they must be made from
   pub record IsClientTurn (f : ClientFrame C) (t : Turn) : Type 0 where
     pub shown : ShowsClient (client_shown f) t
     pub held : HoldsClient c f t
@@ -163,17 +163,17 @@ module _ {C : Type 0} (c : Meaning ContextSetting C) where
   abbrev pub KeepsHandle : ClientView C → ClientView C → Type 0
   KeepsHandle old new = IsSome old.context → (new.handle ≡ old.handle) × IsSome new.context
 
-  -- the version that is pinned where a call looks at the delivered one
+  -- the version that is pinned if a call checks the delivered one
   abbrev pub noted_next : ClientView C → TsRequest → Option ℕ
   noted_next old d = noted_in old.context old.settings.least old.noted d.version
 
-  -- the version that is pinned after a call: a call that is refused before it looks at the version
+  -- the version that is pinned after a call; a call that is refused before it checks the version
   -- pins none
   abbrev pub noted_after : ClientView C → TsRequest → Option ℕ
   noted_after old d = if is_waiting_in c old.context || is_code d.error_code then old.noted
       else noted_next old d
 
-  -- how far a turn moves the client
+  -- how a turn changes the client
   pub record ClientMoves (old : ClientView C) (d : TsRequest) (out : Outcome)
       (new : ClientView C) : Type 0 where
     pub same : new.settings ≡ old.settings
@@ -185,13 +185,13 @@ module _ {C : Type 0} (c : Meaning ContextSetting C) where
     pub noted_checked : new.acts.checked ≡ true → new.noted ≡ noted_next old d
     pub begun : UnlessRefused out (IsSome new.context)
     pub counts : CountsEachAct c old.state old.context new.acts new.context
-    -- no step of the context follows its first message
+    -- the context takes no step past the authentication
     pub bare : OnceNegotiated old.state (SameBut c old.context new.context)
-    -- a call that took no step only has the context count, and one whose step gave no answer has no
-    -- token
+    -- a call that took no step changes at most the context's counts, and one whose step gave no
+    -- answer has no token
     pub unstepped : new.acts.negotiated ≡ false → SameBut c old.context new.context
     pub unanswered : new.acts.status ≡ None → new.output ≡ []
-    -- once its proof or its credentials are sealed a call is not refused
+    -- once its proof or its credentials are sealed, a call is not refused
     pub ended : IfRefused out ((new.acts.sealed ≡ false) × (new.acts.proved ≡ false))
 
   pub record ClientTurn (old : ClientView C) (d : TsRequest) (out : Outcome)
@@ -199,7 +199,7 @@ module _ {C : Type 0} (c : Meaning ContextSetting C) where
     pub turn : IsClientTurn (client_frame old new) (client_turn d out new)
     pub moves : ClientMoves old d out new
 
-  -- A turn on d that began at `start` has come past the version check. What follows speaks of the
+  -- A turn on d that began at `start` has passed the version check. What follows is about the
   -- context as it is now.
   pub record IsReady (start : ClientView C) (d : TsRequest) (now : ClientView C) : Type 0 where
     pub idle : is_waiting_in c start.context ≡ false

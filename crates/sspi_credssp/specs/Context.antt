@@ -27,7 +27,7 @@ use Rattle.sspi_credssp.specs.declared.mode.ServerMode.TheVariants as server
 use Rattle.sspi_credssp.specs.Peers.{PeersSetting, OfClient, OfServer, knowing}
 
 -- What a context is made of: the mode of the end that it is made for, and on a server the entries
--- of its proxy, where it tells them.
+-- of its proxy, if it exposes them.
 pub data ContextSetting : Type 0 where
   ForClient : ClientMode → ContextSetting
   ForServer : ServerMode → Option (List Identity) → ContextSetting
@@ -51,23 +51,23 @@ of_sum (inl (inl m)) = hands.Ntlm m
 of_sum (inl (inr m)) = hands.Kerberos m
 of_sum (inr m) = hands.Negotiate m
 
--- NTLM is handed the identities with a password, Kerberos the first identity, and a negotiation
--- all. `requests` is how often an NTLM asks a KDC at most, which a negotiation may take in the
--- place of a Kerberos.
+-- NTLM gets the identities with a password, Kerberos the first identity, and a negotiation all.
+-- `requests` is how often NTLM asks a KDC at most, and a negotiation may select NTLM instead of
+-- Kerberos.
 abbrev pub either : {N K : Type 0} → ℕ → Meaning Setting N → Meaning Setting K →
     Meaning ContextSetting (SspiContext N K)
 either requests n k = seen made_of as_sum of_sum
     (sum (sum (taking (filter has_password) n) (taking (take 1) k))
     (knowing (negotiate requests n k)))
 
--- ---- How the context of a turn begins: it is the one that the end has, or a new one that has acquired credentials.
+-- ---- How a turn's context begins: as the end's own, or as a new one with acquired credentials.
 
--- a fact of the context, where there is one
+-- a fact of the context, which must exist
 abbrev pub IfContext : {C : Type 0} → Option C → (C → Type 0) → Type 0
 IfContext None P = ⊥
 IfContext (Some m) P = P m
 
--- the same, where there may be none
+-- the same, but there may be none
 abbrev pub OnContext : {C : Type 0} → Option C → (C → Type 0) → Type 0
 OnContext None P = Unit {0}
 OnContext (Some m) P = P m
@@ -79,7 +79,7 @@ MadeOr None (Some m) Cause Later = Later
 MadeOr None None Cause Later = Cause
 
 module _ {S C : Type 0} (c : Meaning S C) where
-  -- from the context and the acquired credentials that the end had; else from what they are made of
+  -- from the context and the acquired credentials that the end had; otherwise from the setting
   pub data Begun (context : Option C) (had : Option CredentialsBuffers) (setting : S)
       (purpose : CredentialUse) (asked : Option Credentials)
       (handle : Option CredentialsBuffers) (m : C) : Type 0 where
@@ -94,7 +94,7 @@ module _ {S C : Type 0} (c : Meaning S C) where
     unacquired : (m : C) → c.made setting m → c.refuses m (ToAcquire purpose asked) kind →
         BeginCause setting purpose asked kind
 
--- a context that refuses nothing with this kind
+-- a context that never refuses with this kind
 pub record NeverRefuses {S C : Type 0} (c : Meaning S C) (kind : ErrorKind) : Type 0 where
   pub makes : (s : S) → c.unmade s kind → ⊥
   pub calls : (m : C) (call : Call) → c.refuses m call kind → ⊥

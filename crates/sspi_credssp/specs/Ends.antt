@@ -14,8 +14,8 @@ use Rattle.sspi_credssp.specs.Acts.{no_acts}
 
 -- ---- the client
 
--- the least version of a peer that an end takes unless it is told another: below it the proof of
--- the key is no hash of it
+-- the least version that an end accepts of its peer unless it is given another: below it the proof
+-- is not a hash of the key
 abbrev pub default_least : ℕ
 default_least = 5
 
@@ -25,14 +25,14 @@ pub record ClientSettings : Type 0 where
   pub credentials : Credentials
   pub delegation : CredSspMode
   pub version : ℕ
-  -- the least version of a server that it takes
+  -- the least version of a server that it accepts
   pub least : ℕ
   pub mode : ClientMode
   -- the name of the service
   pub target : List ℕ
   pub nonce : List ℕ
 
--- of a new client, which takes no server that is older than the default
+-- the settings of a new client, which accepts no server below the default version
 abbrev pub new_client : List ℕ → Credentials → CredSspMode → ℕ → ClientMode → List ℕ → List ℕ →
     ClientSettings
 new_client public_key credentials delegation version mode target nonce = record {
@@ -75,7 +75,7 @@ pub record IsClientState {C : Type 0} (context : Option C) (handle : Option Cred
   pub orderly : IsOrderlyClient context handle noted state
   pub nonce_length : length nonce ≡ 32
 
--- nothing was delivered to it yet
+-- nothing has been delivered to it yet
 pub record IsFreshClient {C : Type 0} (client : ClientView C) : Type 0 where
   pub state : client.state ≡ NegoToken
   pub context : client.context ≡ None
@@ -91,11 +91,11 @@ pub record IsFreshClient {C : Type 0} (client : ClientView C) : Type 0 where
 pub record ServerSettings : Type 0 where
   pub public_key : List ℕ
   pub version : ℕ
-  -- the least version of a client that it takes
+  -- the least version of a client that it accepts
   pub least : ℕ
   pub mode : ServerMode
 
--- of a new server, which takes no client that is older than the default
+-- the settings of a new server, which accepts no client below the default version
 abbrev pub new_server : List ℕ → ℕ → ServerMode → ServerSettings
 new_server public_key version mode = record {
   public_key = public_key;
@@ -104,7 +104,7 @@ new_server public_key version mode = record {
   mode = mode;
 }
 
--- P is its proxy, where it looks its peers up
+-- P is its proxy, where it looks up its peers
 pub record ServerView (C P : Type 0) : Type 0 where
   pub settings : ServerSettings
   pub proxy : P
@@ -124,7 +124,7 @@ abbrev pub IsOrderlyServer : {C : Type 0} → Option C → Option CredentialsBuf
 IsOrderlyServer None handle noted state = (handle ≡ None) × (noted ≡ None) × (state ≡ NegoToken)
 IsOrderlyServer (Some m) handle noted state = Unit {0}
 
--- nothing was delivered to it yet
+-- nothing has been delivered to it yet
 pub record IsFreshServer {C P : Type 0} (server : ServerView C P) : Type 0 where
   pub state : server.state ≡ NegoToken
   pub context : server.context ≡ None

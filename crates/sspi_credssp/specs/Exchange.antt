@@ -1,6 +1,6 @@
--- What the ends seal for each other: the proofs that bind the delegation to the TLS channel, over
--- the server's public key (MS-CSSP 3.1.5, pubKeyAuth), and the credentials; and what comes of
--- opening them.
+-- What the ends seal for each other: the proofs over the server's public key that bind the
+-- delegation to the TLS channel (MS-CSSP 3.1.5, pubKeyAuth), and the credentials; and what opening
+-- them yields.
 use Rattle.std.specs.Prelude.{ℕ, zero, suc, ◌+◌, ◌-◌, ◌*◌, ◌/◌, ◌%◌, ◌^◌, List, [], ◌∷◌, ◌++◌}
 use Rattle.std.specs.Prelude.{length, codes, nat_lt, if◌then◌else◌, Option}
 use Rattle.std.specs.Prelude.{None, Some, Result, Ok, Err, ◌≢◌, ◌≡◌, Bool, true, false}
@@ -26,22 +26,21 @@ use Rattle.sspi_credssp.specs.Noted.{StopsIf}
 
 -- ---- the proofs
 
--- the number that the bytes encode, the first byte the lowest
+-- the number that the bytes encode, lowest byte first
 abbrev pub little_endian : List ℕ → ℕ
 little_endian [] = 0
 little_endian (b ∷ bs) = b + 256 * little_endian bs
 
--- the bytes, as many as the first number says, that encode the second number modulo 256 to the
--- first
+-- the n bytes that encode a number modulo 256^n, where n is the first argument
 abbrev pub bytes_of : ℕ → ℕ → List ℕ
 bytes_of zero number = []
 bytes_of (suc n) number = (number % 256) ∷ bytes_of n (number / 256)
 
--- the bytes of the next number, modulo 256 to their count
+-- the n bytes of the next number, modulo 256^n
 unfoldable pub incremented : List ℕ → List ℕ
 incremented bytes = bytes_of (length bytes) (little_endian bytes + 1)
 
--- the bytes of the number before, modulo 256 to their count
+-- the n bytes of the previous number, modulo 256^n
 unfoldable pub decremented : List ℕ → List ℕ
 decremented bytes = bytes_of (length bytes) (little_endian bytes + (256 ^ length bytes - 1))
 
@@ -56,15 +55,14 @@ abbrev pub echo : EndpointType → List ℕ → List ℕ
 echo Client key = key
 echo Server key = incremented key
 
--- the text that an end seals as its proof, by the version that its peer speaks
+-- the text that an end seals as its proof, for the version that its peer speaks
 unfoldable pub prescribed : EndpointType → ℕ → List ℕ → List ℕ → List ℕ
 prescribed end version nonce key =
     if nat_lt version 5 then echo end key else sha256 (magic end ++ nonce ++ key)
 
 -- ---- the credentials
 
--- the identity that comes of a delegation: one without texts, where the client keeps its
--- credentials
+-- the identity that is delegated if the client keeps its credentials: one without texts
 abbrev pub no_identity : AuthIdentity
 no_identity = record { username = down_level [] []; password = record { value = [] } }
 
@@ -90,14 +88,14 @@ identity_in (Err error) = Err error
 unfoldable pub delegated_identity : List ℕ → Result AuthIdentity Error
 delegated_identity text = identity_in (creds_of text)
 
--- a fact of the text, where there is one
+-- a fact of the text, which must exist
 abbrev pub IfText : Result (List ℕ) Error → (List ℕ → Type 0) → Type 0
 IfText (Ok text) P = P text
 IfText (Err error) P = ⊥
 
--- ---- what is opened of a peer, and what an end answers to it
+-- ---- what an end opens of its peer, and what it answers
 
--- a field that is absent, or too short to hold a seal, is refused; else it goes on
+-- a field that is absent, or too short to hold a seal, is refused; otherwise the turn goes on
 abbrev pub BlobStops : Option (List ℕ) → ErrorKind → (List ℕ → Type 0) → Type 0
 BlobStops None kind Later = kind ≡ InvalidToken
 BlobStops (Some blob) kind Later = StopsIf (nat_lt (length blob) 16) InvalidToken kind (Later blob)
@@ -109,12 +107,12 @@ module _ {S C : Type 0} (c : Meaning S C) where
         delegated_identity text ≡ Ok identity →
         OpensIdentity m blob identity
 
-  -- the last blob that the context opened holds another text than the proof
+  -- the last blob that the context opened holds a text other than the proof
   pub data OpensOther (m : C) (blob proof : List ℕ) : Type 0 where
     opens_other : (text : List ℕ) → c.opens m ((c.counts m).unsealings - 1) blob text →
         text ≢ proof → OpensOther m blob proof
 
-  -- the peer's blob opened to another text than its proof; or to the proof, and what the end then
+  -- the peer's blob opened to a text other than its proof; or to the proof, and what the end then
   -- owes is not sealed
   pub data CheckedCause (m : C) (blob proof : List ℕ) (Unsealed : Type 0) (kind : ErrorKind) : Type
       0 where
@@ -123,18 +121,18 @@ module _ {S C : Type 0} (c : Meaning S C) where
     unsealed : c.opens m ((c.counts m).unsealings - 1) blob proof → Unsealed →
         CheckedCause m blob proof Unsealed kind
 
-  -- a blob that opened to another text than the proof is altered, whatever memory there is
+  -- a blob that opened to a text other than the proof is altered, even when out of memory
   pub data OtherIsAltered (m : C) (blob proof : List ℕ) (kind : ErrorKind) : Type 0 where
     other_is_altered : (OpensOther m blob proof → kind ≡ MessageAltered) →
         OtherIsAltered m blob proof kind
 
-  -- a blob that the context does not open is out of memory only where the context would open it
+  -- a blob that was not opened is out of memory only if the context would open it
   abbrev pub AlteredExactly : Bool → C → List ℕ → List ℕ → ErrorKind → Type 0
   AlteredExactly false m blob proof kind = IsRefusedAs (c.permits m (ToUnseal blob))
       (c.refuses m (ToUnseal blob)) kind
   AlteredExactly true m blob proof kind = OtherIsAltered m blob proof kind
 
-  -- why an exchange of proofs was refused, by whether the blob was opened
+  -- why an exchange of proofs was refused, depending on whether the blob was opened
   abbrev pub ProofCause : Bool → C → List ℕ → List ℕ → Type 0 → ErrorKind → Type 0
   ProofCause false m blob proof Unsealed kind = c.refuses m (ToUnseal blob) kind
   ProofCause true m blob proof Unsealed kind = CheckedCause m blob proof Unsealed kind

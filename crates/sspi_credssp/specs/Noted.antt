@@ -1,6 +1,6 @@
--- The version that an end notes of its peer: the first that it looks at, unless that is too old.
--- Both ends look at a version in the same way. A client looks at that of each request but its
--- first, which it makes itself; a server once it has a context.
+-- The version that an end pins for its peer: the first that it checks, unless that is too old. Both
+-- ends check a version in the same way. A client checks that of each request but its first, which
+-- it makes itself; a server checks one once it has a context.
 use Rattle.std.specs.Prelude.{◌≡◌, ◌≢◌, Bool, true, false, ℕ, ◌==◌, Option, None, Some, not, nat_lt}
 use Rattle.std.specs.Prelude.{if◌then◌else◌, [], Result}
 use Rattle.std.specs.Prelude.{IsErrAnd, IsSome}
@@ -19,16 +19,16 @@ use Rattle.sspi_credssp.specs.Context.{ContextSetting, NeverRefuses}
 use Rattle.sspi_credssp.specs.Ends.{ClientView, ServerView}
 use Rattle.sspi_credssp.specs.Requests.{is_code}
 
--- where the test holds a turn stops with this kind, else it goes on
+-- if the test holds, a turn stops with this kind; otherwise it goes on
 abbrev pub StopsIf : Bool → ErrorKind → ErrorKind → Type 0 → Type 0
 StopsIf true here kind Later = kind ≡ here
 StopsIf false here kind Later = Later
 
--- a cause in place of which memory may be wanting
+-- a cause, or out of memory in its place
 abbrev pub OrMemory : ErrorKind → Type 0 → Type 0
 OrMemory kind Cause = kind ≢ InsufficientMemory → Cause
 
--- no version is pinned yet, and this one is below the least that the end takes
+-- no version is pinned yet, and this one is below the least that the end accepts
 abbrev pub is_old : ℕ → Option ℕ → ℕ → Bool
 is_old least None version = nat_lt version least
 is_old least (Some noted) version = false
@@ -38,18 +38,18 @@ abbrev pub differs : Option ℕ → ℕ → Bool
 differs None version = false
 differs (Some noted) version = not (noted == version)
 
--- the version that is pinned once one was looked at; one that is refused is not pinned
+-- the version that is pinned after a check; one that is refused is not pinned
 abbrev pub noted_with : ℕ → Option ℕ → ℕ → Option ℕ
 noted_with least None version = if nat_lt version least then None else Some version
 noted_with least (Some noted) version = Some noted
 
--- where a look at a version stops, or that it goes on
+-- where the check of a version stops, or that it passes
 abbrev pub VersionStops : ℕ → Option ℕ → ℕ → ErrorKind → Type 0 → Type 0
 VersionStops least noted version kind Later =
     StopsIf (is_old least noted version) DowngradeDetected kind
     (StopsIf (differs noted version) MessageAltered kind Later)
 
--- the same of an end that looks at a version only where it has a context
+-- the same for an end that checks a version only if it has a context
 abbrev pub is_old_in : {C : Type 0} → Option C → ℕ → Option ℕ → ℕ → Bool
 is_old_in None least noted version = false
 is_old_in (Some m) least noted version = is_old least noted version
@@ -67,16 +67,16 @@ abbrev pub noted_in : {C : Type 0} → Option C → ℕ → Option ℕ → ℕ �
 noted_in None least noted version = noted
 noted_in (Some m) least noted version = noted_with least noted version
 
--- ---- Where a call refuses its peer's version for its age. A context may itself refuse with that kind; the plain mechanisms never do.
+-- ---- When a version is refused as too old; a context may refuse so too, a plain mechanism never.
 
 module _ {C : Type 0} (c : Meaning ContextSetting C) where
-  -- the client comes to look at a version, has pinned none, and would note one below its least
+  -- the client comes to check a version, has pinned none, and would pin one below its least
   pub record ClientMeetsOld (client : ClientView C) (d : TsRequest) : Type 0 where
     pub idle : is_waiting_in c client.context ≡ false
     pub code : is_code d.error_code ≡ false
     pub old : is_old_in client.context client.settings.least client.noted d.version ≡ true
 
-  -- exactly there it refuses with that kind, and then only forgets its last call
+  -- exactly then it refuses with that kind, and only forgets its last call
   pub record ClientHeeds (client : ClientView C) (d : TsRequest) (result : Result Progress Error)
       (new : ClientView C) : Type 0 where
     pub refuses : ClientMeetsOld client d →
@@ -86,14 +86,14 @@ module _ {C : Type 0} (c : Meaning ContextSetting C) where
         IsErrAnd result (λ error. error.error_type ≡ DowngradeDetected) → ClientMeetsOld client d
 
   module _ {P : Type 0} where
-    -- the server has a context, or has made one, has pinned no version, and would note one below
-    -- its least
+    -- the server has a context, or has made one, has pinned no version, and would pin one below its
+    -- least
     pub record ServerMeetsOld (server : ServerView C P) (d : TsRequest)
         (new : ServerView C P) : Type 0 where
       pub begun : IsSome new.context
       pub old : is_old server.settings.least server.noted d.version ≡ true
 
-    -- exactly there it refuses with that kind, and then has at most a new context
+    -- exactly then it refuses with that kind, and has at most a new context
     pub record ServerHeeds (server : ServerView C P) (d : TsRequest)
         (result : Result ServerState ServerError)
         (new : ServerView C P) : Type 0 where

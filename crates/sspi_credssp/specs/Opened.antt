@@ -1,4 +1,4 @@
--- What a blob opened to, beside the proof that was due.
+-- What a blob opened to, compared with the proof that was due.
 use Rattle.std.specs.Prelude.{◌≡◌, ℕ, ◌-◌, ◌+◌, ◌≤◌, List, length, Bool, true, false, Option, None}
 use Rattle.std.specs.Prelude.{Some, Result, OnOk, nat_lt}
 use Rattle.sspi_mech.specs.Calls.{one_unsealing}
@@ -22,8 +22,8 @@ abbrev pub OpensAs : {S C : Type 0} → Meaning S C → C → List ℕ → List 
 OpensAs c m blob proof true = c.opens m ((c.counts m).unsealings - 1) blob proof
 OpensAs c m blob proof false = OpensOther c m blob proof
 
--- an end opened a blob, which its context counts and its acts note: whether it holds just this
--- proof
+-- an end opened a blob, which its context counts and its effects record; `same` says whether it
+-- holds just this proof
 pub record HasOpened {S C : Type 0} (c : Meaning S C) (m m2 : C) (acts acts2 : Acts)
     (blob proof : List ℕ) (same : Bool) : Type 0 where
   pub noted : acts2 ≡ record acts { checked = true }

@@ -1,4 +1,4 @@
--- The package selected: its name, and which mechanism it authenticates by.
+-- The selected package: its name, and the mechanism that it authenticates by.
 use Rattle.std.specs.Prelude.{ℕ, List}
 use Rattle.sspi_types.specs.declared.package.SecurityPackageType.TheVariants as packages
 use Rattle.sspi_types.specs.PackageNames.{package_text}
@@ -13,7 +13,7 @@ package_name_of (hands.Negotiate it) = package_text packages.Negotiate
 package_name_of (hands.Ntlm it) = package_text packages.Ntlm
 package_name_of (hands.Kerberos it) = package_text packages.Kerberos
 
--- the selected mechanism, also where it was negotiated
+-- the selected mechanism, negotiated or not
 abbrev pub protocol_of : {N K : Type 0} → SspiContext N K → Protocol
 protocol_of (hands.Negotiate it) = hand_of it.mech
 protocol_of (hands.Ntlm it) = protocols.Ntlm

@@ -1,5 +1,5 @@
--- The peers that a server knows when its context is made: what a negotiation is made with lists
--- them by the proxy.
+-- The peers that a server knows when its context is made: a negotiation is made with those that the
+-- proxy lists.
 use Rattle.std.specs.Prelude.{List, [], Option}
 use Rattle.sspi_names.specs.declared.identity.AuthIdentity.{AuthIdentity}
 use Rattle.sspi_mech.specs.Meaning.{Meaning}
@@ -8,12 +8,12 @@ use Rattle.sspi_negotiate.specs.New.{NegotiateSetting, ForClient, ForServer}
 use Rattle.sspi_negotiate.specs.Values.{Negotiation}
 use Rattle.sspi_credssp.specs.Proxy.{IsTold}
 
--- what a negotiation is made of: on a server also the entries of its proxy, where it tells them
+-- what a negotiation is made of: on a server also the entries of its proxy, if it exposes them
 pub data PeersSetting : Type 0 where
   OfClient : NegotiateConfig → PeersSetting
   OfServer : NegotiateConfig → Option (List AuthIdentity) → PeersSetting
 
--- with the identities that were listed
+-- the setting of a negotiation with the listed identities
 abbrev pub listed_setting : PeersSetting → List AuthIdentity → NegotiateSetting
 listed_setting (OfClient config) known = ForClient config
 listed_setting (OfServer config told) known = ForServer config known
@@ -23,8 +23,8 @@ abbrev pub AreListed : PeersSetting → List AuthIdentity → Type 0
 AreListed (OfClient config) known = Unit {0}
 AreListed (OfServer config told) known = IsTold told known
 
--- The same negotiation, whose server was made with all that its proxy lists. Whether it can be made
--- does not depend on that.
+-- The same negotiation, but a server's is made with all that its proxy lists. Whether it can be
+-- made does not depend on them.
 abbrev pub knowing : {M : Type 0} → Meaning NegotiateSetting (Negotiation M) →
     Meaning PeersSetting (Negotiation M)
 knowing c = record {

@@ -1,5 +1,5 @@
--- What an end reads of a delivered request, and the request by which a server tells its client that
--- it refused.
+-- What an end reads from a delivered request, and the request that reports a server's refusal to
+-- its client.
 use Rattle.std.specs.Prelude.{ℕ, ◌≤◌, ◌==◌, List, [], ◌∷◌, length, Option, None, Some, Bool, false}
 use Rattle.std.specs.Prelude.{not, bit_and, bit_or, if◌then◌else◌}
 use Rattle.sspi_types.specs.declared.error_kind.ErrorKind.{ErrorKind}
@@ -10,7 +10,7 @@ use Rattle.sspi_credssp.specs.declared.state.CredSspState.{CredSspState}
 use Rattle.sspi_credssp.specs.declared.state.CredSspState.TheVariants.{NegoToken, PubKeyInfo}
 use Rattle.sspi_credssp.specs.declared.state.CredSspState.TheVariants.{AuthInfo, Final}
 
--- the token that the context is handed
+-- the token that is passed to the context
 abbrev pub token_of : Option (List ℕ) → List ℕ
 token_of None = []
 token_of (Some token) = token
@@ -35,17 +35,17 @@ abbrev pub nonce_of : Option (List ℕ) → List ℕ
 nonce_of None = []
 nonce_of (Some nonce) = nonce
 
--- ---- the request that tells a refusal
+-- ---- the request that reports a refusal
 
--- without what the state takes from a request
+-- without the fields that the state consumes
 abbrev pub stripped : CredSspState → TsRequest → TsRequest
 stripped NegoToken d = record d { nego_tokens = None }
 stripped PubKeyInfo d = record d { nego_tokens = None; pub_key_auth = None }
 stripped AuthInfo d = record d { auth_info = None }
 stripped Final d = d
 
--- the delivered version up to the version check, and the server's own past it: where none is pinned
--- it was too old
+-- the delivered version until the version check passes, and the server's own after it; if none is
+-- pinned, the delivered one was too old
 abbrev pub version_back : {C : Type 0} → Option C → Option ℕ → ℕ → ℕ → ℕ
 version_back None noted delivered own = delivered
 version_back (Some m) None delivered own = delivered

@@ -14,8 +14,8 @@ use Rattle.sspi_credssp.specs.ServerCause.{ServerCause, ServerExact}
 use Rattle.sspi_credssp.specs.ServerTurn.{HasAcceptedTurn, MakesAlone, ServerGoes}
 
 module _ {C P : Type 0} (c : Meaning ContextSetting C) (p : ProxyMeaning P) where
-  -- what a call leaves alone: a client that changes its version moves nothing, a call that takes no
-  -- step makes a context at most, and one that makes none only asks the proxy
+  -- what a call leaves unchanged: a client that changes its version changes nothing; a call that
+  -- takes no step makes at most a context; one that leaves none only asks the proxy
   pub record ServerKeeps (old : ServerView C P) (d : TsRequest)
       (result : Result ServerState ServerError) (new : ServerView C P) :
       Type 0 where
@@ -28,9 +28,9 @@ module _ {C P : Type 0} (c : Meaning ContextSetting C) (p : ProxyMeaning P) wher
       output = [];
     }
 
-  -- The call is one turn, with one step of the context where it authenticates. A refusal has its
-  -- cause, and one for the age of the client's version comes exactly there. The proxy is asked as
-  -- often as the step's status wants it.
+  -- The call is one turn, with one step of the context if it authenticates. A refusal has its
+  -- cause, and one because the client's version is too old comes exactly then. The proxy is asked
+  -- as often as the step's status requires.
   pub record ServerCall (old : ServerView C P) (d : TsRequest)
       (result : Result ServerState ServerError) (new : ServerView C P) :
       Type 0 where

@@ -1,4 +1,4 @@
--- Why a server's turn was refused, in the order in which it looks.
+-- Why a server's turn was refused, in the order of its checks.
 use Rattle.std.specs.Prelude.{◌≡◌, ◌≢◌, ℕ, ◌-◌, ◌≤◌, List, [], map, Option, None, Some, Err, Bool}
 use Rattle.std.specs.Prelude.{true, false, nat_lt}
 use Rattle.sspi_types.specs.declared.credential_use.CredentialUse.TheVariants.{Inbound}
@@ -33,19 +33,19 @@ use Rattle.sspi_credssp.specs.Requests.{nonce_of}
 use Rattle.sspi_credssp.specs.Ends.{ServerView}
 use Rattle.sspi_credssp.specs.ServerTurn.{Unknown, Identified, Completed, HasCome}
 
--- from version 5 on the nonce must be there
+-- from version 5 on the nonce must be present
 abbrev pub lacks_nonce : Bool → Option (List ℕ) → Bool
 lacks_nonce true sent_nonce = false
 lacks_nonce false None = true
 lacks_nonce false (Some sent_nonce) = false
 
--- The look-up failed, or found nobody. The counts of the proxy's faults stand before and after.
+-- The look-up failed, or found nobody; `before` and `now` are the proxy's counts of faults.
 pub data LookUpRefused (tells : ProxyTells) (name : Name) (before now : ℕ) (kind : ErrorKind) : Type
     0 where
   failed : counted_on before ≤ now → kind ≡ LogonDenied → LookUpRefused tells name before now kind
   nobody : AreFound tells name [] → kind ≡ NoCredentials → LookUpRefused tells name before now kind
 
--- the list of identities that the context is made with failed
+-- listing the identities that the context is made with failed
 abbrev pub ListRefused : ServerMode → ℕ → ℕ → ErrorKind → Type 0
 ListRefused (modes.Negotiate config) before now kind = (counted_on before ≤ now) ×
     (kind ≡ InternalError)
@@ -64,7 +64,7 @@ module _ {C : Type 0} (c : Meaning ContextSetting C) where
           identities ≢ [] → c.refuses m (ToIdentify (map credentials.AuthIdentity identities)) kind →
           IdentifyCause m tells before now kind
 
-  -- the text that was opened has no credentials, or was not opened
+  -- the blob was opened, but its text does not hold credentials
   pub data UnreadCause (m : C) (blob : List ℕ) (kind : ErrorKind) : Type 0 where
     unread : (text : List ℕ) (error : Error) → c.opens m ((c.counts m).unsealings - 1) blob text →
         delegated_identity text ≡ Err error →
@@ -85,8 +85,8 @@ module _ {C : Type 0} (c : Meaning ContextSetting C) where
         (c.refuses m (ToSeal (prescribed Server noted (nonce_of sent_nonce)
         new.settings.public_key)) kind) kind
 
-    -- the field with the proof and the nonce that came with it: presence, nonce, length, and what
-    -- the blob opens to
+    -- the proof's field, with the nonce that came with it, in this order: presence, nonce, length,
+    -- and what the blob opens to
     abbrev pub ExchangeCause : Option (List ℕ) → Option ℕ → Option (List ℕ) → ServerView C P →
         ErrorKind → Type 0
     ExchangeCause None noted sent_nonce new kind = kind ≡ InvalidToken
@@ -95,7 +95,7 @@ module _ {C : Type 0} (c : Meaning ContextSetting C) where
         StopsIf (lacks_nonce (nat_lt noted 5) sent_nonce) InvalidToken kind
         (BlobStops (Some blob) kind (λ blob. BlobCause noted new.context sent_nonce blob new kind))
 
-    -- What of these is told whatever memory there is: a field that is absent or too short, an
+    -- Which of these are reported even when out of memory: a field that is absent or too short, an
     -- absent nonce, and an altered proof.
     abbrev pub BlobExact : ℕ → Option C → Option (List ℕ) → List ℕ → ServerView C P → ErrorKind →
         Type 0
@@ -112,21 +112,20 @@ module _ {C : Type 0} (c : Meaning ContextSetting C) where
         StopsIf (lacks_nonce (nat_lt noted 5) sent_nonce) InvalidToken kind
         (BlobStops (Some blob) kind (λ blob. BlobExact noted new.context sent_nonce blob new kind))
 
-    -- the authentication has ended without a proof and without a token; or the proof that came is
-    -- refused
+    -- the authentication has ended with neither a proof nor a token; or the proof is refused
     abbrev pub AfterCause : Option (List ℕ) → Option (List ℕ) → ServerView C P → ErrorKind → Type 0
     AfterCause None sent_nonce new kind = (new.output ≡ []) × (kind ≡ InvalidToken)
     AfterCause (Some blob) sent_nonce new kind =
         ExchangeCause (Some blob) new.noted sent_nonce new kind
 
-  -- credentials that are not opened: out of memory only where the context would open them
+  -- credentials that are not opened: out of memory only if the context would open them
   abbrev pub OpenedExact : Bool → Option C → List ℕ → ErrorKind → Type 0
   OpenedExact false (Some m) blob kind = IsRefusedAs (c.permits m (ToUnseal blob))
       (c.refuses m (ToUnseal blob)) kind
   OpenedExact opened context blob kind = Unit {0}
 
   module _ {P : Type 0} where
-    -- the kinds that are told whatever memory there is, past the version check
+    -- the kinds that are reported even when out of memory, after the version check
     abbrev pub StateExact : CredSspState → TsRequest → ServerView C P → ErrorKind → Type 0
     StateExact NegoToken d new kind = Unit {0}
     StateExact PubKeyInfo d new kind = ExchangeExact d.pub_key_auth new.noted d.client_nonce new
@@ -149,8 +148,8 @@ module _ {C : Type 0} (c : Meaning ContextSetting C) where
       unbegun : BeginCause c (ForServer mode (p.told before).entries) Inbound None kind →
           MakeCause mode before now kind
 
-    -- The peer is not known; or it is, and the context refuses its own end: in neither case its
-    -- proof was looked at. Or the context is at its end, and what follows is refused. Each with the
+    -- The peer is not known; or it is, and the context refuses to complete: in neither case was its
+    -- proof checked. Or the context is completed, and what follows is refused. Each comes with the
     -- step that the turn took of its context until then.
     pub data OverCause (status : SecurityStatus) (old : ServerView C P) (d : TsRequest)
         (new : ServerView C P)
@@ -164,8 +163,8 @@ module _ {C : Type 0} (c : Meaning ContextSetting C) where
       known : HasCome c p Completed status old d new →
           AfterCause d.pub_key_auth d.client_nonce new kind → OverCause status old d new kind
 
-    -- the context refused the step, with this error, as the clause on the step says; or its end or
-    -- its status is refused
+    -- the context refused the step, with this error, as the clause on the step says; or the end of
+    -- the authentication or its status is refused
     abbrev pub NegoCause : Option SecurityStatus → ServerView C P → TsRequest → ServerView C P →
         ErrorKind → Type 0
     NegoCause None old d new kind = new.acts.negotiated ≡ true

@@ -35,8 +35,7 @@ use Rattle.sspi_credssp.specs.declared.turn.Outcome.TheVariants as outcome
 
 module _ {C : Type 0} (c : Meaning ContextSetting C) where
   module _ {P : Type 0} (p : ProxyMeaning P) where
-    -- once the step had ended the authentication: a call that is not refused has come to know its
-    -- peer
+    -- once the step has ended the authentication: a call that is not refused knows its peer
     abbrev pub CompletedStep : {T : Type 0} → ServerView C P → Option CredentialsBuffers →
         Option (List ℕ) → Result Step Error →
         Result T Error → Option C → Type 0
@@ -46,7 +45,7 @@ module _ {C : Type 0} (c : Meaning ContextSetting C) where
         IfContext context (AcceptedSoFar c p start handle token answer)
 
   module _ {P : Type 0} where
-    -- checking the client's proof, and sealing the server's own where it was the right one
+    -- checking the client's proof, and sealing the server's own if it was the right one
     pub record ServerChecks (old : ServerView C P) (d : TsRequest) (new : ServerView C P) : Type 0
       where
         pub rest : new ≡ record old { context = new.context; acts = new.acts }
@@ -62,8 +61,8 @@ module _ {C : Type 0} (c : Meaning ContextSetting C) where
             new.acts.checked
         pub bare : SameBut c old.context new.context
 
-    -- a call that is refused before it looks at the version, or by it, keeps what the server had,
-    -- or the new context
+    -- a call that is refused before or by the version check keeps what the server had, or the new
+    -- context
     pub record BeginRefused (old : ServerView C P) (version : ℕ) (new : ServerView C P) : Type 0
       where
         pub handle : KeepsHandle c old new
@@ -80,28 +79,28 @@ module _ {P : Type 0} (p : ProxyMeaning P) where
     pub told_same : p.told now ≡ p.told before
     pub faults_stay : p.faults before ≤ p.faults now
 
--- it is where its call takes the step: its proxy tells what it told before the call, and its
--- context is the one that it had then, or a new one
+-- it is about to take the step: its proxy exposes the same as before the call, and its context is
+-- the one that it had then, or a new one
 pub record IsAtStep {C P : Type 0} (c : Meaning ContextSetting C) (p : ProxyMeaning P)
     (start now : ServerView C P) : Type 0 where
   pub later : IsLater p start.proxy now.proxy
   pub begun : IfContext now.context (Begun c start.context start.handle (server_setting p start)
       Inbound None now.handle)
 
--- it has a context and has pinned its client's version, and this call did so much
+-- it has a context and has pinned its client's version, and `did` is what this call did
 pub record HasDone {C P : Type 0} (did : Acts) (now : ServerView C P) : Type 0 where
   pub acts : now.acts ≡ did
   pub begun : IsSome now.context
   pub noted : IsSome now.noted
 
--- its context was handed a token, and came to this status, or to none
+-- its context was given a token, and reached this status, or none
 pub record HasReached {C P : Type 0} (came : Option SecurityStatus) (now : ServerView C P) : Type 0
   where
     pub begun : IsSome now.context
     pub negotiated : now.acts.negotiated ≡ true
     pub status : now.acts.status ≡ came
 
--- what follows the answer of a step keeps that answer, and advances only where it is not refused
+-- what follows a step's answer keeps that answer, and advances only if it is not refused
 pub record KeepsStep {C P T E : Type 0} (old : ServerView C P) (result : Result T E)
     (new : ServerView C P) : Type 0 where
   pub version : new.settings.version ≡ old.settings.version
@@ -109,8 +108,8 @@ pub record KeepsStep {C P T E : Type 0} (old : ServerView C P) (result : Result 
   pub output : new.output ≡ old.output
   pub state : OnErr result (new.state ≡ old.state)
 
--- How it looks at a version, once it has a context: one that was changed is refused and moves
--- nothing, one that is too old has its own kind.
+-- How it checks a version, once it has a context: a changed one is refused and changes nothing, and
+-- one that is too old has its own kind.
 pub record LooksAt {C P T : Type 0} (version : ℕ) (old : ServerView C P) (result : Result T Error)
     (new : ServerView C P) : Type 0 where
   pub altered : differs old.noted version ≡ true → IsErr result × (new ≡ old)
@@ -118,8 +117,8 @@ pub record LooksAt {C P T : Type 0} (version : ℕ) (old : ServerView C P) (resu
       is_old old.settings.least old.noted version ≡ true →
       error.error_type ≡ DowngradeDetected)
 
--- A context that is there is the one that it had, or a new one that has acquired credentials, with
--- which the authentication begins; and where there is none, it only asked its proxy.
+-- A context is the one that it had, or a new one that has acquired credentials, with which the
+-- authentication begins; if there is none, it only asked its proxy.
 pub record MakesContext {C P : Type 0} (c : Meaning ContextSetting C) (p : ProxyMeaning P)
     (old new : ServerView C P) : Type 0 where
   pub fresh : old.context ≡ None → old.state ≡ NegoToken
@@ -127,20 +126,20 @@ pub record MakesContext {C P : Type 0} (c : Meaning ContextSetting C) (p : Proxy
       None new.handle)
   pub unmade : new.context ≡ None → new ≡ record old { proxy = new.proxy }
 
--- the peers that a context is made with: those that the proxy tells, where it tells them, and
--- nobody without a negotiation
+-- the peers that a context is made with: those that the proxy exposes, if it does, and nobody
+-- without a negotiation
 abbrev pub IsListed : ServerMode → Option (List AuthIdentity) → List AuthIdentity → Type 0
 IsListed (modes.Negotiate config) told known = IsTold told known
 IsListed (modes.Ntlm config) told known = known ≡ []
 
--- what goes back of an authentication: a token, or the server's proof
+-- what an authentication sends back: a token, or the server's proof
 abbrev pub answered_by : TsRequest → Answer → TsRequest
 answered_by d (answers.Token token) = record d { nego_tokens = Some token }
 answered_by d (answers.Proof blob) = record d { nego_tokens = None; pub_key_auth = Some blob }
 
 module _ {C : Type 0} (c : Meaning ContextSetting C) where
   module _ {P : Type 0} where
-    -- A turn on d that began at `start` has come past the version check. What follows speaks of the
+    -- A turn on d that began at `start` has passed the version check. What follows is about the
     -- context as it is now.
     pub record IsReady (start : ServerView C P) (d : TsRequest) (now : ServerView C P) : Type 0
       where
@@ -186,7 +185,7 @@ module _ {C : Type 0} (c : Meaning ContextSetting C) where
         HoldsIdentity c new.context field identity
     ServerOpens old field (Err error) new = ServerOpensBlob old field new
 
-    -- a turn past the version check that is refused, with the request that tells the client
+    -- a turn refused after the version check, with the request that reports it to the client
     abbrev pub HaltedTurn : ServerView C P → TsRequest → ErrorKind → ServerView C P → Type 0
     HaltedTurn old d kind new = ServerTurn c old d
         (outcome.Refused kind (Some (error_request old.state new.settings.version kind d))) new

@@ -37,7 +37,7 @@ use Rattle.sspi_credssp.specs.Requests.{token_of}
 use Rattle.sspi_credssp.specs.Turn.{HoldsServer, server_shown, ShowsServer, UnlessRefused}
 use Rattle.sspi_credssp.specs.Turn.{IfRefused, ServerFrame, OnceNegotiated}
 
--- ---- The step of its context in a server's turn, from the context before the turn to the one that it leaves.
+-- ---- The step of the context in a server's turn, from the context before it to the one after.
 
 -- a server asks for no attributes
 abbrev pub server_requirements : ServerRequestFlags
@@ -51,7 +51,7 @@ server_args handle token = record {
   input = token_of token;
 }
 
--- the answer of a step that had come to a status, or not
+-- the answer of a step that reached a status, or of a refused one
 abbrev pub refused_step : Option SecurityStatus → List ℕ → Error → Result Step Error
 refused_step None output error = Err error
 refused_step (Some status) output error = Ok (record { status = status; output = output })
@@ -75,14 +75,14 @@ module _ {C : Type 0} (c : Meaning ContextSetting C) where
         IsIdentified tells m m2
 
   module _ {P : Type 0} (p : ProxyMeaning P) where
-    -- a call that made a context and took no step of it has made it with what the proxy lists
+    -- a call that made a context and took no step made it with what the proxy lists
     abbrev pub MakesAlone : ServerView C P → ServerView C P → Type 0
     MakesAlone old new = new.acts.negotiated ≡ false → old.context ≡ None →
         OnContext new.context (Begun c old.context old.handle (server_setting p old) Inbound None
         new.handle)
 
     -- A step of the turn that began at `start`: how far the server then knows its peer, the step's
-    -- answer, and the context. Nothing else moves the context but sealing and opening.
+    -- answer, and the context. Apart from that, only sealing and opening change the context.
     pub data Accepted (start : ServerView C P) (handle : Option CredentialsBuffers)
         (token : Option (List ℕ)) :
         Knowing → Result Step Error → C → Type 0 where
@@ -108,7 +108,7 @@ module _ {C : Type 0} (c : Meaning ContextSetting C) where
       so_far : (known : Knowing) → Accepted start handle token known answer m →
           AcceptedSoFar start handle token answer m
 
-    -- how far a refused call had come: a peer is looked up only once the step had ended the
+    -- how far a refused call had come: a peer is looked up only once the step has ended the
     -- authentication
     abbrev pub RefusedAt : Option SecurityStatus → ServerView C P → Option CredentialsBuffers →
         Option (List ℕ) → Result Step Error → C →
@@ -126,7 +126,7 @@ module _ {C : Type 0} (c : Meaning ContextSetting C) where
     known_at statuses.CompleteNeeded = Completed
     known_at other = Unknown
 
-    -- the turn has come so far, and its step to this status and the output
+    -- the turn knows its peer this far, and its step reached this status and the output
     abbrev pub HasCome : Knowing → SecurityStatus → ServerView C P → TsRequest → ServerView C P →
         Type 0
     HasCome known status start d now = IfContext now.context
@@ -142,8 +142,8 @@ module _ {C : Type 0} (c : Meaning ContextSetting C) where
     OnStep true Q = Q
     OnStep false Q = Unit {0}
 
-    -- The status and the output are the step's own answer, also where the turn was then refused;
-    -- and a refused step was refused with this very error.
+    -- The status and the output are the step's own answer, even if the turn was then refused; and a
+    -- refused step was refused with exactly this error.
     abbrev pub HasAccepted : {T : Type 0} → ServerView C P → TsRequest → Result T Error →
         ServerView C P → Type 0
     HasAccepted start d (Ok value) now = DoneStep now.acts.status start d now
@@ -151,7 +151,7 @@ module _ {C : Type 0} (c : Meaning ContextSetting C) where
         (IfContext now.context (RefusedAt now.acts.status start now.handle d.nego_tokens
         (refused_step now.acts.status now.output error)))
 
-    -- of a call that hands the request back with its refusal
+    -- of a call that returns the request with its refusal
     abbrev pub HasAcceptedTurn : ServerView C P → TsRequest → Result ServerState ServerError →
         ServerView C P → Type 0
     HasAcceptedTurn start d (Ok state) now = DoneStep now.acts.status start d now
@@ -178,12 +178,12 @@ server_state_after state outcome.Finished proved status = Final
 server_state_after state (outcome.Refused kind reply) proved status = state
 
 module _ {C : Type 0} (c : Meaning ContextSetting C) where
-  -- what its bytes can show, and what stands behind them
+  -- what its bytes can show, and what they must be made from
   pub record IsServerTurn (f : ServerFrame C) (t : Turn) : Type 0 where
     pub shown : ShowsServer (server_shown f) t
     pub held : HoldsServer c f t
 
-  -- one context of two, but for its counts; or none was, and this holds of the other
+  -- the same context except for its counts; or there was none, and this holds of a new one
   abbrev pub UnlessMade : Option C → Option C → (C → Type 0) → Type 0
   UnlessMade None None Made = Unit {0}
   UnlessMade None (Some m) Made = Made m
@@ -223,8 +223,7 @@ module _ {C : Type 0} (c : Meaning ContextSetting C) where
     abbrev pub KeepsHandle : ServerView C P → ServerView C P → Type 0
     KeepsHandle old new = IsSome old.context → (new.handle ≡ old.handle) × IsSome new.context
 
-    -- the context is the one that the server had, but for its counts, or a new one that has
-    -- acquired credentials; or there is none
+    -- the context is the one that the server had, or a new one that has acquired credentials
     pub data IsNew (old new : ServerView C P) (m : C) : Type 0 where
       is_made : (told : Option (List AuthIdentity)) →
           Begun c old.context old.handle (ForServer old.settings.mode told) Inbound None new.handle
@@ -233,7 +232,7 @@ module _ {C : Type 0} (c : Meaning ContextSetting C) where
     abbrev pub IsUnstepped : ServerView C P → ServerView C P → Type 0
     IsUnstepped old new = UnlessMade old.context new.context (IsNew old new)
 
-    -- how far a turn moves the server
+    -- how a turn changes the server
     pub record ServerMoves (old : ServerView C P) (d : TsRequest) (out : Outcome)
         (new : ServerView C P) : Type 0 where
       pub same : new.settings ≡ old.settings
@@ -249,13 +248,13 @@ module _ {C : Type 0} (c : Meaning ContextSetting C) where
       pub noted_opened : new.acts.opened ≡ true →
           new.noted ≡ noted_with old.settings.least old.noted d.version
       pub counts : CountsEachAct c old.state old.context new.acts new.context
-      -- no step of the context follows its first message, but in the authentication
+      -- the context takes no step past the authentication
       pub bare : OnceNegotiated old.state (SameBut c old.context new.context)
-      -- a call that took no step makes a context at most, or has it count; and one whose step gave
-      -- no answer has no token
+      -- a call that took no step makes at most a context, or changes only its counts; and one whose
+      -- step gave no answer has no token
       pub unstepped : new.acts.negotiated ≡ false → IsUnstepped old new
       pub unanswered : new.acts.status ≡ None → new.output ≡ []
-      -- once its proof is sealed a call is not refused
+      -- once its proof is sealed, a call is not refused
       pub ended : IfRefused out (new.acts.proved ≡ false)
 
     pub record ServerTurn (old : ServerView C P) (d : TsRequest) (out : Outcome)

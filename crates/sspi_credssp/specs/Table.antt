@@ -10,7 +10,7 @@ pub record TableView : Type 0 where
   pub calls : ℕ
   pub faults : ℕ
 
--- it tells all
+-- it exposes everything
 abbrev pub table_meaning : ProxyMeaning TableView
 table_meaning = record {
   told = λ table. record {
@@ -22,7 +22,7 @@ table_meaning = record {
   faults = λ table. table.faults;
 }
 
--- it tells nothing but how many calls it failed
+-- it exposes nothing but how many calls failed
 abbrev pub failing_meaning : ProxyMeaning ℕ
 failing_meaning = record {
   told = λ faults. record { entries = None; answers = λ name. None; failing = None };

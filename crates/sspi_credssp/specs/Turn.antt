@@ -1,6 +1,5 @@
--- One turn of an end: the message that it has for the peer, and what the end is at it; what
--- recorded bytes can show of it; and what it must be by the context, the key and the nonce behind
--- it (MS-CSSP 3.1.5).
+-- One turn of an end: the message that it has for the peer, and the end's data at it; what recorded
+-- bytes can show of it; and what the end's context, key and nonce require of it (MS-CSSP 3.1.5).
 use Rattle.std.specs.Prelude.{◌≡◌, ℕ, Option, None, Some, Bool, true, false, ◌≢◌, ◌⊎◌, List, []}
 use Rattle.std.specs.Prelude.{length, IsSome, nat_lt}
 use Rattle.sspi_types.specs.declared.error_kind.ErrorKind.{ErrorKind}
@@ -43,20 +42,20 @@ OnceNegotiated PubKeyInfo P = P
 OnceNegotiated AuthInfo P = P
 OnceNegotiated Final P = P
 
--- a fact of the peer's version, which is pinned
+-- a fact of the peer's version, which must be pinned
 abbrev pub AtNoted : Option ℕ → (ℕ → Type 0) → Type 0
 AtNoted None P = ⊥
 AtNoted (Some version) P = P version
 
--- a turn that looks at its peer's version notes it, or finds that it is the pinned one
+-- a turn that checks its peer's version pins it, or finds that it is the pinned one
 abbrev pub FitsNoted : Bool → Option ℕ → ℕ → Type 0
 FitsNoted false noted version = Unit {0}
 FitsNoted true noted version = AtNoted noted (λ n. version ≡ n)
 
--- What an end is at a turn: its settings; its state before the turn; the numbers that the messages
--- of this turn have among those that its context sealed and opened; whether it looks at the
--- delivered version, as in each turn but a client's first; the version that is pinned once the turn
--- is over; and its context.
+-- An end's data at a turn: its settings; its state before the turn; the numbers of this turn's
+-- messages among those that its context sealed and opened; whether it checks the delivered version,
+-- as in each turn but a client's first; the version that is pinned once the turn is over; and its
+-- context.
 pub record Frame (S C : Type 0) : Type 0 where
   pub settings : S
   pub state : CredSspState
@@ -72,19 +71,18 @@ ClientFrame C = Frame ClientSettings C
 abbrev pub ServerFrame : Type 0 → Type 0
 ServerFrame C = Frame ServerSettings C
 
--- What the context of an end keeps until a turn uses it: nothing was sealed or opened yet, and past
--- the authentication it differs in its counts alone.
+-- An end's context until a turn uses it: nothing has been sealed or opened yet, and past the
+-- authentication it differs only in its counts.
 pub record IsUnspent {S C : Type 0} (c : Meaning S C) (start : CredSspState)
     (before context : Option C) : Type 0 where
   pub counts : CountsEachAct c start before no_acts context
   pub bare : OnceNegotiated start (SameBut c before context)
 
--- ---- What recorded bytes can show of a turn, whatever context, key and nonce stand behind it: which acts it may have done, and
--- the message that it owes (MS-CSSP 3.1.5).
+-- ---- What recorded bytes can show of a turn, whatever its context, key and nonce: which effects
+-- it may have had, and the message that it owes (MS-CSSP 3.1.5).
 
--- What is known of an end at a turn: its state before the turn; whether it looks at the delivered
--- version; the version that is pinned once the turn is over; and its own version, where that is
--- known.
+-- What is known of an end at a turn: its state before the turn; whether it checks the delivered
+-- version; the version that is pinned once the turn is over; and its own version, if that is known.
 pub record ShownFrame : Type 0 where
   pub state : CredSspState
   pub looks : Bool
@@ -107,14 +105,14 @@ server_shown f = record {
   version = Some f.settings.version;
 }
 
--- a message has its end's own version, where that is known
+-- a message has its end's own version, if that is known
 abbrev pub IsOwn : Option ℕ → ℕ → Type 0
 IsOwn None version = Unit {0}
 IsOwn (Some own) version = version ≡ own
 
 -- ---- shown of a client
 
--- which acts a turn may have done, also one that was refused
+-- which effects a turn may have had, even one that was refused
 pub record ShowsClientActs (f : ShownFrame) (t : Turn) : Type 0 where
   pub negotiated : t.acts.negotiated ≡ true → f.state ≡ NegoToken
   pub answered : IsSome t.acts.status → t.acts.negotiated ≡ true
@@ -197,7 +195,7 @@ HasNonce true sent_nonce = Unit {0}
 HasNonce false None = ⊥
 HasNonce false (Some sent_nonce) = length sent_nonce ≡ 32
 
--- which acts a turn may have done, also one that was refused
+-- which effects a turn may have had, even one that was refused
 pub record ShowsServerActs (f : ShownFrame) (t : Turn) : Type 0 where
   pub negotiated : t.acts.negotiated ≡ true → f.state ≡ NegoToken
   pub answered : IsSome t.acts.status → t.acts.negotiated ≡ true
@@ -225,8 +223,8 @@ pub record ShowsProofBack (f : ShownFrame) (t : Turn) (r : TsRequest) : Type 0 w
     pub_key_auth = r.pub_key_auth;
   }
 
--- the authentication has ended: where the client's proof came already it is answered, else it is
--- asked for by a token
+-- the authentication has ended: a client's proof that is already there is answered, otherwise a
+-- token asks for it
 abbrev pub ShowsOver : ShownFrame → Turn → Option (List ℕ) → TsRequest → Type 0
 ShowsOver f t None r = ShowsTokenBack f t r × (t.output ≢ [])
 ShowsOver f t (Some blob) r = ShowsProofBack f t r
@@ -242,8 +240,8 @@ ShowsStateBack f t NegoToken r = ShowsNegoBack f t t.acts.status r
 ShowsStateBack f t PubKeyInfo r = ShowsProofBack f t r
 ShowsStateBack f t other r = ⊥
 
--- which version an error request has: the one that was delivered, or that of the server; any where
--- the latter is not known
+-- which version an error request has: the delivered one, or the server's own; any if the latter is
+-- not known
 abbrev pub IsVersionBack : Option ℕ → ℕ → ℕ → Type 0
 IsVersionBack None delivered version = Unit {0}
 IsVersionBack (Some own) delivered version = (version ≡ delivered) ⊎ (version ≡ own)
@@ -264,10 +262,10 @@ pub record ShowsServer (f : ShownFrame) (t : Turn) : Type 0 where
   pub acts : ShowsServerActs f t
   pub reply : ShowsAnswer f t t.outcome
 
--- ---- What a turn must be by the context, the key and the nonce behind it, which recorded bytes cannot show (MS-CSSP 3.1.5).
+-- ---- What context, key and nonce require of a turn, and bytes cannot show (MS-CSSP 3.1.5).
 
 module _ {C : Type 0} (c : Meaning ContextSetting C) where
-  -- ---- behind a turn of a client
+  -- ---- required of a client's turn
 
   -- the proof is made over the client's nonce and key
   pub record HoldsProof (f : ClientFrame C) (r : TsRequest) : Type 0 where
@@ -288,7 +286,7 @@ module _ {C : Type 0} (c : Meaning ContextSetting C) where
   HoldsReply f status outcome.Finished = Unit {0}
   HoldsReply f status (outcome.Refused kind reply) = Unit {0}
 
-  -- the credentials are sealed only once the delivered pubKeyAuth opened to the proof that the
+  -- the credentials are sealed only once the delivered pubKeyAuth has opened to the proof that the
   -- server owes
   pub record HoldsClient (f : ClientFrame C) (t : Turn) : Type 0 where
     pub sealed : t.acts.sealed ≡ true →
@@ -296,7 +294,7 @@ module _ {C : Type 0} (c : Meaning ContextSetting C) where
         (prescribed Server noted f.settings.nonce f.settings.public_key))
     pub reply : HoldsReply f t.acts.status t.outcome
 
-  -- ---- behind a turn of a server
+  -- ---- required of a server's turn
 
   -- the client's proof was the right one, and from version 5 on it was made with a nonce
   pub record Proven (context : Option C) (opened : ℕ) (public_key : List ℕ) (d : TsRequest)
@@ -318,7 +316,7 @@ module _ {C : Type 0} (c : Meaning ContextSetting C) where
   HoldsAnswer f t (outcome.Refused kind (Some r)) =
       r.version ≡ version_back f.context f.noted t.delivered.version f.settings.version
 
-  -- the server proves nothing before the client's proof was the right one
+  -- the server proves nothing unless the client's proof was the right one
   pub record HoldsServer (f : ServerFrame C) (t : Turn) : Type 0 where
     pub checked : t.acts.checked ≡ true →
         AtNoted f.noted (λ noted. HasNonce (nat_lt noted 5) t.delivered.client_nonce)

@@ -5,17 +5,16 @@ ghost use Rattle.sspi_credssp.specs.Acts.{no_acts};
 
 use sspi_types::SecurityStatus;
 
-/// What the last call of an end did on its security context, also where the call was refused.
+/// What the last call of an end did on its security context, even if the call was refused.
 #[derive(Clone, Copy, Debug, PartialEq, Eq)]
 pub struct Acts {
-    /// The status that the context's step answered, resumes included; `None` where no step
-    /// answered.
+    /// The status that the context's step answered, resumes included; `None` if no step answered.
     pub status: Option<SecurityStatus>,
     /// The context took a step.
     pub negotiated: bool,
     /// The end sealed its proof of the channel's key.
     pub proved: bool,
-    /// The peer's proof was unsealed, whether or not it is the one that it should be.
+    /// The peer's proof was unsealed, whether or not it is the right one.
     pub checked: bool,
     /// The client sealed its credentials.
     pub sealed: bool,

@@ -1,4 +1,4 @@
-//! Turns a refusal into an error, where a caller is answered and nowhere else.
+//! Turns a refusal into an error, only where a caller gets the result.
 
 ghost use Rattle.std.specs.Prelude.{◌≡◌};
 ghost use Rattle.sspi_mech.specs.Answered.{answered};

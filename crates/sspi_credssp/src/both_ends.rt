@@ -1,4 +1,4 @@
-//! What both ends do alike: adopt acquired credentials, and forget a context.
+//! What both ends share: adopting a context with its credentials, and forgetting the last call.
 
 ghost use Rattle.std.specs.Prelude.{◌≡◌, ◌≢◌, [], OnOk, OnErr, IfErr};
 ghost use Rattle.std.specs.Option.{option_copied};
@@ -42,7 +42,7 @@ pub fn adopt<N: Mechanism, K: Mechanism>(
     Ok(())
 }
 
-// Forgets what the last call did and gave.
+// Forgets what the last call did and returned.
 pub fn forget(alloc: Global, acts: &mut Acts, output: &mut Bytes)
     ensures acts { acts.new ≡ no_acts }
     ensures output { output.new ≡ [] }

@@ -30,9 +30,9 @@ use sspi_types::{Bytes, CredentialUse, Error, ErrorKind, Reason, Text};
 use std::alloc::Global;
 use std::marker::Model;
 
-/// The CredSSP client (MS-CSSP 3.1.5.1): it authenticates, proves that it speaks over the channel
-/// whose public key it was given, checks that the server proves the same, and only then delegates
-/// its credentials.
+/// The CredSSP client (MS-CSSP 3.1.5.1): it authenticates, proves that it uses the channel with the
+/// given public key, and checks that the server proves the same. Only then does it delegate its
+/// credentials.
 #[derive(Drop)]
 pub struct CredSspClient<N, K> {
     pub(crate) alloc: Global,
@@ -86,7 +86,7 @@ impl<N, K> Model for CredSspClient<N, K> {
 impl<N, K> CredSspClient<N, K> {
     ghost use Rattle.sspi_credssp.specs.Ends.{IsFreshClient, new_client};
 
-    /// A client of version 6; else as `new_with_version`.
+    /// A client of version 6; otherwise like `new_with_version`.
     pub fn new(
         alloc: Global,
         public_key: Vec<u8>,
@@ -113,12 +113,12 @@ impl<N, K> CredSspClient<N, K> {
         )
     }
 
-    /// A client of this version of CredSSP, to which nothing was delivered yet. Takes no memory.
+    /// A client of this version of CredSSP, with nothing delivered to it yet. Allocates nothing.
     ///
-    /// `public_key` is the SubjectPublicKey of the channel's certificate, `service_principal_name`
-    /// the target of the authentication, and `client_nonce` goes into the proofs from version 5 on:
-    /// take fresh random bytes for each client. Where `cred_ssp_mode` is `CredentialLess` the
-    /// client authenticates by its credentials and delegates empty ones.
+    /// `public_key` is the SubjectPublicKey of the channel's certificate, and
+    /// `service_principal_name` the target of the authentication. `client_nonce` goes into the
+    /// proofs from version 5 on: use fresh random bytes for each client. If `cred_ssp_mode` is
+    /// `CredentialLess`, the client authenticates with its credentials and delegates empty ones.
     pub fn new_with_version(
         alloc: Global,
         public_key: Vec<u8>,
@@ -154,9 +154,9 @@ impl<N, K> CredSspClient<N, K> {
         }
     }
 
-    /// The same client, which refuses a server whose first version is below this; 0 takes every
-    /// version. Without this call the least is 5: below it the proofs are the key itself and one
-    /// more than it (MS-CSSP 3.1.5), which whoever relays the exchange can choose. Takes no memory.
+    /// The same client, refusing a server whose first version is below this; 0 accepts every
+    /// version. Without this call the least is 5: below it the proofs are the key itself and the
+    /// key plus one (MS-CSSP 3.1.5), which a relay of the exchange can choose. Allocates nothing.
     pub fn with_least_version(self, least: u32) -> CredSspClient<N, K>
         ensures { result ≡ record self { settings = record self.settings { least = least } } }
     {
@@ -165,7 +165,7 @@ impl<N, K> CredSspClient<N, K> {
         client
     }
 
-    /// What the last call did on the security context, also where it was refused.
+    /// What the last call did on the security context, even if it was refused.
     pub fn last_acts(&self) -> Acts
         ensures { result ≡ self.now.acts }
     {
@@ -188,8 +188,8 @@ impl<N, K> CredSspClient<N, K> {
         &self.client_nonce
     }
 
-    /// Takes the token that the context's step gave in the last call, resumes included; empty where
-    /// no step answered, and once it was taken.
+    /// Takes the token that the context's step returned in the last call, resumes included; empty
+    /// if no step answered, and once it has been taken.
     pub fn take_output(&mut self) -> Bytes
         ensures output { result ≡ self.old.output }
         ensures rest { self.new ≡ record self.old { output = [] } }
@@ -214,7 +214,7 @@ impl<N: Mechanism, K: Mechanism> CredSspClient<N, K> {
         }
     }
 
-    /// At most how often the context still asks a KDC; 0 before there is a context.
+    /// How often the context may still ask a KDC, at most; 0 before there is a context.
     pub fn requests_left(&self) -> u64
         ensures { result ≡ left_in (either N.REQUESTS N.meaning K.meaning) self.now.context }
     {
@@ -227,23 +227,22 @@ impl<N: Mechanism, K: Mechanism> CredSspClient<N, K> {
     /// Takes the server's message and makes the client's next one; the first call takes a default
     /// request.
     ///
-    /// Refused, in this order: `OutOfSequence` while a turn is suspended; `InvalidToken`, with the
-    /// code as its status, where the server reports an error; in any call but the one that makes
-    /// the context, which looks at no version, `DowngradeDetected` where no version of the server
-    /// is pinned yet and this one is below the least, which then is not pinned, and
-    /// `MessageAltered` where the server changes its version; with the kinds of a new context; then
-    /// by the state. In the authentication with the kinds of the context's step, `InternalError`
-    /// where it ends before a version was pinned, and the kinds of sealing the proof. Where the
-    /// server's proof is due, `InvalidToken` where it is absent or has under 16 bytes, the kinds of
-    /// opening it, `MessageAltered` where it is not the right one, and the kinds of the
-    /// credentials' text and of sealing it. `OutOfSequence` once the last message was made. Out of
-    /// memory may come in place of what stands behind the version, but for the absent or short
-    /// proof, the one that the context does not open, the one that is not the right one, and that
-    /// last one.
+    /// Refusals come in this order: `OutOfSequence` while a turn is suspended; `InvalidToken`, with
+    /// the code as its status, if the server reports an error; the kinds of the version; the kinds
+    /// of a new context; then by the state. The call that makes the context checks no version. In
+    /// any other: `DowngradeDetected` if no version of the server is pinned yet and this one is
+    /// below the least, and then not pinned; `MessageAltered` if the server changes its version. In
+    /// the authentication: the kinds of the context's step, `InternalError` if it ends before a
+    /// version was pinned, and the kinds of sealing the proof. When the server's proof is due:
+    /// `InvalidToken` if it is absent or has under 16 bytes; the kinds of opening it;
+    /// `MessageAltered` if it is not the right one; the kinds of the credentials' text and of
+    /// sealing it. `OutOfSequence` once the last message was made. Out of memory may replace any
+    /// refusal after the version, except that last one, and that of a proof that is absent, short,
+    /// not opened or wrong.
     ///
-    /// A call that is refused while a turn is suspended, for the code or for the version only
-    /// forgets what the last call did. Any other leaves the state, the mode and what was acquired
-    /// before, and a context that it made stays. The request is dropped.
+    /// A call that is refused for a suspended turn, the code or the version only forgets what the
+    /// last call did. Any other refusal leaves the state, the mode and what was acquired before
+    /// unchanged, and keeps a context that the call made. The request is dropped.
     pub fn process(&mut self, ts_request: TsRequest) -> Result<Progress, Error>
         ensures { ClientCall (either N.REQUESTS N.meaning K.meaning) self.old ts_request result
             self.new }
@@ -257,14 +256,13 @@ impl<N: Mechanism, K: Mechanism> CredSspClient<N, K> {
         answered(self.take(at_version(ts_request, self.ts_request_version)))
     }
 
-    /// Goes on with the suspended turn, once it is known what came of its request.
+    /// Continues the suspended turn once the outcome of its request is known.
     ///
-    /// Where no turn is suspended that is `OutOfSequence`, and the client only forgets what its
-    /// last call did (`last_acts`, `take_output`). Else it is refused with the kinds of the
-    /// context's step; with `InternalError` where the authentication ends before a version was
-    /// pinned; with the kinds of sealing the proof; and when out of memory. A refused client is
-    /// suspended still where its context is, and nowhere else: the request stays in it, and a later
-    /// call goes on from there.
+    /// `OutOfSequence` if no turn is suspended; the client then only forgets what its last call did
+    /// (`last_acts`, `take_output`). Otherwise it refuses with the kinds of the context's step;
+    /// with `InternalError` if the authentication ends before a version was pinned; with the kinds
+    /// of sealing the proof; and when out of memory. A refused client is still suspended exactly if
+    /// its context is: it keeps the request, and a later call continues from there.
     pub fn resume(&mut self, reply: &Reply) -> Result<Progress, Error>
         ensures { ResumeCall (either N.REQUESTS N.meaning K.meaning) self.old reply.now result
             self.new }
@@ -285,7 +283,7 @@ impl<N: Mechanism, K: Mechanism> CredSspClient<N, K> {
         forget(self.alloc, &mut self.acts, &mut self.output);
     }
 
-    // The turn, once the request's code and version were looked at.
+    // The turn, once the request's code and version have been checked.
     fn take(&mut self, request: TsRequest) -> Result<Progress, Refusal>
         // What must hold before.
         requires acts { self.old.acts ≡ no_acts }
@@ -309,7 +307,7 @@ impl<N: Mechanism, K: Mechanism> CredSspClient<N, K> {
         ensures exact { IfErr result (λ error.
             StateExact (either N.REQUESTS N.meaning K.meaning) self.old.state request self.new
             error.error_type) }
-        // What is so afterwards.
+        // What holds afterwards.
         ensures begun { IsSome self.new.context }
     {
         match self.state {
@@ -320,7 +318,7 @@ impl<N: Mechanism, K: Mechanism> CredSspClient<N, K> {
     }
 
     fn begin(&mut self, version: u32) -> Result<(), Refusal>
-        // What `Ok` holds, and what alone may change.
+        // What `Ok` holds, and all that may change.
         ensures frame { self.new ≡ record self.old {
           context = self.new.context;
           handle = self.new.handle;
@@ -340,7 +338,7 @@ impl<N: Mechanism, K: Mechanism> CredSspClient<N, K> {
         ensures err { OnErr result (self.new ≡ self.old) }
         ensures noted { OnErr result (self.new.noted ≡ noted_in self.old.context
             self.old.settings.least self.old.noted version) }
-        // How the version was looked at, and what a refusal says.
+        // How the version was checked, and what a refusal says.
         ensures passed { OnOk result (IsSome self.new.context ×
             (is_altered_in self.old.context self.old.noted version ≡ false)
             × (is_old_in self.old.context self.old.settings.least self.old.noted version ≡ false)) }
@@ -361,11 +359,11 @@ impl<N: Mechanism, K: Mechanism> CredSspClient<N, K> {
         }
     }
 
-    // The context and the credentials that it acquires are kept only together.
+    // The context and the credentials that it acquires are kept together or not at all.
     fn make_context(&mut self) -> Result<(), Refusal>
         // What must hold before.
         requires { self.old.context ≡ None }
-        // What `Ok` holds, and what alone may change.
+        // What `Ok` holds, and all that may change.
         ensures frame { self.new ≡ record self.old {
           context = self.new.context;
           handle = self.new.handle;

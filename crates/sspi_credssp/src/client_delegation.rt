@@ -44,7 +44,7 @@ impl<N: Mechanism, K: Mechanism> CredSspClient<N, K> {
         ensures exact { IfErr result (λ error.
             DeliverExact (either N.REQUESTS N.meaning K.meaning) request.pub_key_auth self.new
             error.error_type) }
-        // What is so afterwards.
+        // What holds afterwards.
         ensures acts { (self.new.acts.status ≡ None) × (self.new.acts.negotiated ≡ false) }
     {
         let credentials = self.exchange(&request.pub_key_auth)?;
@@ -52,7 +52,7 @@ impl<N: Mechanism, K: Mechanism> CredSspClient<N, K> {
         Ok(ClientState::FinalMessage(with_credentials(request, credentials)))
     }
 
-    // The proof that the client owes, by the key of the channel and its nonce.
+    // The client's own proof, made from the channel's key and its nonce.
     pub(crate) fn own_proof(&self, version: u32) -> Result<Bytes, AllocError>
         ensures { IfOk result (λ proof.
             proof ≡ prescribed EndpointType.Client version self.now.settings.nonce
@@ -67,7 +67,7 @@ impl<N: Mechanism, K: Mechanism> CredSspClient<N, K> {
         )
     }
 
-    // Opens the server's proof, and seals the credentials if it is the one that the server owes.
+    // Opens the server's proof, and seals the credentials if it is the right one.
     fn exchange(&mut self, pub_key_auth: &Option<Bytes>) -> Result<Bytes, Refusal>
         // What must hold before.
         requires acts { self.old.acts ≡ no_acts }

@@ -96,7 +96,7 @@ impl<N: Mechanism, K: Mechanism> CredSspClient<N, K> {
         ensures cause { IfErr result (λ error. error.error_type ≢ ErrorKind.InsufficientMemory →
             NegoCause (either N.REQUESTS N.meaning K.meaning) self.new.acts.status self.new
             error.error_type) }
-        // What is so afterwards.
+        // What holds afterwards.
         ensures begun { IsSome self.new.context }
     {
         self.acts.negotiated = true;
@@ -133,7 +133,7 @@ impl<N: Mechanism, K: Mechanism> CredSspClient<N, K> {
             StepsTo c start d tries log (answers.Ask q) self.old →
             HasStepped c start d tries (record { question = q; reply = reply.now } ∷ log)
             (answered result) self.new }
-        // What a step that did not end leaves.
+        // What an unfinished step leaves.
         ensures still { let c = either N.REQUESTS N.meaning K.meaning
             in (start : ClientView (SspiContext N K)) (d : TsRequest)
             (tries : ℕ) (log : List Asked) (q : NetworkRequest) →
@@ -162,8 +162,8 @@ impl<N: Mechanism, K: Mechanism> CredSspClient<N, K> {
         self.go_on(progress, request)
     }
 
-    // What the step's answer comes to. The request is kept where the context waits, and so also
-    // where a refused resume waits again.
+    // Turns the step's answer into progress. The request is kept while the context waits, also if a
+    // refused resume waits again.
     fn go_on(
         &mut self,
         progress: Result<Progressing, Refusal>,
@@ -185,7 +185,7 @@ impl<N: Mechanism, K: Mechanism> CredSspClient<N, K> {
             (start : ClientView (SspiContext N K)) (d : TsRequest) (tries : ℕ) (log : List Asked) →
             StepsTo c start d tries log (answer_of (answered progress)) self.old →
             HasStepped c start d tries log (answered result) self.new }
-        // What a step that did not end leaves.
+        // What an unfinished step leaves.
         ensures still { OnErr result (self.new.acts.status ≡ None →
             KeepsRequest (either N.REQUESTS N.meaning K.meaning) self.old (answered progress)
             request self.new) }

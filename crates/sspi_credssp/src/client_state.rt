@@ -12,10 +12,10 @@ pub enum ClientState {
     FinalMessage(TsRequest),
 }
 
-/// How far a client's turn came that was not refused.
+/// How far a client's turn came if it was not refused.
 #[derive(Drop)]
 pub enum Progress {
-    /// The turn goes on by `resume`, once it is known what came of this request to a KDC.
+    /// The turn continues with `resume`, once the outcome of this request to a KDC is known.
     Suspended(NetworkRequest),
     /// The turn is over.
     Completed(ClientState),

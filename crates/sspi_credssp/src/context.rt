@@ -28,13 +28,13 @@ use sspi_types::{CredentialUse, Error, ErrorKind, Reason, SecurityStatus};
 use std::alloc::Global;
 use std::slice::from_ref;
 
-/// A security context by one of two mechanisms, which need not be those that the variants are named
-/// after, or by a negotiation that agrees on one of them.
+/// A security context of one of two mechanisms, or of a negotiation that agrees on one of them. The
+/// mechanisms need not be those that the variants are named after.
 ///
-/// Its calls answer what the selected mechanism answers. A refusal has no NTSTATUS code, and out of
-/// memory may come wherever a call takes memory. What a step refuses its relation says; another
-/// call refuses, where its text names no kind of its own, as the mechanism's `refuses` says. The
-/// kinds that are told of the plain mechanisms are theirs alone.
+/// Its calls answer what the selected mechanism answers. A refusal has no NTSTATUS code, and any
+/// call that allocates may run out of memory. The relation of a step says what it refuses; any
+/// other call whose text names no kind refuses as the mechanism's `refuses` says. The kinds given
+/// for the plain mechanisms are theirs alone.
 #[derive(Drop)]
 pub enum SspiContext<N, K> {
     /// The negotiation of a mechanism (SPNEGO).
@@ -96,7 +96,7 @@ impl<N: Mechanism, K: Mechanism> SspiContext<N, K> {
         }
     }
 
-    /// The name of the context's package: of a negotiation `Negotiate`, whatever mechanism it has
+    /// The name of the context's package: `Negotiate` for a negotiation, whichever mechanism it has
     /// selected.
     pub fn package_name(&self) -> &'static str
         ensures { result.now ≡ package_name_of self.now }
@@ -112,8 +112,8 @@ impl<N: Mechanism, K: Mechanism> SspiContext<N, K> {
     /// (AcquireCredentialsHandle).
     ///
     /// With the plain mechanisms, negotiated or not, `NoCredentials` for an outbound use without
-    /// credentials. NTLM refuses a keytab as `UnknownCredentials`, and where it was negotiated, for
-    /// an outbound use as `NoCredentials`. Refused, the context is as it was.
+    /// credentials. NTLM refuses a keytab with `UnknownCredentials`, but with `NoCredentials` for
+    /// an outbound use if it was negotiated. A refusal leaves the context unchanged.
     pub fn acquire_credentials_handle(
         &mut self,
         credential_use: CredentialUse,
@@ -137,8 +137,8 @@ impl<N: Mechanism, K: Mechanism> SspiContext<N, K> {
         }
     }
 
-    /// A client's step (InitializeSecurityContext). Suspended, it goes on by `resume`. Refused as
-    /// the mechanism or the negotiation refuses.
+    /// A client's step (InitializeSecurityContext). A suspended step continues with `resume`. It
+    /// refuses as the mechanism or the negotiation does.
     pub fn initialize_security_context(
         &mut self,
         args: &InitializeSecurityContext<'_>,
@@ -154,8 +154,8 @@ impl<N: Mechanism, K: Mechanism> SspiContext<N, K> {
         }
     }
 
-    /// Goes on with the step that was suspended, once it is known what came of its request. Refused
-    /// as the mechanism or the negotiation refuses.
+    /// Continues the suspended step once the outcome of its request is known. It refuses as the
+    /// mechanism or the negotiation does.
     pub fn resume(&mut self, reply: &Reply) -> Result<Progressing, Error>
         ensures step { (either N.REQUESTS N.meaning K.meaning).resumes self.old reply.now
             (answer_of result) self.new }
@@ -168,8 +168,8 @@ impl<N: Mechanism, K: Mechanism> SspiContext<N, K> {
         }
     }
 
-    /// A server's step (AcceptSecurityContext). Refused as the mechanism or the negotiation
-    /// refuses.
+    /// A server's step (AcceptSecurityContext). It refuses as the mechanism or the negotiation
+    /// does.
     pub fn accept_security_context(
         &mut self,
         args: &AcceptSecurityContext<'_>,
@@ -196,7 +196,7 @@ impl<N: Mechanism, K: Mechanism> SspiContext<N, K> {
         }
     }
 
-    /// At most how often this context still asks a KDC.
+    /// How often this context may still ask a KDC, at most.
     pub fn requests_left(&self) -> u64
         ensures { result ≡ (either N.REQUESTS N.meaning K.meaning).left self.now }
     {
@@ -207,7 +207,7 @@ impl<N: Mechanism, K: Mechanism> SspiContext<N, K> {
         }
     }
 
-    /// The name that was authenticated: on a server the peer's, on a client its own. With the plain
+    /// The authenticated name: the peer's on a server, its own on a client. With the plain
     /// mechanisms `OutOfSequence` before it is known.
     pub fn query_context_names(&self) -> Result<ContextNames, Error>
         ensures named { IfOk result (λ names. (either N.REQUESTS N.meaning K.meaning).names
@@ -225,9 +225,9 @@ impl<N: Mechanism, K: Mechanism> SspiContext<N, K> {
         })
     }
 
-    /// Tells a server which identity its peer may have. `IncompleteCredentials` for a keytab with
-    /// NTLM selected, also where it was negotiated; else as `custom_set_auth_identities` of this
-    /// one. Refused, the context is as it was.
+    /// Gives a server the identity that its peer may have. `IncompleteCredentials` for a keytab if
+    /// NTLM is selected, negotiated or not; otherwise like `custom_set_auth_identities` with this
+    /// one alone. A refusal leaves the context unchanged.
     pub fn custom_set_auth_identity(&mut self, identity: Credentials) -> Result<(), Error>
         // What `Ok` holds, and that the counts stay.
         ensures identified { OnOk result ((either N.REQUESTS N.meaning K.meaning).identifies
@@ -258,14 +258,14 @@ impl<N: Mechanism, K: Mechanism> SspiContext<N, K> {
         }
     }
 
-    /// Tells a server which identities its peer may have. NTLM takes those with a password,
-    /// Kerberos the first, also where it was negotiated.
+    /// Gives a server the identities that its peer may have. NTLM takes those with a password,
+    /// Kerberos the first, negotiated or not.
     ///
-    /// Plain NTLM answers `OutOfSequence` on a client and before its peer has proved a password,
-    /// `NoCredentials` where no identity has a password, and `LogonDenied` where none has the one
-    /// that was proved. Plain Kerberos answers `OutOfSequence` but on a server that has its session
-    /// key, and `NoCredentials` for an empty list. Out of memory never stands for any of these.
-    /// Refused, the context is as it was.
+    /// Plain NTLM answers `OutOfSequence` on a client and before its peer has proved a password;
+    /// `NoCredentials` if no identity has a password; and `LogonDenied` if none has the one that
+    /// was proved. Plain Kerberos answers `OutOfSequence` except on a server that has its session
+    /// key, and `NoCredentials` for an empty list. Out of memory never replaces any of these. A
+    /// refusal leaves the context unchanged.
     pub fn custom_set_auth_identities(&mut self, identities: Vec<Credentials>) -> Result<(), Error>
         ensures identified { OnOk result ((either N.REQUESTS N.meaning K.meaning).identifies
             self.old identities.items self.new) }
@@ -305,10 +305,10 @@ impl<N: Mechanism, K: Mechanism> SspiContext<N, K> {
         }
     }
 
-    /// Seals a text for the peer, as the next of its messages: a blob of at least 16 bytes.
+    /// Seals a text for the peer as the context's next message: a blob of at least 16 bytes.
     ///
     /// With the plain mechanisms `OutOfSequence` before there is a key, `ContextExpired` once all
-    /// numbers of messages are used.
+    /// message numbers are used.
     pub fn seal(&mut self, text: &[u8]) -> Result<Vec<u8>, Error>
         // What `Ok` holds.
         ensures blob { let c = either N.REQUESTS N.meaning K.meaning in
@@ -335,12 +335,12 @@ impl<N: Mechanism, K: Mechanism> SspiContext<N, K> {
         }
     }
 
-    /// Opens what the peer sealed, as the next of its messages.
+    /// Opens what the peer sealed as its next message.
     ///
     /// With the plain mechanisms `OutOfSequence` before there is a key, `ContextExpired` once all
-    /// numbers of messages are used, `InvalidToken` for a blob of under 16 bytes, and
-    /// `MessageAltered` for one that the peer did not seal as this message. Out of memory never
-    /// stands for any of these.
+    /// message numbers are used; `InvalidToken` for a blob of under 16 bytes; and `MessageAltered`
+    /// for one that the peer did not seal as this message. Out of memory never replaces any of
+    /// these.
     pub fn unseal(&mut self, blob: &[u8]) -> Result<Vec<u8>, Error>
         // What `Ok` holds.
         ensures text { let c = either N.REQUESTS N.meaning K.meaning in
@@ -370,7 +370,7 @@ impl<N: Mechanism, K: Mechanism> SspiContext<N, K> {
     }
 }
 
-/// A context over any two mechanisms keeps what every context keeps, a negotiation among them.
+/// A context over any two mechanisms keeps the laws of every context, and so does a negotiation.
 pub fn context_keeps_laws<N: Mechanism, K: Mechanism>()
     ensures { IsContext (either N.REQUESTS N.meaning K.meaning) }
 {}

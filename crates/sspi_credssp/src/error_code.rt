@@ -1,4 +1,4 @@
-//! The NTSTATUS code by which a server tells its client of a refusal (MS-CSSP 2.2.1).
+//! The NTSTATUS code with which a server reports a refusal to its client (MS-CSSP 2.2.1).
 
 ghost use Rattle.std.specs.Prelude.{◌≡◌, ◌≢◌};
 ghost use Rattle.sspi_types.specs.declared.error_kind.ErrorKind.{ErrorKind};
@@ -6,9 +6,9 @@ ghost use Rattle.sspi_credssp.specs.Requests.{error_code_of};
 
 use sspi_types::{Error, NStatusCode};
 
-/// The NTSTATUS code by which a server tells its client why it refused (errorCode, MS-CSSP 2.2.1):
-/// the low 16 bits of the kind's number, with the severity of an error and the facility of Win32
-/// codes. Never `SUCCESS`.
+/// The NTSTATUS code with which a server tells its client why it refused (errorCode, MS-CSSP
+/// 2.2.1): the low 16 bits of the kind's number, with the severity of an error and the facility of
+/// Win32 codes. Never `SUCCESS`.
 pub fn construct_error(e: &Error) -> NStatusCode
     ensures { result ≡ error_code_of e.now.error_type }
 {

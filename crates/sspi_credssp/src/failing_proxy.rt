@@ -25,7 +25,7 @@ impl Model for FailingProxy {
 impl FailingProxy {
     ghost use Rattle.sspi_credssp.specs.Table.{failing_meaning};
 
-    /// A proxy that was not asked yet.
+    /// A proxy that has not been asked yet.
     pub fn new() -> FailingProxy
         ensures { result ≡ 0 }
     {

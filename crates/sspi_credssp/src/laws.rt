@@ -1,4 +1,4 @@
-//! What follows where a blob opens to one text. Each law is the contract of a call that does
+//! What follows from a blob opening to a single text. Each law is the contract of a call that does
 //! nothing.
 
 ghost use Rattle.std.specs.Prelude.{ℕ, List, Option, Some, Result, ◌≡◌, ◌-◌};
@@ -14,7 +14,7 @@ ghost use Rattle.sspi_credssp.specs.ServerTurn.{HoldsIdentity};
 
 use sspi_mech::Mechanism;
 
-/// What a context opened last holds one identity at most.
+/// The last blob that a context opened holds at most one identity.
 pub fn one_identity_is_held<N: Mechanism, K: Mechanism>()
     ensures { (context : Option (SspiContext N K)) (field : Option (List ℕ))
         (identity other : AuthIdentity) →
@@ -23,9 +23,9 @@ pub fn one_identity_is_held<N: Mechanism, K: Mechanism>()
         identity ≡ other }
 {}
 
-/// A blob that an end refused as altered did not open to the proof, also where the context has
-/// sealed since. So an end that refuses a blob which opened to the proof refuses it because what it
-/// then owes has no text, or is not sealed.
+/// A blob that an end refused as altered did not open to the proof, even if the context has sealed
+/// since. So an end that refuses a blob that opened to the proof has another reason: what it owes
+/// next has no text, or is not sealed.
 pub fn an_altered_blob_is_not_the_proof<N: Mechanism, K: Mechanism>()
     ensures altered { let c = either N.REQUESTS N.meaning K.meaning in
         (m : SspiContext N K) (context : Option (SspiContext N K)) (blob proof : List ℕ) →

@@ -1,22 +1,22 @@
 //! CredSSP (MS-CSSP): the client and the server that delegate credentials inside a TLS channel.
 //!
-//! Both ends authenticate by a security context over any two mechanisms, prove to each other that
-//! they speak over the channel of the same public key, and only then the client seals its
+//! Both ends authenticate by a security context over any two mechanisms. They prove to each other
+//! that they use the channel with the same public key, and only then does the client seal its
 //! credentials. Each call makes one turn of one delivered request.
 //!
-//! - `CredSspClient` and `CredSspServer`: one `process` a message, and the client's `resume` once a
-//!   KDC has replied. What a call promises is one record, in `specs/ClientCall.antt` and
-//!   `specs/ServerCall.antt`. What a turn may do and what it replies is in `Turn.antt`, how it
-//!   moves its end, with the step of the context, in `ClientTurn.antt` and `ServerTurn.antt`; the
-//!   order and the causes of the refusals are in `ClientCause.antt` and `ServerCause.antt`; when a
-//!   version is pinned, or refused for its age, in `Noted.antt`.
-//! - `SspiContext`: the security context that both drive, a mechanism or a negotiation over both;
-//!   `specs/Context.antt` has what it means.
-//! - `CredentialsProxy`: where a server looks its peers up; `TableProxy` has a list, and
+//! - `CredSspClient` and `CredSspServer`: one `process` per message, and the client's `resume` once
+//!   the outcome of a KDC request is known. What a call promises is one record, in
+//!   `specs/ClientCall.antt` and `specs/ServerCall.antt`. What a turn may do and reply is in
+//!   `Turn.antt`; how it changes its end, with the step of the context, in `ClientTurn.antt` and
+//!   `ServerTurn.antt`; the order and causes of refusals in `ClientCause.antt` and
+//!   `ServerCause.antt`; when a version is pinned, or refused as too old, in `Noted.antt`.
+//! - `SspiContext`: the security context that both ends drive, one mechanism or a negotiation over
+//!   both; `specs/Context.antt` defines its meaning.
+//! - `CredentialsProxy`: where a server looks up its peers; `TableProxy` holds a list, and
 //!   `FailingProxy` always fails.
-//! - `laws`: what follows where a blob opens to one text.
-//! - `integer_increment_le` and `construct_error`: the proof below version 5, and the code that a
-//!   refusal is told by.
+//! - `laws`: what follows from a blob opening to a single text.
+//! - `integer_increment_le` and `construct_error`: the proof below version 5, and the code that
+//!   reports a refusal.
 #![tactic(auto)]
 
 pub mod acts;

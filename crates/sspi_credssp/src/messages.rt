@@ -49,10 +49,10 @@ impl<N: Mechanism, K: Mechanism> SspiContext<N, K> {
     /// Seals the text in Data as the next message (EncryptMessage): the first 16 bytes of the blob
     /// go to Token, the rest stays in Data. The flags are not read.
     ///
-    /// Of each type the first buffer without flags is taken; `InvalidToken` where Data or Token is
+    /// The first buffer of each type without flags is taken; `InvalidToken` if Data or Token is
     /// missing, before the selected mechanism is asked. With the plain mechanisms `OutOfSequence`
-    /// before there is a key, `ContextExpired` once all numbers of messages are used. Refused, the
-    /// context and all buffers are as they were.
+    /// before there is a key, `ContextExpired` once all message numbers are used. A refusal leaves
+    /// the context and all buffers unchanged.
     pub fn encrypt_message(
         &mut self,
         _flags: EncryptionFlags,
@@ -73,13 +73,13 @@ impl<N: Mechanism, K: Mechanism> SspiContext<N, K> {
     /// Opens the peer's next message (DecryptMessage) and leaves its text in Data. The blob is the
     /// bytes of Stream, or without one those of Token followed by those of Data. Answers no flags.
     ///
-    /// Of each type the first buffer without flags is taken; `InvalidToken` where Data is missing,
-    /// where there is neither Stream nor Token, and for a blob of under 16 bytes, before the
-    /// selected mechanism is asked. With the plain mechanisms `OutOfSequence` before there is a
-    /// key, `ContextExpired` once all numbers of messages are used, `MessageAltered` for what the
-    /// peer did not seal as this message. Out of memory never stands for the refusal of a blob in
-    /// Stream; Token and Data are joined first, which takes memory. Refused, the context and all
-    /// buffers are as they were.
+    /// The first buffer of each type without flags is taken. Before the selected mechanism is
+    /// asked: `InvalidToken` if Data is missing, if there is neither Stream nor Token, and for a
+    /// blob of under 16 bytes. With the plain mechanisms `OutOfSequence` before there is a key,
+    /// `ContextExpired` once all message numbers are used; `MessageAltered` for what the peer did
+    /// not seal as this message. Out of memory never replaces the refusal of a blob in Stream;
+    /// joining Token and Data allocates first. A refusal leaves the context and all buffers
+    /// unchanged.
     pub fn decrypt_message(
         &mut self,
         message: &mut [SecurityBuffer],
@@ -99,13 +99,13 @@ impl<N: Mechanism, K: Mechanism> SspiContext<N, K> {
         decrypt_message(self, message)
     }
 
-    /// Leaves the MIC of the text in Data (MakeSignature), as the next of the own MICs, in Token.
+    /// Writes the MIC of the text in Data to Token, as the context's next MIC (MakeSignature).
     /// Flags and sequence number are not read.
     ///
-    /// Of each type the first buffer without flags is taken; `InvalidToken` where Data or Token is
+    /// The first buffer of each type without flags is taken; `InvalidToken` if Data or Token is
     /// missing, before the selected mechanism is asked. With the plain mechanisms `OutOfSequence`
-    /// before there is a key, `ContextExpired` once all numbers of MICs are used. Refused, the
-    /// context and all buffers are as they were.
+    /// before there is a key, `ContextExpired` once all MIC numbers are used. A refusal leaves the
+    /// context and all buffers unchanged.
     pub fn make_signature(
         &mut self,
         _flags: u32,
@@ -124,13 +124,13 @@ impl<N: Mechanism, K: Mechanism> SspiContext<N, K> {
     }
 
     /// Checks that Token is the MIC that the peer made of the text in Data (VerifySignature), as
-    /// the next of its MICs, and answers 0. Changes no buffer and takes no memory. The sequence
-    /// number is not read.
+    /// its next MIC, and answers 0. Changes no buffer and allocates nothing. The sequence number is
+    /// not read.
     ///
-    /// Of each type the first buffer without flags is taken; `InvalidToken` where Data or Token is
+    /// The first buffer of each type without flags is taken; `InvalidToken` if Data or Token is
     /// missing, before the selected mechanism is asked. With the plain mechanisms `OutOfSequence`
-    /// before there is a key, `ContextExpired` once all numbers of MICs are used, `MessageAltered`
-    /// for another MIC. Refused, the context is as it was.
+    /// before there is a key, `ContextExpired` once all MIC numbers are used, `MessageAltered` for
+    /// another MIC. A refusal leaves the context unchanged.
     pub fn verify_signature(
         &mut self,
         message: &mut [SecurityBuffer],

@@ -1,4 +1,4 @@
-//! Which identities a server that negotiates hands to its context.
+//! Which identities a negotiating server passes to its context.
 
 ghost use Rattle.std.specs.Prelude.{◌≡◌, ◌≢◌, ◌≤◌, IfOk, IfErr, OnOk};
 ghost use Rattle.sspi_credssp.specs.Proxy.{list_calls, IsTold, IsAsked, HasAsked};
@@ -13,8 +13,8 @@ use sspi_names::AuthIdentity;
 use sspi_types::{ErrorKind, Reason};
 use std::alloc::Global;
 
-/// All identities of the proxy where a negotiation is made with them, and none elsewhere, where it
-/// is not asked.
+/// All identities of the proxy if a negotiation is made with them; otherwise none, and the proxy is
+/// not asked.
 pub(crate) fn list_peers<C: CredentialsProxy>(
     alloc: Global,
     mode: &ServerMode,

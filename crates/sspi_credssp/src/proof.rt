@@ -15,10 +15,10 @@ use crate::versions::FIRST_HASHED_VERSION;
 use sspi_mech::{Mechanism, Refusal};
 use sspi_types::{Bytes, ErrorKind, Reason};
 
-// A sealed blob begins with a tag of so many bytes.
+// A sealed blob begins with a tag of this many bytes.
 const TAG_LENGTH: usize = 16;
 
-// The field that holds a blob, which must be there.
+// The blob of a field, which must be present.
 pub fn present(field: &Option<Bytes>, absent: Reason) -> Result<&Bytes, Refusal>
     ensures there { IfOk result (λ blob. field.now ≡ Some blob.now) }
     ensures absent { OnErr result (field.now ≡ None) }
@@ -30,7 +30,7 @@ pub fn present(field: &Option<Bytes>, absent: Reason) -> Result<&Bytes, Refusal>
     }
 }
 
-// Its bytes, which must be enough to hold the tag.
+// The blob's bytes, which must be enough to hold the tag.
 pub fn long_enough(blob: &Bytes) -> Result<&[u8], Refusal>
     ensures long { IfOk result (λ bytes. IsLongBlob blob.now bytes.now) }
     ensures short { OnErr result (nat_lt (length blob.now) 16 ≡ true) }
@@ -50,7 +50,7 @@ pub fn sealed_blob(field: &Option<Bytes>, absent: Reason) -> Result<&[u8], Refus
     long_enough(present(field, absent)?)
 }
 
-// Whether the blob opens to exactly the proof that this end owes. Opening alone takes memory.
+// Whether the blob opens to exactly the proof that this end owes. Only opening allocates.
 pub fn opens_to<N: Mechanism, K: Mechanism>(
     context: &mut SspiContext<N, K>,
     acts: &mut Acts,
@@ -79,7 +79,7 @@ pub fn opens_to<N: Mechanism, K: Mechanism>(
     Ok(is_prescribed(&mut text, end, version, nonce, public_key))
 }
 
-// Seals a text as the context's next message, and notes that it did.
+// Seals a text as the context's next message, and records that it did.
 pub fn seal_text<N: Mechanism, K: Mechanism>(
     context: &mut SspiContext<N, K>,
     noted: &mut bool,

@@ -1,4 +1,4 @@
-//! The trait by which a server looks up its users.
+//! The trait through which a server looks up its users.
 
 ghost use Rattle.std.specs.Prelude.{IfOk};
 ghost use Rattle.sspi_credssp.specs.Proxy.{ProxyMeaning, IsEntry, IsTold, AreFound, IsList};
@@ -8,14 +8,14 @@ use sspi_names::{AuthIdentity, Username};
 use std::alloc::AllocError;
 use std::fmt;
 
-/// Why a look-up of credentials gave none.
+/// Why a look-up returned no credentials.
 #[derive(Clone, Copy, Debug, PartialEq, Eq)]
 pub enum ProxyError {
     /// There is no such user.
     NotFound,
     /// The look-up could not be made.
     Failed,
-    /// There was no memory for the answer.
+    /// Memory ran out for the answer.
     InsufficientMemory,
 }
 
@@ -44,19 +44,19 @@ impl From<AllocError> for ProxyError {
 
 /// Where a server looks up the identities of its peers.
 ///
-/// Names are compared by form, account and domain, without the case of ASCII letters. A call that
-/// answers `Failed` has raised the count of faults, but for one that found it as high as it goes.
+/// Names are compared by form, account and domain, ignoring the case of ASCII letters. A call that
+/// answers `Failed` has raised the count of faults, unless the count was already at its maximum.
 /// Each count stays at `u64::MAX` once it is there.
 pub trait CredentialsProxy: Drop {
-    // What the object tells of itself, and how many calls were made and failed.
+    // What the proxy exposes of itself, and how many calls were made and failed.
     ghost meaning: { ProxyMeaning Self };
 
-    /// The first identity of this name; `NotFound` where there is none.
+    /// The first identity with this name; `NotFound` if there is none.
     fn auth_data_by_user(&mut self, username: &Username) -> Result<AuthIdentity, ProxyError>
         ensures call { HasAnswered meaning self.old result self.new }
         ensures entry { IsEntry (meaning.told self.old).entries username.now result };
 
-    /// All identities of this name, in their order: none where there is none. A user may have
+    /// All identities with this name, in their order; the list may be empty. A user may have
     /// several, such as one with the current password and one with the previous one.
     fn auth_data_candidates_by_user(
         &mut self,

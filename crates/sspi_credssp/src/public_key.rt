@@ -30,8 +30,7 @@ pub fn hash_magics_are_prescribed()
     ensures server { SERVER_CLIENT_HASH_MAGIC ≡ magic EndpointType.Server }
 {}
 
-/// Adds one to a little-endian number, modulo 256 to the count of its bytes. An empty list stays
-/// empty.
+/// Adds one to a little-endian number of n bytes, modulo 256^n. An empty list stays empty.
 pub fn integer_increment_le(buffer: &mut [u8])
     ensures { buffer.new ≡ incremented buffer.old }
 {
@@ -44,8 +43,8 @@ pub fn integer_increment_le(buffer: &mut [u8])
     }
 }
 
-/// Takes one from a little-endian number, modulo 256 to the count of its bytes; adding one undoes
-/// it. An empty list stays empty.
+/// Subtracts one from a little-endian number of n bytes, modulo 256^n; adding one undoes it. An
+/// empty list stays empty.
 pub fn integer_decrement_le(buffer: &mut [u8])
     ensures taken { buffer.new ≡ decremented buffer.old }
     ensures undone { incremented buffer.new ≡ buffer.old }
@@ -59,7 +58,7 @@ pub fn integer_decrement_le(buffer: &mut [u8])
     }
 }
 
-/// Taking one away undoes adding one, on numbers of every length.
+/// Subtracting one undoes adding one, for numbers of every length.
 pub fn decrement_undoes_increment()
     ensures { (bytes : List ℕ) → All (λ b. b < 256) bytes →
         decremented (incremented bytes) ≡ bytes }
@@ -74,9 +73,9 @@ fn hash_magic(endpoint: EndpointType) -> [u8; 38]
     }
 }
 
-/// The text that `endpoint` seals as its proof of the channel's key, by the version that its peer
+/// The text that `endpoint` seals as its proof of the channel's key, for the version that its peer
 /// speaks (MS-CSSP 3.1.5): from version 5 on the hash of its magic, the client's nonce and the key;
-/// below 5 the key from the client, and from the server the key with one added.
+/// below 5 the key from the client, and the key plus one from the server.
 #[tactic(auto, unfolding(crate::specs::Exchange::prescribed))]
 pub(crate) fn prescribed_proof(
     alloc: Global,
@@ -94,8 +93,8 @@ pub(crate) fn prescribed_proof(
     Bytes::from_slice(alloc, &hash_of(endpoint, nonce, public_key))
 }
 
-/// Whether this text is the one that `endpoint` seals as its proof. Takes no memory, so what is no
-/// proof is told whatever memory there is. The text is not kept.
+/// Whether this text is the one that `endpoint` seals as its proof. Allocates nothing, so a wrong
+/// proof is reported even when out of memory. The text may be overwritten.
 #[tactic(auto, unfolding(crate::specs::Exchange::prescribed))]
 pub(crate) fn is_prescribed(
     text: &mut [u8],
@@ -135,7 +134,7 @@ fn is_echo(text: &mut [u8], endpoint: EndpointType, public_key: &[u8]) -> bool
     }
 }
 
-// Whether the first number is the next one: what was added is taken away again.
+// Whether the first number is the second plus one; subtracts one from the first to compare them.
 fn is_next(next: &mut [u8], number: &[u8]) -> bool
     ensures same { IsTrue result → next.old ≡ incremented number.now }
     ensures other { result ≡ false → next.old ≢ incremented number.now }

@@ -42,7 +42,7 @@ impl<N: Mechanism, K: Mechanism> SspiContext<N, K> {
         }
     }
 
-    /// The entry of the package: of a negotiation the entry of Negotiate, else that of the
+    /// The entry of the package: that of Negotiate for a negotiation, otherwise that of the
     /// mechanism.
     pub fn query_context_package_info(&self) -> Result<PackageInfo, Error>
         ensures entry { IfOk result (λ info. info ≡ (either N.REQUESTS N.meaning K.meaning).entry
@@ -57,8 +57,8 @@ impl<N: Mechanism, K: Mechanism> SspiContext<N, K> {
         }
     }
 
-    /// The entry of the mechanism that a negotiation has selected. `UnsupportedFunction` where
-    /// nothing is negotiated.
+    /// The entry of the mechanism that a negotiation has selected. `UnsupportedFunction` if nothing
+    /// was negotiated.
     pub fn query_context_negotiation_package(&self) -> Result<PackageInfo, Error>
         ensures entry { IfOk result (λ info. negotiated_entry N.meaning K.meaning self.now ≡ Some
             info) }

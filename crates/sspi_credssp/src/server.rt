@@ -29,9 +29,9 @@ use sspi_types::{Bytes, CredentialUse, ErrorKind, Reason};
 use std::alloc::Global;
 use std::marker::Model;
 
-/// The CredSSP server (MS-CSSP 3.1.5.2): it authenticates its client, checks that the client speaks
-/// over the channel of its own public key, proves the same, and reads the credentials that the
-/// client then delegates.
+/// The CredSSP server (MS-CSSP 3.1.5.2): it authenticates its client, checks that the client uses
+/// the channel with the server's public key, and proves the same. Then it reads the credentials
+/// that the client delegates.
 #[derive(Drop)]
 pub struct CredSspServer<N, K, C> {
     pub(crate) alloc: Global,
@@ -76,7 +76,7 @@ impl<N, K, C> Model for CredSspServer<N, K, C> {
 impl<N, K, C> CredSspServer<N, K, C> {
     ghost use Rattle.sspi_credssp.specs.Ends.{IsFreshServer, new_server};
 
-    /// A server of version 6; else as `new_with_version`.
+    /// A server of version 6; otherwise like `new_with_version`.
     pub fn new(
         alloc: Global,
         public_key: Vec<u8>,
@@ -96,10 +96,10 @@ impl<N, K, C> CredSspServer<N, K, C> {
         )
     }
 
-    /// A server of this version of CredSSP, to which nothing was delivered yet. Takes no memory.
+    /// A server of this version of CredSSP, with nothing delivered to it yet. Allocates nothing.
     ///
     /// `public_key` is the SubjectPublicKey of the channel's certificate, and `credentials` is
-    /// where the server looks its peers up.
+    /// where the server looks up its peers.
     pub fn new_with_version(
         alloc: Global,
         public_key: Vec<u8>,
@@ -128,9 +128,9 @@ impl<N, K, C> CredSspServer<N, K, C> {
         }
     }
 
-    /// The same server, which refuses a client whose first version is below this; 0 takes every
-    /// version. Without this call the least is 5: below it the proofs are the key itself and one
-    /// more than it (MS-CSSP 3.1.5), which whoever relays the exchange can choose. Takes no memory.
+    /// The same server, refusing a client whose first version is below this; 0 accepts every
+    /// version. Without this call the least is 5: below it the proofs are the key itself and the
+    /// key plus one (MS-CSSP 3.1.5), which a relay of the exchange can choose. Allocates nothing.
     pub fn with_least_version(self, least: u32) -> CredSspServer<N, K, C>
         ensures { result ≡ record self { settings = record self.settings { least = least } } }
     {
@@ -139,8 +139,8 @@ impl<N, K, C> CredSspServer<N, K, C> {
         server
     }
 
-    /// Takes the token that the context's step gave in the last call; empty where no step answered,
-    /// and once it was taken.
+    /// Takes the token that the context's step returned in the last call; empty if no step
+    /// answered, and once it has been taken.
     pub fn take_output(&mut self) -> Bytes
         ensures output { result ≡ self.old.output }
         ensures rest { self.new ≡ record self.old { output = [] } }
@@ -148,7 +148,7 @@ impl<N, K, C> CredSspServer<N, K, C> {
         std::mem::replace(&mut self.output, Bytes::new(self.alloc))
     }
 
-    /// What the last call did on the security context, also where it was refused.
+    /// What the last call did on the security context, even if it was refused.
     pub fn last_acts(&self) -> Acts
         ensures { result ≡ self.now.acts }
     {
@@ -175,29 +175,29 @@ impl<N: Mechanism, K: Mechanism, C: CredentialsProxy> CredSspServer<N, K, C> {
     /// Takes the client's message and makes the server's next one, or reads the credentials that
     /// end the exchange.
     ///
-    /// Where there is no context yet it is made first; a negotiation is made with the list of the
-    /// proxy, which is asked for it at no other time. At the end of the authentication the proxy is
-    /// asked for the peer, once.
+    /// If there is no context yet, it is made first; a negotiation is made with the proxy's list,
+    /// which is requested at no other time. At the end of the authentication the proxy is asked for
+    /// the peer, once.
     ///
-    /// Refused, in this order: `InternalError` where the proxy's list failed; with the kinds of a
-    /// new context; `DowngradeDetected` where no version of the client is pinned yet and this one
-    /// is below the least, which then is not pinned; `MessageAltered` where the client changes its
-    /// version; then by the state. In the authentication with the kinds of the context's step;
-    /// `InternalError` at a status that neither goes on nor ends it; with the kinds of naming its
-    /// peer; `LogonDenied` where the look-up failed, `NoCredentials` where it found nobody; with
-    /// the kinds of taking the identities that were found, as `LogonDenied` for a wrong password,
-    /// and of completing; `InvalidToken` where it ended with neither a token nor a proof. With a
-    /// proof `InvalidToken` where it is absent, where from version 5 on the nonce is, or where it
-    /// has under 16 bytes; with the kinds of opening it; `MessageAltered` where it is not the right
-    /// one; with the kinds of sealing the own one. With the credentials `InvalidToken` where they
-    /// are absent or have under 16 bytes, then the kinds of opening and of reading them.
-    /// `UnsupportedFunction` once they were read. Out of memory may come in place of any of these
-    /// but the two of the version, of a server that has its context, and, past the authentication,
-    /// an absent or short proof, an absent nonce, a proof that the context does not open or that is
-    /// not the right one, absent, short or altered credentials, and that last one.
+    /// Refusals come in this order: `InternalError` if the proxy's list failed; the kinds of a new
+    /// context; `DowngradeDetected` if no version of the client is pinned yet and this one is below
+    /// the least, and then not pinned; `MessageAltered` if the client changes its version; then by
+    /// the state. In the authentication: the kinds of the context's step; `InternalError` at a
+    /// status that neither continues nor ends it; the kinds of naming its peer; `LogonDenied` if
+    /// the look-up failed, `NoCredentials` if it found nobody; the kinds of setting the identities
+    /// that were found, such as `LogonDenied` for a wrong password, and of completing;
+    /// `InvalidToken` if it ended with neither a token nor a proof. With a proof: `InvalidToken` if
+    /// it is absent, if it has no nonce from version 5 on, or if it has under 16 bytes; the kinds
+    /// of opening it; `MessageAltered` if it is not the right one; the kinds of sealing the
+    /// server's own. With the credentials: `InvalidToken` if they are absent or have under 16
+    /// bytes; the kinds of opening and of reading them. `UnsupportedFunction` once they have been
+    /// read. Out of memory may replace any of these, except the two of the version once there is a
+    /// context. Past the authentication it never replaces the refusal of a proof that is absent,
+    /// short, not opened or wrong; of an absent nonce; of absent, short or altered credentials; nor
+    /// that last one.
     ///
-    /// A refusal hands the request back with its code. The state, the mode and what was acquired
-    /// before stay, and a context that this call made stays with its credentials.
+    /// A refusal returns the request with its code. The state, the mode and what was acquired
+    /// before are unchanged, and a context that this call made is kept with its credentials.
     pub fn process(&mut self, ts_request: TsRequest) -> Result<ServerState, ServerError>
         ensures { ServerCall (either N.REQUESTS N.meaning K.meaning) C.meaning self.old ts_request
             result self.new }
@@ -216,7 +216,7 @@ impl<N: Mechanism, K: Mechanism, C: CredentialsProxy> CredSspServer<N, K, C> {
     }
 
     fn begin(&mut self, version: u32) -> Result<(), Refusal>
-        // What `Ok` holds, and what alone may change.
+        // What `Ok` holds, and all that may change.
         ensures frame { self.new ≡ record self.old {
           proxy = self.new.proxy;
           context = self.new.context;
@@ -261,12 +261,12 @@ impl<N: Mechanism, K: Mechanism, C: CredentialsProxy> CredSspServer<N, K, C> {
         }
     }
 
-    // The context and the credentials that it acquires are kept only together. A negotiation is
-    // made with the proxy's list.
+    // The context and the credentials that it acquires are kept together or not at all. A
+    // negotiation is made with the proxy's list.
     fn make_context(&mut self) -> Result<(), Refusal>
         // What must hold before.
         requires { self.old.context ≡ None }
-        // What `Ok` holds, and what alone may change.
+        // What `Ok` holds, and all that may change.
         ensures frame { self.new ≡ record self.old {
           proxy = self.new.proxy;
           context = self.new.context;
@@ -299,7 +299,7 @@ impl<N: Mechanism, K: Mechanism, C: CredentialsProxy> CredSspServer<N, K, C> {
         )
     }
 
-    // The turn, once the request's version was looked at.
+    // The turn, once the request's version has been checked.
     fn take(&mut self, request: TsRequest) -> Result<ServerState, ServerError>
         // What must hold before.
         requires { HasDone no_acts self.old }
@@ -324,7 +324,7 @@ impl<N: Mechanism, K: Mechanism, C: CredentialsProxy> CredSspServer<N, K, C> {
             StateExact (either N.REQUESTS N.meaning K.meaning) self.old.state request self.new
             refusal.error.error_type) }
         ensures codeless { IfErr result (λ refusal. refusal.error.nstatus ≡ None) }
-        // What is so afterwards, and what the proxy was asked.
+        // What holds afterwards, and what the proxy was asked.
         ensures begun { IsSome self.new.context ×
             (self.old.state ≡ CredSspState.NegoToken → self.new.acts.negotiated ≡ true) }
         ensures proxy { Asks C.meaning (look_ups_at self.new.acts.status) result self.old.proxy

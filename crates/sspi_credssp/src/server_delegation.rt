@@ -1,4 +1,4 @@
-//! The server past its authentication: the exchange of proofs, and the credentials.
+//! The server after its authentication: the exchange of proofs, and the credentials.
 
 ghost use Rattle.std.specs.Prelude.{◌≡◌, ◌≢◌, ◌-◌, [], None, Some, true, false, nat_lt, IsSome};
 ghost use Rattle.std.specs.Prelude.{OnOk, OnErr, IfOk, IfErr};
@@ -31,7 +31,7 @@ use sspi_tsreq::TsRequest;
 use sspi_types::{Bytes, ErrorKind, Reason};
 use std::alloc::Global;
 
-// The nonce that the proofs are made with, which must be there from version 5 on.
+// The nonce that the proofs are made with, which must be present from version 5 on.
 fn nonce_for(version: u32, nonce: &Option<[u8; 32]>) -> Result<&[u8], Refusal>
     // What `Ok` holds.
     ensures ok { IfOk result (λ bytes. bytes.now ≡ nonce_of nonce.now) }
@@ -48,7 +48,7 @@ fn nonce_for(version: u32, nonce: &Option<[u8; 32]>) -> Result<&[u8], Refusal>
     }
 }
 
-// Opens the client's proof, and seals the server's if it is the one that the client owes.
+// Opens the client's proof, and seals the server's own if it is the right one.
 fn answer_proof<N: Mechanism, K: Mechanism>(
     alloc: Global,
     context: &mut SspiContext<N, K>,
@@ -159,7 +159,7 @@ impl<N: Mechanism, K: Mechanism, C: CredentialsProxy> CredSspServer<N, K, C> {
             (either N.REQUESTS N.meaning K.meaning) request.pub_key_auth
             self.new.noted request.client_nonce self.new refusal.error.error_type) }
         ensures codeless { IfErr result (λ refusal. refusal.error.nstatus ≡ None) }
-        // What is so afterwards.
+        // What holds afterwards.
         ensures acts { (self.new.acts.status ≡ None) × (self.new.acts.negotiated ≡ false) }
         ensures kept { IsSome self.new.context × (self.new.proxy ≡ self.old.proxy) }
     {
@@ -193,7 +193,7 @@ impl<N: Mechanism, K: Mechanism, C: CredentialsProxy> CredSspServer<N, K, C> {
             (λ blob. OpenedExact c self.new.acts.opened self.new.context blob
             refusal.error.error_type)) }
         ensures codeless { IfErr result (λ refusal. refusal.error.nstatus ≡ None) }
-        // What is so afterwards.
+        // What holds afterwards.
         ensures acts { (self.new.acts.status ≡ None) × (self.new.acts.negotiated ≡ false) }
         ensures begun { IsSome self.new.context }
         ensures proxy { self.new.proxy ≡ self.old.proxy }
@@ -223,7 +223,7 @@ impl<N: Mechanism, K: Mechanism, C: CredentialsProxy> CredSspServer<N, K, C> {
         ensures exact { let c = either N.REQUESTS N.meaning K.meaning in
             IfErr result (λ error. BlobStops auth_info.now error.error_type
             (λ blob. OpenedExact c self.new.acts.opened self.new.context blob error.error_type)) }
-        // What is so afterwards.
+        // What holds afterwards.
         ensures begun { IsSome self.new.context }
     {
         let blob = sealed_blob(auth_info, Reason::NoAuthInfo)?;
@@ -251,7 +251,7 @@ impl<N: Mechanism, K: Mechanism, C: CredentialsProxy> CredSspServer<N, K, C> {
             request.now.pub_key_auth
             self.new.noted request.now.client_nonce self.new error.error_type) }
         ensures ended { OnErr result (self.new.acts.proved ≡ false) }
-        // What is so afterwards.
+        // What holds afterwards.
         ensures begun { IsSome self.new.context }
     {
         let Some(version) = self.peer_version else {

@@ -128,7 +128,7 @@ fn credentials_of(alloc: Global, identities: Vec<AuthIdentity>) -> Result<Vec<Cr
     Ok(all)
 }
 
-// Names the peer, looks its identities up and hands them to the context.
+// Names the peer, looks up its identities and passes them to the context.
 fn identify<N: Mechanism, K: Mechanism, C: CredentialsProxy>(
     alloc: Global,
     context: &mut SspiContext<N, K>,
@@ -186,7 +186,7 @@ impl<N: Mechanism, K: Mechanism, C: CredentialsProxy> CredSspServer<N, K, C> {
             IfErr result (λ refusal. refusal.error.error_type ≢ ErrorKind.InsufficientMemory →
             NegoCause c C.meaning self.new.acts.status start d self.new refusal.error.error_type) }
         ensures codeless { IfErr result (λ refusal. refusal.error.nstatus ≡ None) }
-        // What is so afterwards, and what the proxy was asked.
+        // What holds afterwards, and what the proxy was asked.
         ensures reached { HasReached self.new.acts.status self.new }
         ensures proxy { Asks C.meaning (look_ups_at self.new.acts.status) result self.old.proxy
             self.new.proxy }
@@ -220,7 +220,7 @@ impl<N: Mechanism, K: Mechanism, C: CredentialsProxy> CredSspServer<N, K, C> {
             IsAtStep c C.meaning start self.old →
             IfErr result (λ error. error.error_type ≢ ErrorKind.InsufficientMemory →
             NegoCause c C.meaning self.new.acts.status start d self.new error.error_type) }
-        // What is so afterwards, and what the proxy was asked.
+        // What holds afterwards, and what the proxy was asked.
         ensures reached { HasReached self.new.acts.status self.new }
         ensures proxy { Asks C.meaning (look_ups_at self.new.acts.status) result self.old.proxy
             self.new.proxy }
@@ -265,7 +265,7 @@ impl<N: Mechanism, K: Mechanism, C: CredentialsProxy> CredSspServer<N, K, C> {
             HasCome c C.meaning Unknown status start d self.old →
             IfErr result (λ error. error.error_type ≢ ErrorKind.InsufficientMemory →
             NegoCause c C.meaning (Some status) start d self.new error.error_type) }
-        // What is so afterwards, and what the proxy was asked.
+        // What holds afterwards, and what the proxy was asked.
         ensures reached { HasReached (Some status) self.new }
         ensures proxy { Asks C.meaning (look_ups_at self.new.acts.status) result self.old.proxy
             self.new.proxy }
@@ -307,7 +307,7 @@ impl<N: Mechanism, K: Mechanism, C: CredentialsProxy> CredSspServer<N, K, C> {
             answer) →
             CompletedStep c C.meaning start self.old.handle token answer (answered result)
             self.new.context }
-        // What is so afterwards.
+        // What holds afterwards.
         ensures kept { KeepsStep self.old result self.new }
         ensures reached { HasReached self.old.acts.status self.new }
         // What a refusal says.
@@ -329,7 +329,7 @@ impl<N: Mechanism, K: Mechanism, C: CredentialsProxy> CredSspServer<N, K, C> {
         self.answer_peer(request)
     }
 
-    // Answers the proof that came already, or asks for it by the last token.
+    // Answers a proof that is already there, or asks for it with the last token.
     fn answer_peer(&mut self, request: &TsRequest) -> Result<Answer, Refusal>
         // What must hold before.
         requires { HasDone (record no_acts { negotiated = true; status = self.old.acts.status })
@@ -341,7 +341,7 @@ impl<N: Mechanism, K: Mechanism, C: CredentialsProxy> CredSspServer<N, K, C> {
             IsReady c start d self.old →
             self.old.state ≡ CredSspState.NegoToken →
             IsOver self.old.acts.status → Answered c start d (answered result) self.new }
-        // What alone may change, and where the end then stands.
+        // All that may change, and the end's state afterwards.
         ensures frame { self.new ≡ record self.old {
           state = self.new.state;
           context = self.new.context;

@@ -1,4 +1,4 @@
-//! The request that tells a client of its server's refusal.
+//! The request that reports a server's refusal to its client.
 
 ghost use Rattle.std.specs.Prelude.{◌≡◌, Some};
 ghost use Rattle.sspi_mech.specs.Refusals.{error_of};

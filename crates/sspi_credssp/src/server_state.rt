@@ -13,7 +13,7 @@ pub enum ServerState {
     Finished(AuthIdentity),
 }
 
-/// A server's refusal, with the message that tells the client.
+/// A server's refusal, with the message that reports it to the client.
 #[derive(Drop)]
 pub struct ServerError {
     /// The request with the error code; always there.

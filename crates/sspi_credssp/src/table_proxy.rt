@@ -9,7 +9,7 @@ use sspi_names::{AuthIdentity, Username};
 use std::alloc::{AllocError, Global};
 use std::marker::Model;
 
-/// A proxy over a list of identities. It tells its list, and which of its calls fail.
+/// A proxy over a list of identities. It exposes its list, and which of its calls fail.
 #[derive(Drop)]
 pub struct TableProxy {
     alloc: Global,
@@ -33,7 +33,7 @@ impl Model for TableProxy {
 }
 
 impl TableProxy {
-    /// A proxy over these entries. The calls whose numbers, from 0, are in `failing` fail.
+    /// A proxy over these entries. Calls are numbered from 0, and those in `failing` fail.
     pub fn new(alloc: Global, entries: Vec<AuthIdentity>, failing: Vec<u64>) -> TableProxy
         ensures { result ≡ record {
           entries = entries.items;
@@ -53,7 +53,7 @@ impl TableProxy {
 
     // Counts a call, and says whether it fails.
     fn count(&mut self) -> bool
-        // Which call fails, and what alone may change.
+        // Which call fails, and all that may change.
         ensures fails { result ≡ fails_at self.old.failing self.old.calls }
         ensures counted { self.new ≡ record self.old {
           calls = counted_on self.old.calls;

@@ -1,4 +1,4 @@
-//! The tokens of the authentication, in and out of a request.
+//! The authentication's tokens, read from a request and copied for a reply.
 
 ghost use Rattle.std.specs.Prelude.{◌≡◌, IfOk};
 ghost use Rattle.sspi_credssp.specs.Requests.{token_of, unless_empty};

@@ -1,4 +1,4 @@
-//! One recorded turn of an end: what it was given, what it did, what came of it.
+//! One recorded turn of an end: what it was given, what it did, and how it ended.
 
 ghost use Rattle.std.specs.Prelude.{◌≡◌};
 ghost use Rattle.std.specs.Option.{option_copied};
@@ -12,7 +12,7 @@ use sspi_types::{Bytes, ErrorKind};
 pub enum End {
     /// The end whose credentials are delegated.
     Client,
-    /// The end that takes them.
+    /// The end that receives them.
     Server,
 }
 
@@ -21,18 +21,17 @@ pub enum End {
 pub struct Turn {
     /// The end that made the turn.
     pub end: End,
-    /// The request as it was read from the delivery; the client's first is one that it makes
-    /// itself.
+    /// The request as it was read from the delivery; the client makes its first one itself.
     pub delivered: TsRequest,
-    /// What the end did on its security context, also in a turn that was refused.
+    /// What the end did on its security context, even in a refused turn.
     pub acts: Acts,
-    /// The token that the context's step gave; empty where no step answered.
+    /// The token that the context's step returned; empty if no step answered.
     pub output: Bytes,
-    /// What the turn ended in.
+    /// How the turn ended.
     pub outcome: Outcome,
 }
 
-/// What a turn ended in.
+/// How a turn ended.
 #[derive(Drop)]
 pub enum Outcome {
     /// A message that the peer answers.
@@ -41,14 +40,14 @@ pub enum Outcome {
     Final(TsRequest),
     /// The server has the credentials.
     Finished,
-    /// A refusal of this kind; a server's comes with the message that tells the client.
+    /// A refusal of this kind; a server's comes with the message that reports it to the client.
     Refused(ErrorKind, Option<TsRequest>),
 }
 
 impl Outcome {
     ghost use Rattle.sspi_credssp.specs.Turn.{message_of};
 
-    /// The message for the peer. Takes no memory.
+    /// The message for the peer. Allocates nothing.
     pub fn message(&self) -> Option<&TsRequest>
         ensures { option_copied result ≡ message_of self.now }
     {
