@@ -1,5 +1,5 @@
-//! Damaged requests, for tests of whoever reads requests: each line is a fault and the bytes that
-//! have it, where `end` is `UnexpectedEof` and `bad` is `InvalidData`.
+//! Damaged requests, for tests of anything that reads requests: each line is a fault and the bytes
+//! that have it, where `end` is `UnexpectedEof` and `bad` is `InvalidData`.
 
 /// Each fault of the outer header, and a content that is not whole.
 pub const OUTER: &str = "
@@ -14,8 +14,8 @@ end: 30 82 ff fc
 end: 30 03 a0 03
 ";
 
-/// Contents, which stand inside a SEQUENCE: each place of the version where the first fault of a
-/// content can be.
+/// Contents, to be put inside a SEQUENCE: each place of the version where a content can have its
+/// first fault.
 pub const VERSION: &str = "
 end:
 bad: a1
@@ -40,7 +40,7 @@ bad: a0 03 02 09
 end: a0 03 02 04 01
 ";
 
-/// Each place of the token, behind version 6.
+/// Each place of the token, after version 6.
 pub const TOKEN: &str = "
 end: a0 03 02 01 06 a1
 end: a0 03 02 01 06 a1 83
@@ -64,7 +64,7 @@ bad: a0 03 02 01 06 a1 06 30 04 30 02 a0 00 04 80
 end: a0 03 02 01 06 a1 06 30 04 30 02 a0 00 04 01
 ";
 
-/// Each place of the two fields of an OCTET STRING, behind version 6.
+/// Each place of the two fields of an OCTET STRING, after version 6.
 pub const OCTETS: &str = "
 end: a0 03 02 01 06 a2
 bad: a0 03 02 01 06 a2 8a
@@ -84,7 +84,7 @@ bad: a0 03 02 01 06 a2 80 a4
 end: a0 03 02 01 06 a2 02 04 05
 ";
 
-/// Each place of the code and the nonce, behind version 6.
+/// Each place of the code and the nonce, after version 6.
 pub const CODE_AND_NONCE: &str = "
 end: a0 03 02 01 06 a4
 bad: a0 03 02 01 06 a4 80

@@ -1,11 +1,11 @@
-//! Tests of what stands below the mechanisms, by the calls that every caller has: the vocabulary of
+//! Tests of everything below the mechanisms, by the calls that every caller has: the vocabulary of
 //! SSPI, names and credentials, the pieces of BER, the messages of CredSSP and the tokens of
 //! SPNEGO.
 //!
-//! - `damages.rt`: the damaged requests, which tests of a relay read too.
+//! - `damages.rt`: the damaged requests, which the tests of a relay also read.
 //!
-//! The libraries have no tests of their own: a crate with tests is proved with them and without.
-//! The tests are one crate, since each crate of tests costs its start.
+//! The libraries have no tests of their own: a crate with tests is proved both with and without
+//! them. The tests are in one crate, since each test crate costs its own startup.
 #![tactic(auto)]
 
 pub mod damages;

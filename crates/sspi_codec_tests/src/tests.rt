@@ -1,6 +1,6 @@
-//! Many like cases stand as the lines of a text, which costs a proof once. A field of a line of
-//! names ends with `|`; a dot stands for no text at all. Values of the vocabulary are those of the
-//! headers that the name beside each gives.
+//! Many similar cases are the lines of a text, which costs only one proof. A field in a line of
+//! names ends with `|`; a dot means no text at all. Values of the vocabulary are those that the
+//! headers give for the name next to each.
 
 mod ber;
 mod checks;

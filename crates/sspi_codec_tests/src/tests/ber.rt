@@ -1,4 +1,4 @@
-//! Many like cases stand as the lines of a text, which costs a proof once.
+//! Many similar cases are the lines of a text, which costs only one proof.
 
 mod adapters;
 mod elements;

@@ -1,5 +1,5 @@
-//! What every test is written with. Much is generic, since to drop a value of a type parameter is
-//! one step of a proof, and to drop a struct or an enum is many.
+//! What every test is written with. Much is generic: dropping a value of a type parameter is one
+//! step of a proof, and dropping a struct or an enum is many.
 
 use std::fmt::Debug;
 use std::process::Abort;
@@ -9,12 +9,12 @@ pub fn holds(rt: &impl Abort, fact: bool, what: &str) {
     assert!(rt; fact, "{what}");
 }
 
-/// Ends the test unless this came.
+/// Ends the test unless this value came.
 pub fn is<T: Copy + PartialEq + Debug>(rt: &impl Abort, came: T, wanted: T) {
     assert_eq!(rt; came, wanted);
 }
 
-/// Ends the test unless this came of a line.
+/// Ends the test unless this value came from a line.
 pub fn comes<T: Copy + PartialEq + Debug>(rt: &impl Abort, line: &str, came: T, wanted: T) {
     assert_eq!(rt; came, wanted, "{line}");
 }
@@ -23,12 +23,12 @@ fn ends(rt: &impl Abort, what: &str) -> ! {
     panic!(rt; "{what}")
 }
 
-/// The value of a call that is not to be refused.
+/// The value of a call that must not be refused.
 pub fn given<T, E: Drop>(rt: &impl Abort, answer: Result<T, E>) -> T {
     answered(rt, answer, "refused")
 }
 
-/// The value of a call that is not to be refused: `what` tells which.
+/// The value of a call that must not be refused: `what` says which.
 pub fn answered<T, E: Drop>(rt: &impl Abort, answer: Result<T, E>, what: &str) -> T {
     match answer {
         Ok(value) => value,
@@ -36,7 +36,7 @@ pub fn answered<T, E: Drop>(rt: &impl Abort, answer: Result<T, E>, what: &str) -
     }
 }
 
-/// The value that is not to be missing.
+/// The value that must not be missing.
 pub fn told<T>(rt: &impl Abort, answer: Option<T>, what: &str) -> T {
     match answer {
         Some(value) => value,
@@ -44,7 +44,7 @@ pub fn told<T>(rt: &impl Abort, answer: Option<T>, what: &str) -> T {
     }
 }
 
-/// Why a call is refused that is to be.
+/// Why a call is refused that must be.
 pub fn refusal<T: Drop, E>(rt: &impl Abort, answer: Result<T, E>, what: &str) -> E {
     match answer {
         Ok(_) => ends(rt, what),
@@ -72,7 +72,7 @@ pub fn gives<T: PartialEq + Drop, E: Drop>(
     equals(rt, answered(rt, answer, what), wanted, what);
 }
 
-/// Ends the test unless these two are equal, or are not, as is told.
+/// Ends the test unless these two are equal, or differ, as `same` says.
 pub fn compares<T: PartialEq + Drop>(rt: &impl Abort, one: T, other: T, same: bool, what: &str) {
     holds(rt, (one == other) == same, what);
 }
@@ -95,7 +95,7 @@ pub fn halves<'a>(rt: &impl Abort, words: &'a str) -> (&'a str, &'a str) {
     halves.unwrap_or((words, ""))
 }
 
-/// What stands before this mark, and what after it.
+/// What precedes this mark, and what follows it.
 pub fn parted<'a>(rt: &impl Abort, text: &'a str, mark: &str) -> (&'a str, &'a str) {
     match text.split_once(mark) {
         Some(parts) => parts,

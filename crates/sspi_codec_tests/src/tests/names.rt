@@ -1,5 +1,5 @@
-//! Many like cases stand as the lines of a text, which costs a proof once. A field of a line ends
-//! with `|`; a dot stands for no text at all.
+//! Many similar cases are the lines of a text, which costs only one proof. A field in a line ends
+//! with `|`; a dot means no text at all.
 
 mod credentials;
 mod identities;

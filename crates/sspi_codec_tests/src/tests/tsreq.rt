@@ -15,7 +15,7 @@ mod pieces;
 mod requests;
 mod streams;
 
-/// What a reader answers at the end, or the fault that it told before.
+/// What a reader answers at the end, or the fault that it reported before.
 fn finished(reader: TsReader, fed: Result<(), WireKind>) -> Result<TsRequest, WireKind> {
     fed?;
     reader.finish()
@@ -34,7 +34,7 @@ fn feed(reader: &mut TsReader, bytes: &[u8], size: usize) -> Result<(), WireKind
     Ok(())
 }
 
-/// What a reader answers that is fed with the bytes, `size` of them at a time.
+/// What a reader answers when it is fed the bytes, `size` at a time.
 fn fed(alloc: Global, bytes: &[u8], size: usize) -> Result<TsRequest, WireKind> {
     let mut reader = TsReader::new(alloc);
     let fed = feed(&mut reader, bytes, size);
@@ -46,7 +46,7 @@ fn feed_two(reader: &mut TsReader, front: &[u8], behind: &[u8]) -> Result<(), Wi
     reader.feed(behind)
 }
 
-/// What a reader answers that is fed with the bytes in two pieces.
+/// What a reader answers when it is fed the bytes in two pieces.
 fn fed_cut(alloc: Global, bytes: &[u8], at: usize) -> Result<TsRequest, WireKind> {
     let (front, behind) = bytes.split_at(at.min(bytes.len()));
     let mut reader = TsReader::new(alloc);
@@ -54,10 +54,10 @@ fn fed_cut(alloc: Global, bytes: &[u8], at: usize) -> Result<TsRequest, WireKind
     finished(reader, fed)
 }
 
-/// Longer texts come in pieces of one size, and are cut in their header alone.
+/// Longer texts come in pieces of one size, and are cut only in their header.
 const LONGEST_CUT: usize = 200;
 
-/// The smallest pieces of a text, how many sizes follow, and at how many places it is cut.
+/// The smallest piece size of a text, how many sizes follow, and at how many places it is cut.
 fn ways(len: usize) -> (usize, usize, usize) {
     if len > LONGEST_CUT {
         (1000, 1, 6)
@@ -66,7 +66,7 @@ fn ways(len: usize) -> (usize, usize, usize) {
     }
 }
 
-/// A call has this fault. Generic: to drop a value of a type parameter is one step of a proof.
+/// A call has this fault. Generic: dropping a value of a type parameter is one step of a proof.
 fn fails<T: Drop>(rt: &impl Abort, answer: Result<T, WireKind>, kind: WireKind, what: &str) {
     match answer {
         Ok(_) => holds(rt, false, what),
@@ -74,7 +74,7 @@ fn fails<T: Drop>(rt: &impl Abort, answer: Result<T, WireKind>, kind: WireKind, 
     }
 }
 
-/// The bytes begin with the request, whole or in whatever pieces.
+/// The bytes begin with the request, whole or in any pieces.
 fn reads(rt: &impl Abort, alloc: Global, bytes: &[u8], request: &TsRequest, what: &str) {
     gives(rt, TsRequest::from_buffer(alloc, bytes), request, what);
     let (least, sizes, cuts) = ways(bytes.len());
@@ -91,7 +91,7 @@ fn reads(rt: &impl Abort, alloc: Global, bytes: &[u8], request: &TsRequest, what
     }
 }
 
-/// The bytes have this fault, whole or in whatever pieces.
+/// The bytes have this fault, whole or in any pieces.
 fn refuses(rt: &impl Abort, alloc: Global, bytes: &[u8], kind: WireKind, what: &str) {
     fails(rt, TsRequest::from_buffer(alloc, bytes), kind, what);
     let (least, sizes, cuts) = ways(bytes.len());
@@ -118,7 +118,7 @@ fn writes(rt: &impl Abort, alloc: Global, request: &TsRequest, bytes: &[u8], wha
     }
 }
 
-/// A SEQUENCE of this content, which has less than 256 bytes.
+/// A SEQUENCE of this content, which has fewer than 256 bytes.
 fn framed(rt: &impl Abort, alloc: Global, content: &[u8]) -> Vec<u8> {
     let mut bytes = Vec::new(alloc);
     let header = [0x30, 0x81, (content.len() % 0x100) as u8];

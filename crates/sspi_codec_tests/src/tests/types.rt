@@ -1,4 +1,4 @@
-//! Values are those of the headers that the name beside each gives.
+//! Values are those that the headers give for the name next to each.
 
 mod buffers;
 mod numbers;

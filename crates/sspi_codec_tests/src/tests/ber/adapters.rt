@@ -9,7 +9,7 @@ use std::alloc::Global;
 use std::io::{self, Cursor, Read, Write};
 use std::process::Abort;
 
-/// Gives its bytes one at a time, but for one call, which fails.
+/// Gives its bytes one at a time, except for one call, which fails.
 #[derive(Drop)]
 struct FlakyReader<'a> {
     text: &'a [u8],
@@ -50,7 +50,7 @@ fn reads(rt: &impl Abort, read: Result<u64, WireKind>, expected: Result<u64, Wir
 }
 
 // A reader that fails before the first byte, inside an element, and where nothing is left: no
-// failure is an end.
+// failure counts as the end.
 #[test]
 fn a_reader_that_fails(rt: HostRuntime) {
     let text = [0x02, 0x01, 0x2a];
@@ -66,7 +66,7 @@ fn a_reader_that_fails(rt: HostRuntime) {
     reads(&rt, read_integer(&mut behind), Err(WireKind::UnexpectedEof));
 }
 
-// The calls of a source, too: a failure takes nothing, and the end is told as 0.
+// The calls of a source, too: a failure takes nothing, and the end is reported as 0.
 #[test]
 fn a_source_over_a_reader_that_fails(rt: HostRuntime) {
     let mut source = flaky(&[7, 9], 1);
@@ -78,7 +78,7 @@ fn a_source_over_a_reader_that_fails(rt: HostRuntime) {
     is(&rt, source.read(&mut into), Ok(0));
 }
 
-/// Takes so many bytes a call, fails at one call, and keeps what it took.
+/// Takes at most `most` bytes per call, fails at one call, and keeps what it took.
 #[derive(Drop)]
 struct ChoppyWriter {
     taken: Vec<u8>,
@@ -136,7 +136,7 @@ fn a_writer_that_takes_one_byte(rt: HostRuntime) {
     is(&rt, writer.calls, 7);
 }
 
-// So does one that takes more, whatever its pieces.
+// So does a writer that takes more, whatever its pieces.
 #[test]
 fn a_writer_that_takes_three_bytes(rt: HostRuntime) {
     let mut writer = choppy(rt.alloc(), 3, 99);
@@ -148,7 +148,7 @@ fn a_writer_that_takes_three_bytes(rt: HostRuntime) {
     took(&rt, &writer, &HELLO);
 }
 
-// A writer that takes none of a nonempty piece has failed, and is not called for ever.
+// A writer that takes none of a nonempty piece has failed, and is not called forever.
 #[test]
 fn a_writer_that_takes_nothing(rt: HostRuntime) {
     let mut writer = choppy(rt.alloc(), 0, 99);

@@ -8,9 +8,9 @@ use sspi_ber::{
 };
 use std::process::Abort;
 
-/// A header of a SEQUENCE of 65536 bytes; one of the context-specific tag 4, primitive, of 240; the
+/// A header of a SEQUENCE of 65536 bytes; one of the primitive context-specific tag 4, of 240; the
 /// text `hello` in the tag 3; the octet of an ENUMERATED, constructed; the text `hi`; a header of
-/// an OCTET STRING of 3; and the tag 1 of none.
+/// an OCTET STRING of 3; and the tag 1 with no content.
 const ELEMENTS: [u8; 26] = [
     0x30, 0x83, 0x01, 0x00, 0x00, 0x84, 0x81, 0xf0, 0xa3, 0x07, 0x04, 0x05, 0x68, 0x65, 0x6c, 0x6c,
     0x6f, 0x2a, 0x04, 0x02, 0x68, 0x69, 0x04, 0x03, 0xa1, 0x00,
@@ -20,7 +20,7 @@ fn wrote(rt: &impl Abort, size: Result<usize, WireKind>, expected: usize) {
     is(rt, size, Ok(expected));
 }
 
-// Of a tag's number the low five bits count.
+// Only the low five bits of a tag's number count.
 #[test]
 fn elements_are_written(rt: HostRuntime) {
     let mut sink = VecSink::new(rt.alloc());

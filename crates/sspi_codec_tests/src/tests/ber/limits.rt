@@ -12,7 +12,7 @@ const TOO_LONG: Result<usize, WireKind> = Err(WireKind::InvalidData);
 
 /// Where the shortest length takes another form, and at the limit of 1048576 bytes: the length of a
 /// content, the size of an element with it, and the size of an OCTET STRING of it in another
-/// element; a dash where one does not fit.
+/// element; a dash if one does not fit.
 const SIZES: &str = "\
 0 2 4
 127 129 132
@@ -58,12 +58,12 @@ fn expected(text: &str) -> Result<usize, WireKind> {
     }
 }
 
-// 7 where the text is no number, which no line has.
+// 7 if the text is not a number, which is so in no line.
 fn number(text: &str) -> usize {
     text.parse().unwrap_or(7)
 }
 
-// Past the limit nothing is written.
+// Beyond the limit nothing is written.
 #[test]
 fn headers_at_the_limit(rt: HostRuntime) {
     is(&rt, sizeof_sequence_tag(65535), Ok(4));

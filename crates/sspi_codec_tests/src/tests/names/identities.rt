@@ -68,7 +68,7 @@ fn buffers_that_mix_the_forms_are_refused(rt: HostRuntime) {
     holds(&rt, refusal(&rt, read, "a@b") == expected, "a@b");
 }
 
-// A value differs from one that has another in any of its fields.
+// A value differs from one with another value in any of its fields.
 #[test]
 fn equal_identities(rt: HostRuntime) {
     compares_names(&rt, rt.alloc(), "DOM\\ann|pw", true);
@@ -94,8 +94,8 @@ fn compares_buffers(rt: &impl Abort, alloc: Global, line: &str, same: bool) {
     compares(rt, one, other, same, line);
 }
 
-/// Buffers whose user and domain mix the forms of a name. That takes no memory, so that it is told
-/// also where the allocations behind those of the buffers fail.
+/// Buffers whose user and domain mix the forms of a name. Finding this allocates nothing, so it is
+/// reported even if the allocations after those of the buffers fail.
 #[test]
 fn mixed_buffers_take_no_memory(rt: HostRuntime) {
     are_mixed(

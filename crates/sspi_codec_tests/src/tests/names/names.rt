@@ -6,7 +6,7 @@ use std::alloc::Global;
 use std::process::Abort;
 
 /// `parsed` names with their form, account and domain; texts that mix the forms; `made` names of an
-/// account and a domain with how they are shown; and such parts that mix the forms.
+/// account and a domain with how they are displayed; and such parts that mix the forms.
 const NAMES: &str = "\
 parsed|user@dept@tbt.com|principal|user@dept|tbt.com
 parsed|@|principal||
@@ -41,7 +41,7 @@ fn names_are_read_made_and_shown(rt: HostRuntime) {
     }
 }
 
-/// Up to the next `|`, and what is behind it; all where there is none.
+/// Up to the next `|`, and what follows it; everything if there is none.
 pub fn field(line: &str) -> (&str, &str) {
     match line.split_once('|') {
         Some((first, rest)) => (first, rest),
@@ -49,7 +49,7 @@ pub fn field(line: &str) -> (&str, &str) {
     }
 }
 
-/// A dot stands for no text.
+/// A dot means no text.
 pub fn text_of(field: &str) -> Option<&str> {
     if field == "." { None } else { Some(field) }
 }
@@ -91,9 +91,9 @@ fn shows(rt: &impl Abort, alloc: Global, name: Username, shown: &str) {
     gives(rt, name.clone(alloc), &name, shown);
 }
 
-/// Two names, whether they are equal but for the case of ASCII letters, and whether they are equal.
-/// Only ASCII letters have a case here: the Kelvin sign is no `k`. Equality looks at the case, and
-/// at nothing but the form and the two parts.
+/// Two names, whether they are equal except for the case of ASCII letters, and whether they are
+/// equal. Only ASCII letters have a case here: the Kelvin sign is not a `k`. Equality considers
+/// case, the form and the two parts, and nothing else.
 const PAIRS: &str = "\
 DOM\\ann|dom\\ANN|y|n
 ann@Example.com|ANN@example.COM|y|n

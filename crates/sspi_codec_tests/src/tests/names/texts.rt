@@ -1,4 +1,4 @@
-//! Texts with their UTF-16, and bytes that are none.
+//! Texts with their UTF-16, and bytes that are not UTF-16.
 
 use crate::tests::checks::{answered, gives, holds, refusal};
 use crate::tests::names::names::field;
@@ -6,10 +6,10 @@ use sspi_names::{Utf16Error, Utf16Text};
 use std::alloc::Global;
 use std::process::Abort;
 
-/// Texts with their UTF-16, each code unit with the low byte first, in hex: the least and the
-/// greatest character of each length in UTF-8, those next to the surrogates, and the corners of the
-/// pairs. Then bytes that are no text: an odd number of them, which is told first, and surrogates
-/// without their partners.
+/// Texts with their UTF-16, each code unit with the low byte first, in hex: the lowest and the
+/// highest character of each length in UTF-8, those next to the surrogates, and the corners of the
+/// pairs. Then bytes that are not text: an odd number of them, which is reported first, and
+/// unpaired surrogates.
 const TEXTS: &str = "\
 text|a\u{7f}\u{80}\u{7ff}\u{800}\u{d7ff}\u{e000}\u{ffff}\u{10000}\u{10ffff}|61007f008000ff070008ffd700e0ffff00d800dcffdbffdf
 text||
@@ -75,7 +75,7 @@ fn is_refused(rt: &impl Abort, alloc: Global, bytes: &[u8], error: Utf16Error, l
     holds(rt, refused == error, line);
 }
 
-/// Bytes that are no text. None of them has memory asked for, so that each is told where every
+/// Bytes that are not text. Nothing is allocated for them, so each is reported even if every
 /// allocation fails.
 #[test]
 fn bad_texts_take_no_memory(rt: HostRuntime) {

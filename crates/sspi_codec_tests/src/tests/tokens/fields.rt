@@ -58,7 +58,7 @@ fn push(rt: &impl Abort, text: &mut Bytes, is_set: bool, octets: &[u8]) {
     }
 }
 
-/// The encoding of these fields, one after the other.
+/// The encoding of these fields, one after another.
 fn fields_of(rt: &impl Abort, alloc: Global, choice: u8) -> Bytes {
     let mut content = Bytes::new(alloc);
     push(rt, &mut content, choice & 1 != 0, &RESULT);
@@ -68,7 +68,7 @@ fn fields_of(rt: &impl Abort, alloc: Global, choice: u8) -> Bytes {
     content
 }
 
-/// The token round these fields.
+/// The token around these fields.
 fn framed(rt: &impl Abort, alloc: Global, fields: &[u8]) -> Bytes {
     let len = (fields.len() & 0x7f) as u8;
     let header = [0xa1, (len + 2) & 0x7f, 0x30, len];
@@ -116,8 +116,8 @@ fn is_written_again(rt: &impl Abort, alloc: Global, bytes: &[u8]) {
     is_spelled(rt, token.encode(alloc), bytes);
 }
 
-// Accept-completed is 0; reject (2), request-mic (3), a content of two octets and one of none are
-// any other.
+// Accept-completed is 0; reject (2), request-mic (3), a content of two octets and one of none count
+// as any other result.
 #[test]
 fn results(rt: HostRuntime) {
     let alloc = rt.alloc();

@@ -23,7 +23,7 @@ fn of_mechanisms(rt: HostRuntime) {
     is_named(&rt, Oid::ntlm_ssp(alloc), &NTLM, MechKind::Ntlm);
 }
 
-/// The mechanism gives this identifier, or none where no content is given.
+/// The mechanism gives this identifier, or none if no content is given.
 fn identifies(rt: &impl Abort, oid: Result<Option<Oid>, AllocError>, content: Option<&[u8]>) {
     match given(rt, oid) {
         Some(oid) => holds(rt, content == Some(oid.content()), "another identifier"),

@@ -1,4 +1,4 @@
-//! Tokens in forms that a reader takes and no writer makes.
+//! Tokens in forms that a reader accepts and no writer makes.
 
 use crate::tests::checks::{given, holds, is};
 use crate::tests::tokens::{NTLM, lists, same};
@@ -30,7 +30,7 @@ fn picks_ntlm(rt: &impl Abort, token: &NegTokenTarg) {
     }
 }
 
-// The shortest forms; forms of a length that are not the shortest, and a byte behind; leftovers at
+// The shortest forms; length forms that are not the shortest, and a byte after them; leftovers at
 // each level.
 #[test]
 fn one_answer(rt: HostRuntime) {
@@ -60,7 +60,7 @@ fn has_token_alone(rt: &impl Abort, decoded: Result<NegTokenTarg, Error>, octets
     same(rt, &token.response_token, Some(octets));
 }
 
-// A field behind a later one is left over.
+// A field after a later one is left over.
 #[test]
 fn reversed_fields(rt: HostRuntime) {
     let reversed = &[
@@ -74,7 +74,7 @@ fn has_list(rt: &impl Abort, decoded: Result<NegTokenInit, Error>, oids: &[&[u8]
     lists(rt, &token, oids);
 }
 
-// A list ends before another tag, and the flags behind it are passed over.
+// A list ends before another tag, and the flags after it are skipped.
 #[test]
 fn list_and_flags(rt: HostRuntime) {
     let list = &[

@@ -11,7 +11,7 @@ fn zeros(rt: &impl Abort, alloc: Global, len: usize) -> Option<Bytes> {
     Some(Bytes::from_vec(given(rt, vec![in alloc; 0u8; len])))
 }
 
-/// A token of the mechanism of so many bytes, and nothing else.
+/// A token of the mechanism of `len` bytes, and nothing else.
 fn answer(rt: &impl Abort, alloc: Global, len: usize) -> NegTokenTarg {
     NegTokenTarg {
         response_token: zeros(rt, alloc, len),
@@ -39,7 +39,7 @@ fn of_answers(rt: HostRuntime) {
     is_too_long(&rt, answer(&rt, alloc, 1048562).encode(alloc));
 }
 
-/// The same of the first token.
+/// The same for the first token.
 fn offer_of(rt: &impl Abort, alloc: Global, len: usize) -> NegTokenInit {
     NegTokenInit {
         mech_types: None,

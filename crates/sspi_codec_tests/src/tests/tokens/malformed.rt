@@ -1,4 +1,4 @@
-//! Bytes that are no token.
+//! Bytes that are not tokens.
 
 use crate::tests::checks::{given, is, refusal};
 use crate::tests::tokens::{OFFER, is_codeless};
@@ -7,9 +7,9 @@ use sspi_types::{Error, ErrorKind, Reason};
 use std::alloc::Global;
 use std::process::Abort;
 
-// Each line of these texts is bytes that begin with no token of its kind.
+// The bytes in each line of these texts do not begin with a token of its kind.
 
-/// Another mechanism than SPNEGO, none behind it, and an identifier, flags and hints that are cut.
+/// A mechanism other than SPNEGO, nothing after SPNEGO, and a cut identifier, flags and hints.
 const NO_INIT: &str = "
 : 60 22 06 06 2b 06 01 05 05 03 a0 18 30 16 a0 0e 30 0c 06 0a 2b 06 01 04 01 82 37 02 02 0a a2 04 04 02 4e 31
 : 60 08 06 06 2b 06 01 05 05 02
@@ -18,8 +18,8 @@ const NO_INIT: &str = "
 : 60 0f 06 06 2b 06 01 05 05 02 a0 05 30 03 a3 02 30
 ";
 
-/// The other token, nothing, an empty one, bad lengths, other tags, and fields that are cut or hold
-/// something else.
+/// The other token, nothing, an empty one, bad lengths, other tags, and fields that are cut short
+/// or hold something else.
 const NO_TARG: &str = "
 : 60 22 06 06 2b 06 01 05 05 02 a0 18 30 16 a0 0e 30 0c 06 0a 2b 06 01 04 01 82 37 02 02 0a a2 04 04 02 4e 31
 :
@@ -34,7 +34,7 @@ const NO_TARG: &str = "
 : a1 06 30 04 a3 02 80 00
 ";
 
-/// These bytes are refused, as they are no token.
+/// These bytes are refused, as they are not a token.
 fn is_no_token<T: Drop>(rt: &impl Abort, bytes: &[u8], decoded: Result<T, Error>) {
     assert!(rt; decoded.is_err(), "{bytes:?}");
     let error = refusal(rt, decoded, "read");
@@ -49,7 +49,7 @@ fn is_no_targ(rt: &impl Abort, alloc: Global, bytes: &[u8]) {
     is_no_token(rt, bytes, NegTokenTarg::decode(alloc, bytes));
 }
 
-/// The digits stand in pairs.
+/// The digits are in pairs.
 fn case(rt: &impl Abort, alloc: Global, digits: &str, is_init: bool) {
     let digits = given(rt, digits.replace(alloc, " ", ""));
     let bytes = given(rt, hex::decode(alloc, &digits));
@@ -60,7 +60,7 @@ fn case(rt: &impl Abort, alloc: Global, digits: &str, is_init: bool) {
     }
 }
 
-/// Each line of a text, of which there are so many.
+/// Each line of a text that has `count` cases.
 fn cases(rt: &impl Abort, alloc: Global, text: &str, count: u32, is_init: bool) {
     let mut seen = 0u32;
     for line in text.lines() {

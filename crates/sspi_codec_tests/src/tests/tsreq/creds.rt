@@ -1,8 +1,8 @@
-//! Credentials, a line each: what is done, the domain, the user and the password, and the text in
+//! Credentials, one per line: what is done, the domain, the user and the password, and the text in
 //! the words of `octets`.
 //!
-//! Credentials are written as the text and read from it by both readers (`both`), or read alone
-//! (`read`); `kept` is what is written where they stay at the client.
+//! Credentials are written as the text and read from it by both readers (`both`), or only read
+//! (`read`); `kept` is what is written if they stay at the client.
 
 use crate::tests::checks::{given, gives, holds, parted};
 use crate::tests::tsreq::octets::octets;
@@ -89,9 +89,9 @@ fn line(rt: &impl Abort, alloc: Global, line: &str) {
     goes(rt, alloc, line, verb, &buffers, &octets(rt, alloc, text));
 }
 
-/// Three texts, and empty ones, which are also what is written where credentials stay at the
-/// client. Then length forms that are not the shortest, an octet more of credType, and what is left
-/// inside and behind a structure.
+/// Three texts, and empty ones, which are also what is written if credentials stay at the client.
+/// Then length forms that are not the shortest, one more octet of credType, and leftovers inside
+/// and after a structure.
 const TEXTS: &str = "\
 both||a|1|301ba003020101a11404123010a0020400a10404026100a20404023100
 both|Domain|Username|Password|3043a003020101a13c043a3038a00e040c44006f006d00610069006e00a112041055007300650072006e0061006d006500a21204\
@@ -133,9 +133,9 @@ fn followed_by_more(rt: HostRuntime) {
     leaves_two(&rt, rt.alloc());
 }
 
-/// Both readers refuse the text as this word says: `form` for a structure that is malformed, `card`
-/// for the credentials of a smart card, `type` for another type or none, and `text` for bytes that
-/// are no UTF-16.
+/// Both readers refuse the text as this word says: `form` for a malformed structure; `card` for the
+/// credentials of a smart card; `type` for another type or none; `text` for bytes that are not
+/// UTF-16.
 fn refuses(rt: &impl Abort, alloc: Global, text: &[u8], word: &str) {
     let refusal = refusal_named(rt, word);
     let read = read_ts_credentials(alloc, &mut SliceSource::new(text));
@@ -154,8 +154,8 @@ fn refusal_named(rt: &impl Abort, word: &str) -> Error {
     }
 }
 
-/// Texts that are refused, each with its word. A structure that is malformed is told before its
-/// type, and that before its texts.
+/// Texts that are refused, each with its word. A malformed structure is reported before its type,
+/// and that before its texts.
 const REFUSED: &str = "\
 form
 form 3017a003020101a110040e300ca0020400a1020400a20204
@@ -186,10 +186,10 @@ fn refused_texts(rt: HostRuntime) {
     }
 }
 
-/// Places of the short credentials, and the bytes that each is refused with: another tag; a length
-/// that has no form, or that passes what the structure round it has; one byte too few for what
-/// stands inside, where the bytes behind are not taken; and the first byte of the number, which is
-/// then another type.
+/// Places of the short credentials, and the bytes with which each is refused: another tag; a length
+/// that has no form, or that exceeds the structure around it; one byte too few for what is inside,
+/// where the bytes after it are not taken; and the first byte of the number, which then gives
+/// another type.
 const DAMAGES: &str = "\
 0 31
 2 a1
@@ -288,7 +288,7 @@ fn length_of(answer: Result<Vec<u8>, Error>) -> Result<usize, Error> {
     }
 }
 
-/// A password of so many bytes has a text of that length, or is too long.
+/// Credentials with these password bytes have a text of this length, or are too long.
 fn has_length(rt: &impl Abort, alloc: Global, bytes: &str, length: Result<usize, Error>) {
     let password = given(
         rt,
@@ -299,7 +299,7 @@ fn has_length(rt: &impl Abort, alloc: Global, bytes: &str, length: Result<usize,
     holds(rt, length_of(text) == length, bytes);
 }
 
-// A password of 524269 code units has 1048538 bytes; with what stands around it the content has 38
+// A password of 524269 code units has 1048538 bytes; with what is around it, the content has 38
 // more.
 #[test]
 fn the_limit(rt: HostRuntime) {

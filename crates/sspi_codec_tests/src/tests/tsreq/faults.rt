@@ -1,4 +1,4 @@
-//! Bytes that are no request, each with its kind of fault.
+//! Bytes that are not requests, each with its kind of fault.
 
 use crate::damages::{CODE_AND_NONCE, OCTETS, OUTER, TOKEN, VERSION};
 use crate::tests::checks::{given, holds};
@@ -16,13 +16,13 @@ fn kind_named(rt: &impl Abort, fault: &str) -> WireKind {
     }
 }
 
-/// The digits stand in pairs.
+/// The digits are in pairs.
 fn pairs(rt: &impl Abort, alloc: Global, digits: &str) -> Vec<u8> {
     let digits = given(rt, digits.replace(alloc, " ", ""));
     octets(rt, alloc, digits.as_str())
 }
 
-/// A content stands inside its SEQUENCE.
+/// A content is put inside a SEQUENCE.
 fn case(rt: &impl Abort, alloc: Global, fault: &str, digits: &str, is_content: bool) {
     let bytes = pairs(rt, alloc, digits);
     let kind = kind_named(rt, fault);
@@ -33,7 +33,7 @@ fn case(rt: &impl Abort, alloc: Global, fault: &str, digits: &str, is_content: b
     }
 }
 
-/// Each line of a text, of which there are so many.
+/// Each line of a text that has `count` cases.
 fn cases(rt: &impl Abort, alloc: Global, text: &str, count: u32, is_content: bool) {
     let mut seen = 0u32;
     for line in text.lines() {
@@ -70,7 +70,7 @@ fn code_and_nonce_faults(rt: HostRuntime) {
     cases(&rt, rt.alloc(), CODE_AND_NONCE, 15, true);
 }
 
-/// A request that is cut anywhere has ended.
+/// A request that is cut anywhere ends too early.
 fn cut(rt: &impl Abort, alloc: Global, digits: &str) {
     let request = octets(rt, alloc, digits);
     for len in 0..request.len() {

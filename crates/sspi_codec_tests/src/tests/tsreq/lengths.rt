@@ -19,7 +19,7 @@ enum Kind {
     Answer,
 }
 
-/// What is written again of what these bytes are read as; none where they are refused.
+/// What is read from these bytes, written again; `None` if they are refused.
 fn again(alloc: Global, kind: Kind, bytes: &[u8]) -> Option<Vec<u8>> {
     match kind {
         Kind::Request => request_again(alloc, bytes),
@@ -53,7 +53,7 @@ fn answer_again(alloc: Global, bytes: &[u8]) -> Option<Vec<u8>> {
     token.encode(alloc).ok()
 }
 
-/// What the test stands on could not be made.
+/// What the test needs could not be made.
 fn unmade(rt: &impl Abort) {
     assert!(rt; false, "want of memory, or a text of digits that is none");
 }

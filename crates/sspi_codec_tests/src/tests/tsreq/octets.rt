@@ -1,4 +1,4 @@
-//! Octets in words: hex digits, `first` and `second` for two messages, `*` behind digits for how
+//! Octets in words: hex digits, `first` and `second` for two messages, `*` after digits for how
 //! often they come, and `+` between pieces.
 
 use crate::tests::checks::given;

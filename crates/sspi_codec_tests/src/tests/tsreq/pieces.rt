@@ -6,13 +6,13 @@ use sspi_ber::WireKind;
 use sspi_tsreq::{TsReader, TsRequest};
 use std::alloc::Global;
 
-/// Version 6 and a field of token `a2` whose length is no length, in a content that is whole; and
-/// in one that lacks a byte.
+/// Version 6 and a field with tag `a2` and an invalid length, in a content that is whole; and in
+/// one that lacks a byte.
 const BAD: &[u8] = &[0x30, 0x07, 0xa0, 0x03, 0x02, 0x01, 0x06, 0xa2, 0x8a];
 
 const CUT: &[u8] = &[0x30, 0x08, 0xa0, 0x03, 0x02, 0x01, 0x06, 0xa2, 0x8a];
 
-/// Version 6 in a content of 65531 bytes, of which 65526 are to come.
+/// Version 6 in a content of 65531 bytes, of which 65526 are still missing.
 const LONG: &[u8] = &[0x30, 0x82, 0xff, 0xfb, 0xa0, 0x03, 0x02, 0x01, 0x06];
 
 const ZEROS: &[u8] = &[0; 1000];
@@ -37,7 +37,7 @@ fn feed_beyond(reader: &mut TsReader) -> Result<(), WireKind> {
 }
 
 /// The message of `LONG` with the rest of its content in zeros, 1000 at a time, and 100000 further
-/// zeros behind it.
+/// zeros after it.
 fn fed_zeros(alloc: Global) -> Result<TsRequest, WireKind> {
     let mut reader = TsReader::new(alloc);
     let fed = feed_beyond(&mut reader);

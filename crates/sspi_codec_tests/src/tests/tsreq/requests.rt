@@ -1,9 +1,9 @@
-//! Requests, a line each: what is done, the fields of the request, and its bytes.
+//! Requests, one per line: what is done, the fields of the request, and its bytes.
 //!
-//! A request is written so and read so (`both`), or one of the two alone (`written`, `read`);
-//! `fits` and `passes` are about how many bytes it takes, and whether that is too many. It has
-//! version 6 and nothing else but for the words `version=`, `token=`, `auth=`, `proof=`, `code=`
-//! and `nonce=`. Each request has a copy, and its code, other than that of success, is its error.
+//! A request is both written and read so (`both`), or only one of the two (`written`, `read`);
+//! `fits` and `passes` are about how many bytes it takes, and whether they are too many. It has
+//! only version 6, except for the words `version=`, `token=`, `auth=`, `proof=`, `code=` and
+//! `nonce=`. Each request has a copy, and its code, unless it is that of success, is its error.
 
 use crate::tests::checks::{given, gives, holds, parted};
 use crate::tests::tsreq::octets::octets;
@@ -50,7 +50,7 @@ fn request(rt: &impl Abort, alloc: Global, words: &str) -> TsRequest {
     request
 }
 
-/// A copy is equal to the request, which is the default one only where it has no words.
+/// A copy is equal to the request, which is the default one only if it has no words.
 fn is_copied(rt: &impl Abort, alloc: Global, request: &TsRequest, words: &str) {
     gives(rt, request.clone(alloc), request, words);
     let is_default = *request == TsRequest::default();
@@ -70,7 +70,7 @@ fn is_error(rt: &impl Abort, answer: Result<(), Error>, code: Option<NStatusCode
     }
 }
 
-/// The request takes so many bytes, and is read from them.
+/// The request takes `size` bytes, and is read from them.
 fn fits(rt: &impl Abort, alloc: Global, request: &TsRequest, size: u32, line: &str) {
     holds(rt, request.buffer_len() == Ok(size), line);
     let mut sink = VecSink::new(alloc);
@@ -88,13 +88,13 @@ fn passes(rt: &impl Abort, alloc: Global, request: &TsRequest, line: &str) {
     fails(rt, request.buffer_len(), WireKind::InvalidData, line);
 }
 
-/// The request and these bytes go both ways.
+/// The request is read from these bytes and written as them.
 fn both(rt: &impl Abort, alloc: Global, request: &TsRequest, bytes: &[u8], line: &str) {
     reads(rt, alloc, bytes, request, line);
     writes(rt, alloc, request, bytes, line);
 }
 
-/// The line stands in what is said where something does not come true.
+/// A failure reports the line.
 fn goes(rt: &impl Abort, alloc: Global, verb: &str, request: &TsRequest, value: &str, line: &str) {
     match verb {
         "both" => both(rt, alloc, request, &octets(rt, alloc, value), line),
@@ -121,7 +121,7 @@ fn each_goes(rt: &impl Abort, alloc: Global, lines: &str) {
     }
 }
 
-/// Two messages, one of them with ten zeros behind it, an empty token, and the code of success.
+/// Two messages, one of them with ten zeros after it, an empty token, and the code of success.
 const MESSAGES: &str = "\
 both|auth=01000000e0bae3bac27254e8010000006e037c4c9d024e5eeba19fab603297cd95cffe8f4470796e6ccdea746a nonce=221012ad125c7a15feb64\
 b1fcb94833ac56f664cf3bce7548a5d9e050a4691db|first
@@ -144,8 +144,7 @@ both|version=8388607|3007a00502037fffff
 both|version=8388608|3008a006020400800000
 both|version=4294967295|3008a0060204ffffffff";
 
-/// Numbers that are not in their shortest encoding, without sign; of eight bytes the low 32 bits
-/// count.
+/// Unsigned numbers that are not in their shortest encoding; of eight bytes, the low 32 bits count.
 const LONGER_NUMBERS: &str = "\
 read|version=200|3005a0030201c8
 read||3006a00402020006
@@ -172,7 +171,7 @@ both|version=7 nonce=07*32|3029a003020107a5220420+07*32
 written|version=4 nonce=07*32|3005a003020104
 read|version=4|3029a003020104a5220420+07*32";
 
-/// The lengths round a field are judged by their form alone; that of the content itself counts, in
+/// The lengths around a field are judged by their form alone; that of the content itself counts, in
 /// any form.
 const NESTED_LENGTHS: &str = "\
 read|token=41 auth=42 proof=43 code=5|3023a07f020106a100307f3005a081ff040141a282fffb04810142a300040143a47f020105";
@@ -187,9 +186,9 @@ fn messages(rt: HostRuntime) {
     each_goes(&rt, rt.alloc(), NESTED_LENGTHS);
 }
 
-/// What is not read: a second token; a field out of its order, whole or damaged; what begins with
-/// no field's tag; and fields that the version does not look for, a code at version 2 and a nonce
-/// at version 4.
+/// What is not read: a second token; a field out of its order, whole or damaged; what does not
+/// begin with a field's tag; and fields that the version does not look for, a code at version 2 and
+/// a nonce at version 4.
 const TAILS: &str = "\
 read|token=41|308117a003020106a10930073005a0030401413005a003040142
 read|proof=41|30810ea003020106a303040141a2020400

@@ -8,7 +8,7 @@ use sspi_tsreq::TsRequest;
 use std::alloc::Global;
 use std::process::Abort;
 
-/// The header of these bytes tells so many bytes in all, and what is behind it stays in the source.
+/// The header of these bytes gives `size` bytes in all, and what follows it stays in the source.
 fn measures(rt: &impl Abort, alloc: Global, digits: &str, size: usize, rest: &str) {
     let bytes = octets(rt, alloc, digits);
     let mut source = SliceSource::new(&bytes);
@@ -29,7 +29,7 @@ fn measures_nothing(rt: &impl Abort, alloc: Global, digits: &str) {
 /// A content of five bytes, whose length is not in its shortest form.
 const LONGER: &str = "308105a003020106";
 
-/// Each fault of a header is the end.
+/// Any fault of a header counts as the end.
 const NO_LENGTHS: &str = "
 3105
 30

@@ -197,7 +197,7 @@ fn status_codes_have_the_numbers_of_ntstatus(rt: HostRuntime) {
     are_of_the_header(&rt, &table);
 }
 
-/// The flags of `sspi.h` that a context is asked for or answers.
+/// The flags of `sspi.h` that a context is asked for or answers with.
 #[test]
 fn context_flags_have_the_bits_of_sspi(rt: HostRuntime) {
     let table = [

@@ -9,7 +9,7 @@ use sspi_types::{
 use std::alloc::Global;
 use std::process::Abort;
 
-// Names are compared with case.
+// Names are case-sensitive.
 #[test]
 fn packages_are_known_by_name(rt: HostRuntime) {
     is_named(&rt, rt.alloc(), "NTLM", true);

@@ -4,9 +4,9 @@ use crate::tests::tsreq::lengths::{Kind, again, unmade};
 use std::alloc::{AllocError, Global};
 use std::process::Abort;
 
-/// The tags round some octets, from the innermost outwards, each with the bytes that stand before
-/// what is inside: the token of a request, and its credentials; the password of TSCredentials; the
-/// token in a NegTokenInit, and in a NegTokenTarg.
+/// The tags around some octets, from the innermost outwards, each with the bytes before what is
+/// inside: the token of a request, and its credentials; the password of TSCredentials; the token in
+/// a NegTokenInit, and in a NegTokenTarg.
 const TOKEN: &str = "04\na0\n30\n30\na1\n30 a003020106";
 
 const CREDENTIALS: &str = "04\na2\n30 a003020106";
@@ -17,8 +17,8 @@ const OFFER: &str = "04\na2\n30\na0\n60 06062b0601050502";
 
 const ANSWER: &str = "04\na2\n30\na1";
 
-/// Where the shortest form changes, and at the limit: a length, and the octets behind the first in
-/// a form that holds it.
+/// Where the shortest form changes, and at the limit: a length, and how many octets follow the
+/// first in a form that holds it.
 const LENGTHS: &str = "\
 127 0
 127 1
@@ -48,15 +48,15 @@ struct Case<'a> {
 
 const LIMIT: usize = 1048576;
 
-/// No place of a text: each length is encoded shortest.
+/// No place of a text: each length is in its shortest form.
 const NOWHERE: usize = 99;
 
-// 7 where the text is no number, which no line has.
+// 7 if the text is not a number, which is so in no line.
 fn number(text: &str) -> usize {
     text.parse().unwrap_or(7)
 }
 
-/// The tag and the bytes before, of a line.
+/// The tag of a line, and the bytes before what is inside.
 fn level(line: &str) -> (&str, &str) {
     match line.split_once(' ') {
         Some(parts) => parts,
@@ -76,8 +76,8 @@ fn shortest(len: usize) -> usize {
     }
 }
 
-/// How many bytes stand inside the tag at this place, round so many octets, where all lengths
-/// within are encoded shortest.
+/// How many bytes are inside the tag at this place, around `octets` octets, if all lengths within
+/// are in their shortest form.
 fn inside(levels: &str, place: usize, octets: usize) -> usize {
     let mut size = octets;
     for (at, line) in levels.lines().enumerate() {
@@ -114,8 +114,7 @@ fn push_length(text: &mut Vec<u8>, len: usize, octets: usize) -> Result<(), Allo
     }
 }
 
-/// The tag and length of this line, and what stands before the bytes within it, which come to this
-/// size.
+/// The tag of this line, the length `size` in this form, and the bytes before what is inside.
 fn header(alloc: Global, line: &str, size: usize, form: usize) -> Option<Vec<u8>> {
     let (tag, before) = level(line);
     let mut text = hex::decode(alloc, tag).ok()?;
@@ -125,7 +124,7 @@ fn header(alloc: Global, line: &str, size: usize, form: usize) -> Option<Vec<u8>
     Some(text)
 }
 
-/// What stands before so many octets inside all tags: the length at one place in this form, and all
+/// What precedes `octets` octets inside all tags: the length at one place in this form, and all
 /// others in their shortest.
 fn headers(
     alloc: Global,
@@ -169,8 +168,8 @@ fn try_place(rt: &impl Abort, alloc: Global, case: &Case<'_>, len: usize, form: 
     }
 }
 
-/// The text is read, and written again in its shortest form, where all its lengths fit. A password
-/// of an odd number of bytes is none.
+/// The text is read, and written again in its shortest form, if all its lengths fit. A password of
+/// an odd number of bytes is not one.
 fn reads(rt: &impl Abort, alloc: Global, case: &Case<'_>, octets: usize, text: &[u8]) {
     let is_text = case.kind != Kind::Credentials || octets % 2 == 0;
     let fits = inside(case.levels, NOWHERE, octets) <= LIMIT;
