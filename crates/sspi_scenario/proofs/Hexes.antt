@@ -1,4 +1,4 @@
--- What a decoding into room for some bytes gives.
+-- What decoding into a buffer of a given size gives.
 use Rattle.std.proofs.Common.{inl, inr, ◌≡◌, ℕ, List, Some, None, Result, Ok, Err, refl, ap}
 use Rattle.std.specs.Prelude.{MatchResult, ◌⊎◌}
 use Rattle.hex.specs.Hex.{decode_of}

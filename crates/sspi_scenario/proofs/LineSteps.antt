@@ -1,4 +1,4 @@
--- What one line makes of the draft so far.
+-- How one line changes the draft so far.
 use Rattle.std.proofs.Common.{◌≡◌, ℕ, true, false, List, Option, Some, None, Ok, Err, refl, ap, ◌∙◌}
 use Rattle.std.specs.Option.{option_map}
 use Rattle.sspi_scenario.specs.declared.purpose.Purpose.{Purpose}

@@ -1,4 +1,4 @@
--- What one more line makes of the draft, and what the draft of lines tells of them.
+-- How one more line changes the draft, and what the draft of some lines says of them.
 use Rattle.std.proofs.Common.{◌≡◌, Bool, ◌&&◌, List, [], ◌∷◌, ◌++◌, Option, Some, None, refl, ap, sym, ◌∙◌}
 use Rattle.std.specs.Prelude.{fold, if◌then◌else◌}
 use Rattle.std.proofs.lemmas.List.Sums.{fold-append}

@@ -63,7 +63,7 @@ module _ {E : Type 0} (bs : List ℕ) where
       h (decimal-digits bs parts.0, some, omega (arith, fits))) in
       rw refused refl
 
-  -- without a plus and a leading zero `parse` gives the number
+  -- without a plus or a leading zero, `parse` gives the number
   pub number-parsed : (r : Result ℕ E) → ParsesUnsigned 32 10 bs r → get_or bs 0 0 ≢ 43 → 0 < length bs →
       (1 < length bs → get_or bs 0 0 ≡ 48 → ⊥)
       → result_ok r ≡ number_of bs

@@ -1,4 +1,4 @@
--- Where a text is cut: at its first LF, and at its first space.
+-- Where a text is split: at its first LF, and at its first space.
 use Rattle.std.proofs.Common.{◌≡◌, ℕ, ◌+◌, ◌<◌, Bool, true, false, List, [], ◌∷◌, length, Option, Some, None, refl, sym, ap, ◌∙◌, arith}
 use Rattle.std.specs.List.{slice_split, onto_first, list_any, position_or_len, before_first, after_first}
 use Rattle.std.specs.Option.{MatchOption}
@@ -19,7 +19,7 @@ module _ (p : ℕ → Bool) where
   place-no : (x : ℕ) (xs : List ℕ) → p x ≡ false → position_or_len p (x ∷ xs) ≡ 1 + position_or_len p xs
   place-no x xs e = rw e refl
 
-  -- whether some element passes, by the first place
+  -- whether some element passes, by the first position
   none-cons : (x : ℕ) (xs : List ℕ) (b : Bool) → p x ≡ b → (position_or_len p xs ≡ length xs → list_any p xs ≡ false)
       → position_or_len p (x ∷ xs) ≡ length (x ∷ xs) → list_any p (x ∷ xs) ≡ false
   none-cons x xs true h more e = absurd (omega (arith, e, place-yes x xs h))
@@ -57,7 +57,7 @@ module _ (p : ℕ → Bool) where
   none-split [] e = refl
   none-split (x ∷ xs) e = split-cons x xs (p x) refl (none-split xs) e
 
--- a text is one line where it has no LF
+-- a text without LF is one line
 pub one-line : (text : List ℕ) → IsSplitOnceResult 10 text None → lines_of text ≡ text ∷ []
 one-line text h = none-split is_line_feed text (split_once_first 10 text None h (lit< tt))
 
@@ -78,13 +78,13 @@ parted-some text parts h =
     let cut = split_once_first 32 text (Some parts) h (lit< tt) in
     rw (some-any is_space text cut.0, cut.1, cut.2) refl
 
--- the one answer of `parted`
+-- the only result of `parted`
 pub parted-is : (text : List ℕ) (r : Option (Bor (List ℕ) × Bor (List ℕ))) → IsSplitOnceResult 32 text r
     → MatchOption r (parted text ≡ None) (λ parts. parted text ≡ Some (parts.0.now, parts.1.now))
 parted-is text None h = parted-none text h
 parted-is text (Some parts) h = parted-some text parts h
 
--- the parts on either side of the first space, where `parted` says whether there is one
+-- the parts on both sides of the first space, if `parted` says that there is one
 abbrev Sides : List ℕ → Option (List ℕ × List ℕ) → Type 0
 Sides text None = (text ≡ before_space text) × ([] ≡ after_space text)
 Sides text (Some parts) = (parts.0 ≡ before_space text) × (parts.1 ≡ after_space text)

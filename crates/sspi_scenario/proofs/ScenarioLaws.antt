@@ -209,7 +209,7 @@ fault-stays purpose text more n some e readable =
     ∙ ap (λ (f : Option ℕ). decided f (completed purpose (told_in (lines_from purpose 1 (lines_of text) ++ both.0))))
     (fault-kept [] (lines_from purpose 1 (lines_of text)) both.0 n fault))
 
--- no setting is excluded by those before it
+-- no setting is excluded by earlier ones
 bar-false : (b : Bool) (number : ℕ) (rest : Option ℕ) → (if b then Some number else rest) ≡ None → (b ≡ false) × (rest ≡ None)
 bar-false true number rest e = absurd cc
 bar-false false number rest e = (refl, e)

@@ -1,4 +1,4 @@
--- How a KDC answers a call, by the words that tell it.
+-- How a KDC answers a call, by the words that say so.
 use Rattle.std.proofs.Common.{◌≡◌, ℕ, ◌<◌, ◌≤◌, List, Some, None, refl}
 use Rattle.std.specs.Prelude.{codes}
 use Rattle.std.proofs.lemmas.Bool.{le-leb, lt-leb}

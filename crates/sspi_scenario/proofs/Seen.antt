@@ -1,4 +1,4 @@
--- Keys that are kept once each tell as much as all of them.
+-- Keys kept once each say as much as all of them.
 use Rattle.std.proofs.Common.{◌≡◌, Bool, true, false, ◌||◌, List, [], ◌∷◌, ◌++◌, Some, refl, ap, sym, ◌∙◌}
 use Rattle.std.specs.Prelude.{fold, if◌then◌else◌}
 use Rattle.std.specs.List.{list_any}
@@ -11,7 +11,7 @@ use Rattle.sspi_scenario.specs.Drafts.{noted}
 use Rattle.sspi_scenario.specs.Keys.{key_named, is_same, has}
 use Rattle.sspi_scenario.specs.Table.{row}
 
--- each key is the one of its name
+-- each key is the one that its name means
 named : (k : Key) → key_named (row k).name ≡ Some k
 unfolding key_named
 named key.Mode = refl
@@ -49,7 +49,7 @@ module _ (p : Key → Bool) where
   found-cons e keys k true h passes more among = let first : p e ≡ true = ap p (one e k h) ∙ passes in rw first refl
   found-cons e keys k false h passes more among = rw (more among) (or-true (p e))
 
-  -- a key that is among some passes only where one of them does
+  -- if a key passes and is in a list, something in the list passes
   found : (keys : List Key) (k : Key) → has keys k ≡ true → p k ≡ true → list_any p keys ≡ true
   found [] k h passes = absurd cc
   found (e ∷ keys) k h passes = found-cons e keys k (is_same e k) refl passes (λ more. found keys k more passes) h

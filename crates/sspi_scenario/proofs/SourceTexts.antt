@@ -19,7 +19,7 @@ consumes_kept (Some a) None c x first kept = elim first [ ]
 consumes_kept (Some a) (Some b) None x first kept = elim kept [ ]
 consumes_kept (Some a) (Some b) (Some c) x first kept = rw kept first
 
--- so much was taken, and so much more
+-- some bytes were taken, and then some more
 pub takes_on : (most : ℕ) (a b c : Option (List ℕ)) (x y : List ℕ) →
     Consumes a b x → Consumes b c y → length x + length y ≤ most → TakesAtMost most a c
 takes_on most a b c x y first then short =
@@ -53,7 +53,7 @@ pub reads_to_end : (limit : ℕ) (left before after : Option (List ℕ)) (text :
 reads_to_end limit left before after text n into read last none end short =
     reads_all limit left after text (consumes_nothing left before after text.items n into read last none) end short
 
--- so much was taken, and so much more that came into the prefix of a longer room
+-- some bytes were taken, and then more into the prefix of a longer buffer
 pub consumes_front : (a b c : Option (List ℕ)) (x : List ℕ) (n : ℕ) (into rest : List ℕ) →
     Consumes a b x → Consumes b c (take n into) → n ≤ length into → Consumes a c (x ++ take n (into ++ rest))
 consumes_front a b c x n into rest first then fits = rw take-append-le (consumes_on a b c x (take n into) first then)

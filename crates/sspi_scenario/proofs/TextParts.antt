@@ -19,7 +19,7 @@ module _ (xs : List ℕ) (y : ℕ) (ys : List ℕ) (ascii : y < 128) (text : IsU
   within : length xs < length (xs ++ y ∷ ys)
   within = omega (arith, length-append xs (y ∷ ys))
 
-  -- before and behind an ASCII character
+  -- before and after an ASCII character
   before_utf8 : IsUtf8 xs
   before_utf8 =
       subst IsUtf8 (take-append_seam xs (y ∷ ys))
@@ -35,7 +35,7 @@ abbrev pub AreUtf8 : List (List ℕ) → Type 0
 AreUtf8 [] = Unit {0}
 AreUtf8 (text ∷ texts) = IsUtf8 text × AreUtf8 texts
 
--- a text in front of the first of some
+-- a text prepended to the first of some
 abbrev led : List ℕ → List (List ℕ) → List (List ℕ)
 led front [] = front ∷ []
 led front (part ∷ parts) = (front ++ part) ∷ parts
@@ -69,7 +69,7 @@ split-utf8 (x ∷ xs) front text = split-at xs (split-utf8 xs) front x (is_line_
 pub lines-utf8 : (text : List ℕ) → IsUtf8 text → AreUtf8 (lines_of text)
 lines-utf8 text utf8 = unled (lines_of text) (split-utf8 text [] utf8)
 
--- what stands behind the first space of a line
+-- what follows the first space of a line
 behind-at : (line : List ℕ) → IsUtf8 line → (position_or_len is_space line < length line) ⊎
     (length line ≤ position_or_len is_space line) → IsUtf8 (after_first is_space line)
 behind-at line utf8 (inl here) =

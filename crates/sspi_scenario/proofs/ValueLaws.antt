@@ -59,7 +59,7 @@ ok-is : {E : Type 0} (r : Result (List ℕ) E) (x : List ℕ) → result_ok r �
 ok-is (Ok y) x e = ap Ok (some-is y x e)
 ok-is (Err refusal) x e = absurd cc
 
--- so many bytes in hex
+-- `size` bytes in hex
 sized-at : (odd fits : Bool) (size : ℕ) (text x : List ℕ) → (odd ≡ false → fits ≡ true → length text ≡ 2 * size) →
     result_ok (if odd then Err OddLength else if fits then decode_pairs 0 text else Err InvalidStringLength) ≡ Some x → length x ≡ size
 sized-at true fits size text x long e = absurd cc
@@ -78,7 +78,7 @@ hex-length : (size : ℕ) (text x : List ℕ) → hex_of_size size text ≡ Some
 unfolding hex_of_size
 hex-length size text x e = sized-at (length text % 2 == 1) (length text / 2 == size) size text x (halves (length text) size) e
 
--- what a value makes of the values before keeps what they hold
+-- a change keeps what holds of the values
 abbrev Keeps : (Values → Values) → Type 0
 Keeps change = (v : Values) → HoldsValues v.scenario → HoldsValues (change v).scenario
 

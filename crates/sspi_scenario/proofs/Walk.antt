@@ -1,4 +1,4 @@
--- What the lines that are left decide, after lines that told some settings.
+-- What the remaining lines decide, after lines that gave some settings.
 use Rattle.std.proofs.Common.{◌≡◌, ℕ, ◌+◌, ◌<◌, ◌≤◌, arith, Bool, true, false, List, [], ◌∷◌, ◌++◌, length, Option, Some, None, Result}
 use Rattle.std.proofs.Common.{Ok, Err, refl, ap, sym, subst, ◌∙◌}
 use Rattle.std.specs.Prelude.{if◌then◌else◌, IfSome, option_copied}
@@ -22,7 +22,7 @@ abbrev pub left : Option (List ℕ) → ℕ
 left None = 0
 left (Some rest) = length rest + 1
 
--- what lines decide that stand behind lines which told these
+-- what lines decide that follow those that said `earlier`
 unfoldable pub outcome : Purpose → List Told → List Line → Result Scenario ℕ
 outcome purpose earlier lines = decided (first_fault earlier lines) (completed purpose (earlier ++ told_in lines))
 
@@ -50,7 +50,7 @@ outcome-told : (purpose : Purpose) (earlier : List Told) (number : ℕ) (told : 
 unfolding outcome first_fault told_in
 outcome-told purpose earlier number told lines h = rw (h, append_assoc) refl
 
--- what a line does: it is at fault with its number, or lines that told more lead to the values after it
+-- what a line does: it is faulty, with its number, or the draft after it is that of further lines
 abbrev Step : Purpose → List Told → Option Draft → ℕ → List Line → List Line → Type 0
 Step purpose earlier None number lines rest = outcome purpose earlier lines ≡ Err number
 Step purpose earlier (Some new) number lines rest = (later : List Told) × (new ≡ draft_of later) × (outcome purpose earlier lines ≡ outcome purpose later rest)
@@ -86,7 +86,7 @@ unfolding with_line lines_from
 step purpose earlier number line rest = step-line purpose earlier number (lines_from purpose (number + 1) rest) (is_skipped line)
     (line_told purpose line)
 
--- the same of a line that is taken, and of one that is at fault
+-- the same for a line that is taken, and for one that is faulty
 pub step-taken : (purpose : Purpose) (earlier : List Told) (number : ℕ) (line : List ℕ) (rest : List (List ℕ)) (new : Draft)
     → with_line purpose (draft_of earlier) line ≡ Some new
     → (later : List Told) × (new ≡ draft_of later) × (outcome purpose earlier (lines_from purpose number (line ∷ rest)) ≡ outcome purpose later
@@ -102,7 +102,7 @@ step-refused purpose earlier number line rest e =
     subst (λ o. Step purpose earlier o number (lines_from purpose number (line ∷ rest)) (lines_from purpose (number + 1) rest)) e
     (step purpose earlier number line rest)
 
--- the values so far, and what the lines that are left decide: that is what all lines decide
+-- the values so far, and that the remaining lines decide what all lines decide
 abbrev pub Sofar : (purpose : Purpose) → Draft → ℕ → List (List ℕ) → Result Scenario ℕ → Type 0
 Sofar purpose draft number lines all = (earlier : List Told) × (draft ≡ draft_of earlier)
     × (outcome purpose earlier (lines_from purpose number lines) ≡ all)
@@ -131,7 +131,7 @@ module _ (purpose : Purpose) (draft : Draft) (number : ℕ) (all : Result Scenar
       ∙ (ap (λ (ls : List (List ℕ)). outcome purpose told.0 (lines_from purpose number ls)) cut
       ∙ step-refused purpose told.0 number line rest (ap (λ (d : Draft). with_line purpose d line) (sym told.1) ∙ h))
 
--- a rest that is shorter
+-- a shorter rest
 pub left-shorter : (rest : Option (Bor (List ℕ))) (n : ℕ) → IfSome rest (λ r. length r.now < n) → left (option_copied rest) ≤ n
 left-shorter None n h = omega arith
 left-shorter (Some r) n h = omega (arith, h)

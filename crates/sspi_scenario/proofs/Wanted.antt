@@ -1,4 +1,4 @@
--- A value that changes something is one that its key has.
+-- A value that makes a change is one that its key accepts.
 use Rattle.std.proofs.Common.{◌≡◌, Option, Some, None, true, refl, sym, ap}
 use Rattle.std.specs.Prelude.{is_some}
 use Rattle.std.specs.Option.{option_map}

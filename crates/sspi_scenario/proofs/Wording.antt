@@ -1,4 +1,4 @@
--- Which value a word is.
+-- Which value a word means.
 use Rattle.std.proofs.Common.{◌≡◌, ℕ, List, false, Some, None, refl}
 use Rattle.std.specs.Prelude.{codes}
 use Rattle.std.specs.Str.{bytes_eq}

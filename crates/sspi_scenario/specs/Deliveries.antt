@@ -6,7 +6,7 @@ use Rattle.sspi_scenario.specs.Lines.{before_space, after_space}
 use Rattle.sspi_scenario.specs.Optional.{◌>>=◌}
 use Rattle.sspi_scenario.specs.Words.{end_of}
 
--- its end, and behind a space what is delivered; where that is nothing the space may be missing
+-- its end, a space, and what is delivered; if that is nothing, the space may be missing
 unfoldable pub delivery_of : List ℕ → Option Delivery
 delivery_of value = do
   end ← end_of (before_space value)

@@ -16,7 +16,7 @@ use Rattle.sspi_scenario.specs.Lines.{before_space, is_skipped, lines_of}
 use Rattle.sspi_scenario.specs.Purposes.{key_for}
 use Rattle.sspi_scenario.specs.Scenario.{values_of, completed_by, decided, scenario_of_lines}
 
--- keys with one more, each once
+-- these keys and one more, each once
 abbrev pub noted : List Key → Key → List Key
 noted keys k = if has keys k then keys else keys ++ k ∷ []
 
@@ -30,31 +30,31 @@ with_told draft (Some told) =
     if is_excluded draft.seen told.key then None
     else Some (record { values = told.change draft.values; seen = noted draft.seen told.key })
 
--- the draft after one more line, or none where the line is at fault
+-- the draft after one more line, or none if the line is faulty
 unfoldable pub with_line : Purpose → Draft → List ℕ → Option Draft
 with_line purpose draft line = if is_skipped line then Some draft
     else with_told draft (line_told purpose line)
 
--- the line asks for memory: it is not skipped, has a key of the purpose, and that key stands
--- against none before it
+-- the line needs memory: it is not skipped, and its key belongs to the purpose and is not excluded
+-- by an earlier one
 pub record AsksMemory (purpose : Purpose) (draft : Draft) (line : List ℕ) : Type 0 where
   pub key : Key
   pub told : is_skipped line ≡ false
   pub named : key_for purpose (before_space line) ≡ Some key
   pub free : is_excluded draft.seen key ≡ false
 
--- the line is taken exactly so; a fault exactly where it is at fault; there is no memory only where
--- it asks for some
+-- the line is taken exactly so; `Fault` exactly if it is faulty; out of memory only if it needs
+-- memory
 abbrev pub Takes : Purpose → Draft → Draft → List ℕ → Result (Unit {0}) LineError → Type 0
 Takes purpose old new text (Ok done) = with_line purpose old text ≡ Some new
 Takes purpose old new text (Err line.Fault) = with_line purpose old text ≡ None
 Takes purpose old new text (Err line.InsufficientMemory) = AsksMemory purpose old text
 
--- the scenario of the draft for this, or none where a key is missing that it is to have
+-- the draft's scenario for this purpose, or none if a key that it must have is missing
 abbrev pub draft_completed : Purpose → Draft → Option Scenario
 draft_completed purpose draft = completed_by purpose draft.seen draft.values
 
--- exactly that scenario; line 0 exactly where there is none; out of memory is free
+-- exactly that scenario; line 0 exactly if there is none; out of memory is unconstrained
 abbrev pub Completes : Result Scenario ScenarioError → Option Scenario → Type 0
 Completes (Ok scenario) found = found ≡ Some scenario
 Completes (Err (error.Line number)) found = (found ≡ None) × (number ≡ 0)

@@ -1,4 +1,4 @@
--- The edit that a value tells.
+-- The edit that a value describes.
 use Rattle.std.specs.Prelude.{ℕ, List, Option, Some, None, codes, if◌then◌else◌}
 use Rattle.std.specs.Str.{bytes_eq}
 use Rattle.sspi_delegate.specs.declared.edit.Edit.{Edit}
@@ -16,7 +16,7 @@ kind_alone word =
     else if bytes_eq word (codes "fail") then Some edit.Fail
     else None
 
--- a number, and a byte behind a space
+-- a number, a space, and a byte in hex
 unfoldable pub set_of : List ℕ → Option EditKind
 set_of argument = do
   parts ← parted argument
@@ -44,7 +44,7 @@ give_of argument = do
   bytes ← hex_of argument
   Some (edit.Give bytes)
 
--- the others have an argument behind a space
+-- the others have an argument after a space
 unfoldable pub kind_by_number : List ℕ → List ℕ → Option EditKind
 kind_by_number word argument =
     if bytes_eq word (codes "cut") then cut_of argument

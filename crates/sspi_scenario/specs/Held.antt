@@ -1,4 +1,4 @@
--- What the values of each scenario hold.
+-- What holds of the values of every scenario.
 use Rattle.std.specs.Prelude.{◌≡◌, ℕ, ◌^◌, ◌<◌, List, length, Option, IfSome}
 use Rattle.std.specs.Str.{IsUtf8}
 use Rattle.sspi_names.specs.Name.{Name, IsName}

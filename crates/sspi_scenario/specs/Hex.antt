@@ -8,10 +8,10 @@ use Rattle.hex.specs.Hex.{decode_of, decode_sized}
 unfoldable pub hex_of : List ℕ → Option (List ℕ)
 hex_of text = result_ok (decode_of text)
 
--- the same where they shall be so many bytes
+-- the same, if there are exactly `size` bytes
 unfoldable pub hex_of_size : ℕ → List ℕ → Option (List ℕ)
 hex_of_size size text = result_ok (decode_sized text size)
 
--- the same of one byte
+-- the same for a single byte
 abbrev pub hex_byte_of : List ℕ → Option ℕ
 hex_byte_of text = option_map (λ bytes. slice_index bytes 0) (hex_of_size 1 text)

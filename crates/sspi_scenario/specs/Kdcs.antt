@@ -1,4 +1,4 @@
--- An entry of the table of KDCs.
+-- An entry of the KDC table.
 use Rattle.std.specs.Prelude.{ℕ, List, Option, Some}
 use Rattle.sspi_names.specs.declared.kdc_table.KdcEntry.{KdcEntry}
 use Rattle.sspi_scenario.specs.Optional.{◌>>=◌}

@@ -8,7 +8,7 @@ is_line_feed b = b == 10
 abbrev pub is_space : ℕ → Bool
 is_space b = b == 32
 
--- the parts between the LFs; a text that ends with one has an empty last line, which tells nothing
+-- the parts between LFs; a text that ends with LF has an empty last line, which says nothing
 abbrev pub lines_of : List ℕ → List (List ℕ)
 lines_of text = slice_split is_line_feed text
 
@@ -17,7 +17,7 @@ abbrev pub is_skipped : List ℕ → Bool
 is_skipped [] = true
 is_skipped (b ∷ line) = b == 35
 
--- what stands before the first space, all where there is none, and what stands after it
+-- what precedes the first space, or all if there is none, and what follows it
 unfoldable pub before_space : List ℕ → List ℕ
 before_space text = before_first is_space text
 

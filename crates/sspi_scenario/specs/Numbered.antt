@@ -1,4 +1,4 @@
--- The scenario of a number, as a program makes it that tries many.
+-- The scenario of a number, as made by a program that tries many.
 use Rattle.std.specs.Prelude.{ℕ, ◌/◌, ◌%◌, ◌==◌, ◌||◌, Bool, List, [], ◌∷◌, ◌++◌, Some, codes}
 use Rattle.std.specs.Prelude.{replicate, if◌then◌else◌}
 use Rattle.std.specs.Fmt.{decimal}
@@ -14,7 +14,7 @@ use Rattle.sspi_scenario.specs.Scenario.{defaults, own_identity}
 abbrev pub mode_at : ℕ → Mode
 mode_at i = if i % 2 == 0 then Ntlm else Negotiate
 
--- two of every four have version 4, at both ends, which then take no less
+-- two of every four have version 4 at both ends, which then accept nothing lower
 abbrev pub is_old : ℕ → Bool
 is_old i = (i / 2) % 2 == 1
 
@@ -35,7 +35,7 @@ password_at i = codes "p" ++ decimal i
 abbrev pub key_at : ℕ → List ℕ
 key_at i = replicate 40 (i % 256)
 
--- the scenario of two ends that have all this in common, and else the defaults
+-- the scenario of two ends that have all this in common, with defaults for the rest
 abbrev pub usual : Mode → ℕ → ℕ → Name → List ℕ → List ℕ → Scenario
 usual mode version least user password key = record defaults.scenario {
   mode = mode;
@@ -65,11 +65,11 @@ with_kerberos s = record s {
   ticket = Some (replicate 32 0);
 }
 
--- the server knows the user by another password
+-- the server knows the user with another password
 abbrev pub with_other_password : Scenario → Scenario
 with_other_password s = record s { account = own_identity s.user (codes "other") ∷ [] }
 
--- what stands in the way, and what is begun with, by the remainder of the number by eight
+-- what hinders the ends, and the mechanism they begin with, by the number modulo eight
 abbrev pub set_apart : ℕ → Scenario → Scenario
 set_apart remainder s =
     if remainder == 3 || remainder == 7 then with_loss s

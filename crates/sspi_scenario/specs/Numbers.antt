@@ -11,7 +11,7 @@ is_decimal [] = false
 is_decimal (digit ∷ []) = is_ascii_digit digit
 is_decimal (digit ∷ next ∷ more) = not (digit == 48) && all_ascii_digits (digit ∷ next ∷ more)
 
--- the number that a text is, if it is one of 32 bits
+-- the number that a text is, if it is a decimal number of 32 bits
 unfoldable pub number_of : List ℕ → Option ℕ
 number_of text = if is_decimal text && nat_le (digits_value 10 text) 4294967295
     then Some (digits_value 10 text) else None

@@ -1,4 +1,4 @@
--- The value of a text that is judged in steps: none as soon as one of them has none.
+-- The value of a text that is read in steps: none as soon as one step gives none.
 use Rattle.std.specs.Prelude.{Option, Some, None}
 
 infixl 10 ◌>>=◌

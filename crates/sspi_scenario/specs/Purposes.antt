@@ -8,10 +8,9 @@ use Rattle.sspi_scenario.specs.declared.purpose.Purpose.TheVariants.{Sessions, S
 use Rattle.sspi_scenario.specs.Keys.{has, key_named}
 use Rattle.sspi_scenario.specs.Optional.{◌>>=◌}
 
--- a play alone has deliveries, and neither a limit of turns nor a link that changes messages; the
--- sessions of a desk have no such link either; a policy that admits users has only what tells an
--- early result; one end over a channel has neither such a link nor deliveries, and no call of its
--- proxy fails
+-- only a play has deliveries, and it has neither a turn limit nor a link that changes messages; the
+-- sessions of a desk have no such link either; only what reports an early result has a policy that
+-- admits users; one end over a channel has no such link, no deliveries and no failing proxy calls
 abbrev pub takes : Purpose → Key → Bool
 takes Exchange key.Deliver = false
 takes Exchange key.Admit = false
@@ -30,8 +29,8 @@ takes Connect key.Deliver = false
 takes Connect key.ProxyFail = false
 takes purpose other = true
 
--- whether the random value of an end over a channel is told: the challenge of a server, the nonce
--- of a client
+-- whether an end over a channel is given its random value: the challenge of a server, the nonce of
+-- a client
 abbrev pub has_random : Purpose → List Key → Bool
 has_random Exchange keys = true
 has_random Play keys = true
@@ -40,7 +39,7 @@ has_random Sessions keys = true
 has_random Serve keys = has keys key.Challenge
 has_random Connect keys = has keys key.Nonce
 
--- the key of this name, where a scenario for this may have it
+-- the key of this name, if a scenario for this purpose may have it
 unfoldable pub key_for : Purpose → List ℕ → Option Key
 key_for purpose name = do
   k ← key_named name

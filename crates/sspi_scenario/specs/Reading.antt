@@ -8,11 +8,11 @@ use Rattle.sspi_scenario.specs.declared.reading.TextError.{TextError}
 use Rattle.sspi_scenario.specs.declared.reading.TextError.TheVariants.{TooLong, Failed}
 use Rattle.sspi_scenario.specs.declared.reading.TextError.TheVariants.{InsufficientMemory}
 
--- the text of a scenario has at most so many bytes, 1 MiB
+-- the most bytes that the text of a scenario may have, 1 MiB
 abbrev pub text_limit : ℕ
 text_limit = 1048576
 
--- where a source tells what it has left, its text is all of that, or that is longer than the limit
+-- if a source exposes what it has left: the text is all of that, or that is longer than the limit
 abbrev pub ReadsText : ℕ → Option (List ℕ) → Result (Vec ℕ) TextError → Type 0
 ReadsText limit None result = Unit {0}
 ReadsText limit (Some bytes) (Ok text) = (text.items ≡ bytes) × (length bytes ≤ limit)
@@ -20,33 +20,32 @@ ReadsText limit (Some bytes) (Err TooLong) = limit < length bytes
 ReadsText limit (Some bytes) (Err Failed) = Unit {0}
 ReadsText limit (Some bytes) (Err InsufficientMemory) = Unit {0}
 
--- at most so many bytes were taken of what was left
+-- at most `most` bytes were taken of what was left
 pub record TakesAtMost (most : ℕ) (before after : Option (List ℕ)) : Type 0 where
   pub taken : List ℕ
   pub consumed : Consumes before after taken
   pub short : length taken ≤ most
 
--- just so many bytes were taken of what was left
+-- exactly `count` bytes were taken of what was left
 pub record TakesJust (count : ℕ) (before after : Option (List ℕ)) : Type 0 where
   pub taken : List ℕ
   pub consumed : Consumes before after taken
   pub counted : length taken ≡ count
 
--- the source is at its end; or the first byte past the longest text was taken of it, and none after
--- that
+-- the source is at its end; or the first byte past the limit was taken from it, and none after that
 abbrev pub IsReadWhole : ℕ → Option (List ℕ) → Option (List ℕ) → Type 0
 IsReadWhole limit before after = IsAtEnd after ⊎ TakesJust (limit + 1) before after
 
--- how far a source is read: to its end for its text, and to the first byte past the limit where it
--- is too long
+-- how far a source is read: to its end for a text, and to the first byte past the limit if it is
+-- too long
 abbrev pub ReadsSoFar : ℕ → Option (List ℕ) → Option (List ℕ) → Result (Vec ℕ) TextError → Type 0
 ReadsSoFar limit before after (Ok text) = Consumes before after text.items × IsAtEnd after
 ReadsSoFar limit before after (Err TooLong) = TakesJust (limit + 1) before after
 ReadsSoFar limit before after (Err Failed) = Unit {0}
 ReadsSoFar limit before after (Err InsufficientMemory) = Unit {0}
 
--- what reading says of the source's count of faults: a failure has it rise, and at any other answer
--- no call failed
+-- what reading says of the source's count of faults: it rises at a failure, and is unchanged at any
+-- other result
 abbrev pub TextCause : ℕ → ℕ → Result (Vec ℕ) TextError → Type 0
 TextCause before now (Ok text) = now ≡ before
 TextCause before now (Err TooLong) = now ≡ before

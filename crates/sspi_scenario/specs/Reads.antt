@@ -12,36 +12,36 @@ use Rattle.sspi_scenario.specs.declared.values.Values.{Values}
 use Rattle.hex.specs.declared.error.FromHexError.{FromHexError}
 use Rattle.hex.specs.declared.error.FromHexError.TheVariants.{OutOfMemory}
 
--- exactly the value that there is; a fault exactly where there is none; out of memory is free
+-- exactly the value found; `Fault` exactly if there is none; out of memory is unconstrained
 abbrev pub Reads : {T : Type 0} → Result T LineError → Option T → Type 0
 Reads (Ok value) found = found ≡ Some value
 Reads (Err Fault) found = found ≡ None
 Reads (Err InsufficientMemory) found = Unit {0}
 
--- the same of what a value makes of the values before
+-- the same for how a value changes the earlier values
 abbrev pub Puts : Values → Values → Result (Unit {0}) LineError → Option (Values → Values) → Type 0
 Puts old new (Ok done) change = option_map (λ c. c old) change ≡ Some new
 Puts old new (Err Fault) change = change ≡ None
 Puts old new (Err InsufficientMemory) change = Unit {0}
 
--- one more element, exactly the one that there is; a fault exactly where there is none
+-- one more element, exactly the one found; `Fault` exactly if there is none
 abbrev pub Adds : {T : Type 0} → List T → List T → Result (Unit {0}) LineError → Option T → Type 0
 Adds old new (Ok done) found = option_map (λ x. old ++ x ∷ []) found ≡ Some new
 Adds old new (Err Fault) found = found ≡ None
 Adds old new (Err InsufficientMemory) found = Unit {0}
 
--- the first key of some with names that has this one
+-- the first key in these rows that has this name
 abbrev pub first_named : List ℕ → List (Key × Bor (List ℕ)) → Option Key
 first_named name [] = None
 first_named name (row ∷ rows) = if bytes_eq name row.1.now then Some row.0
     else first_named name rows
 
--- the lines of what is left of a text, if anything is
+-- the lines of the rest of a text, if there is a rest
 abbrev pub lines_after : Option (List ℕ) → List (List ℕ)
 lines_after None = []
 lines_after (Some rest) = lines_of rest
 
--- what the refusal of a decoding is for a line
+-- the error of a line whose hex is refused
 abbrev pub hex_refusal : FromHexError → LineError
 hex_refusal OutOfMemory = InsufficientMemory
 hex_refusal other = Fault

@@ -1,4 +1,4 @@
--- Why a text is no scenario, in words.
+-- Why a text is not a scenario, in words.
 use Rattle.std.specs.Prelude.{ℕ, ◌-◌, ◌==◌, ◌&&◌, nat_le, not, Bool, true, false, List, [], ◌∷◌}
 use Rattle.std.specs.Prelude.{◌++◌, length, codes, decimal}
 use Rattle.std.specs.Prelude.{Option, Some, None, Result, Ok, Err, if◌then◌else◌}
@@ -65,7 +65,7 @@ is_shown other = false
 abbrev pub is_plain_byte : ℕ → Bool
 is_plain_byte byte = nat_le 32 byte && nat_le byte 126
 
--- short and of printable ASCII alone
+-- short, and only printable ASCII
 abbrev pub is_plain : List ℕ → Bool
 is_plain value = nat_le (length value) 40 && list_all is_plain_byte value
 
@@ -81,7 +81,7 @@ abbrev pub is_there : {A : Type 0} → Option A → Bool
 is_there None = false
 is_there (Some x) = true
 
--- a value is as the grammar of its key wants it
+-- a value fits the grammar of its key
 abbrev pub value_is_good : Key → List ℕ → Bool
 value_is_good k value = is_there ((row k).value value)
 
@@ -111,7 +111,7 @@ numbered_text purpose number text =
 
 -- ---- the whole text
 
--- a line begins with this key
+-- some line has this key
 abbrev pub names_key : List (List ℕ) → List ℕ → Bool
 names_key lines name = list_any (λ line. bytes_eq (before_space line) name) lines
 
@@ -130,7 +130,7 @@ whole_text text =
     then (if is_utf8 text then missing_text text else codes "text: not UTF-8")
     else codes "text: more than 1048576 bytes"
 
--- the number of the line that is to blame, 0 where none is; none of a scenario
+-- the number of the line to blame, 0 if there is none; `None` for a scenario
 abbrev pub fault_line : Result Scenario ℕ → Option ℕ
 fault_line (Ok scenario) = None
 fault_line (Err number) = Some number
@@ -143,6 +143,6 @@ abbrev pub reason_by : Purpose → List ℕ → Option ℕ → List ℕ
 reason_by purpose text None = []
 reason_by purpose text (Some number) = refusal_text purpose text number
 
--- why a text is no scenario for this, or nothing where it is one
+-- why a text is not a scenario for this purpose; empty if it is one
 unfoldable pub reason_text : Purpose → List ℕ → List ℕ
 reason_text purpose text = reason_by purpose text (fault_line (scenario_of purpose text))

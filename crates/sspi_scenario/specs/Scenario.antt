@@ -23,21 +23,21 @@ use Rattle.sspi_scenario.specs.Lines.{lines_of}
 use Rattle.sspi_scenario.specs.Purposes.{has_random}
 use Rattle.sspi_scenario.specs.Reading.{text_limit}
 
--- no longer than a text may be, and UTF-8
+-- within the length limit, and UTF-8
 abbrev pub is_readable : List ℕ → Bool
 is_readable text = nat_le (length text) text_limit && is_utf8 text
 
 abbrev pub own_identity : Name → List ℕ → AuthIdentity
 own_identity name secret = record { username = name; password = record { value = secret } }
 
--- the proxy's table: the accounts that are told; where none is, the user's own, or none
+-- the proxy's table: the accounts that lines give; if there are none, the user's own, or nothing
 abbrev pub proxy_table : List AuthIdentity → Accounts → AuthIdentity → List AuthIdentity
 proxy_table [] accounts.Own own = own ∷ []
 proxy_table [] accounts.None own = []
 proxy_table (told ∷ more) word own = told ∷ more
 
--- the values of a text without a line; the user, the password and the keys are told, or stand for
--- what is
+-- the values of a text without lines; those of the user, the password and the keys never reach a
+-- scenario
 abbrev pub defaults : Values
 defaults = record {
   scenario = record {
@@ -75,12 +75,12 @@ defaults = record {
   accounts = accounts.Own;
 }
 
--- the values that lines tell, one after the other
+-- the values that lines give, one after the other
 unfoldable pub values_of : List Told → Values
 values_of lines = fold (λ values told. told.change values) defaults lines
 
--- the scenario of the values of lines with these keys; the server's key is the client's where no
--- line tells it
+-- the scenario of the values of lines with these keys; the server's key is the client's if no line
+-- gives it
 abbrev pub finished : List Key → Values → Scenario
 finished keys values = record values.scenario {
   server_key = if has keys key.ServerKey then values.scenario.server_key else values.scenario.key;
@@ -88,16 +88,16 @@ finished keys values = record values.scenario {
       (own_identity values.scenario.user values.scenario.password);
 }
 
--- the same where all keys are there that a scenario for this is to have
+-- the same, if all keys are there that a scenario for this purpose must have
 abbrev pub completed_by : Purpose → List Key → Values → Option Scenario
 completed_by purpose keys values = if has_required keys && has_random purpose keys
     then Some (finished keys values) else None
 
--- the scenario of the lines of a text without a faulty one, or none where a required key is missing
+-- the scenario of lines without a faulty one, or none if a required key is missing
 unfoldable pub completed : Purpose → List Told → Option Scenario
 completed purpose lines = completed_by purpose (keys_of lines) (values_of lines)
 
--- the first faulty line decides; a missing key is found where there is none
+-- the first faulty line decides; a missing key counts only if there is none
 abbrev pub decided : Option ℕ → Option Scenario → Result Scenario ℕ
 decided (Some number) scenario = Err number
 decided None (Some scenario) = Ok scenario
@@ -106,15 +106,15 @@ decided None None = Err 0
 unfoldable pub scenario_of_lines : Purpose → List Line → Result Scenario ℕ
 scenario_of_lines purpose lines = decided (first_fault [] lines) (completed purpose (told_in lines))
 
--- the scenario that a text is for this, or the number of its first faulty line, from 1; 0 where no
+-- the scenario of a text for this purpose, or the number of its first faulty line, from 1; 0 if no
 -- line is to blame
 unfoldable pub scenario_of : Purpose → List ℕ → Result Scenario ℕ
 scenario_of purpose text =
     if is_readable text then scenario_of_lines purpose (lines_from purpose 1 (lines_of text))
     else Err 0
 
--- a text gives its scenario, or is refused at the line that its scenario names; out of memory is
--- free
+-- a text gives its scenario, or is refused at the line that `scenario_of` names; out of memory is
+-- unconstrained
 abbrev pub Parses : Purpose → List ℕ → Result Scenario ScenarioError → Type 0
 Parses purpose text (Ok scenario) = scenario_of purpose text ≡ Ok scenario
 Parses purpose text (Err (error.Line number)) = scenario_of purpose text ≡ Err number

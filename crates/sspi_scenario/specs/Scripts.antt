@@ -1,4 +1,4 @@
--- How a KDC answers one of its calls, as a value tells it.
+-- How a KDC answers one of its calls, as a value says.
 use Rattle.std.specs.Prelude.{ℕ, List, Option, Some, None, nat_le, codes, if◌then◌else◌}
 use Rattle.std.specs.Str.{bytes_eq}
 use Rattle.sspi_mech.specs.declared.plain_kdc.Scripted.{Scripted}
@@ -16,7 +16,7 @@ numbered_code digits = do
   n ← number_of digits
   code_at n
 
--- the number behind the word `code`
+-- the number after the word `code`
 unfoldable pub code_in : List ℕ → List ℕ → Option Scripted
 code_in word digits = if bytes_eq word (codes "code") then numbered_code digits else None
 

@@ -1,5 +1,5 @@
--- The table of keys: each has one row, with its name, whether it may stand again, and what a value
--- of it tells.
+-- The table of keys: each has one row, with its name, whether it may be repeated, and what its
+-- values mean.
 use Rattle.std.specs.Prelude.{ℕ, Bool, true, false, List, [], ◌∷◌, ◌++◌, Option, Some, codes}
 use Rattle.std.specs.Option.{option_map}
 use Rattle.sspi_names.specs.Name.{parse_name}
@@ -16,21 +16,21 @@ use Rattle.sspi_scenario.specs.Numbers.{number_of}
 use Rattle.sspi_scenario.specs.Scripts.{scripted_of}
 use Rattle.sspi_scenario.specs.Words.{mode_of, package_of, delegation_of, accounts_of}
 
--- value: what a value makes of the values of the lines before, or none where it is against the
--- key's grammar
+-- value: how a value changes the values of the earlier lines, or none if it violates the key's
+-- grammar
 pub record Row : Type 0 where
   pub name : List ℕ
   pub repeats : Bool
   pub value : List ℕ → Option (Values → Values)
 
--- a key that stands at most once, and one that may stand again
+-- a key that may occur once, and one that may be repeated
 abbrev pub once : List ℕ → (List ℕ → Option (Values → Values)) → Row
 once name value = record { name = name; repeats = false; value = value }
 
 abbrev pub again : List ℕ → (List ℕ → Option (Values → Values)) → Row
 again name value = record { name = name; repeats = true; value = value }
 
--- what a grammar makes of a value, in its place in the scenario
+-- what a grammar makes of a value, put in its place in the scenario
 abbrev pub tells : {A : Type 0} → (List ℕ → Option A) → (A → Scenario → Scenario) → List ℕ →
     Option (Values → Values)
 tells grammar place text = option_map (λ x values.
@@ -92,7 +92,7 @@ row key.ServerLeast = once (codes "server-least")
 row key.Admit = again (codes "admit") (tells parse_name
     (λ x s. record s { admit = s.admit ++ x ∷ [] }))
 
--- the keys that there are
+-- all keys
 abbrev pub all_keys : List Key
 all_keys =
     key.Mode ∷ key.User ∷ key.Password ∷ key.Key ∷ key.ServerKey ∷ key.ClientVersion ∷

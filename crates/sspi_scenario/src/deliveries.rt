@@ -10,8 +10,8 @@ use crate::words::end_named;
 use sspi_play::Delivery;
 use std::alloc::Global;
 
-/// The delivery of a text: its end, a space, and in hex what is delivered. Where that is nothing
-/// the space may be missing.
+/// The delivery of a text: its end, a space, and what is delivered, in hex. If nothing is
+/// delivered, the space may be missing.
 #[tactic(auto, unfolding(crate::specs::Deliveries::delivery_of))]
 pub fn delivery(alloc: Global, text: &str) -> Result<Delivery, LineError>
     ensures { Reads result (delivery_of text.now) }

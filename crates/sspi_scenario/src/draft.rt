@@ -1,4 +1,4 @@
-//! What the lines read so far tell.
+//! What the lines read so far say.
 
 ghost use Rattle.std.specs.Prelude.{◌≡◌, [], IfOk, OnOk};
 ghost use Rattle.sspi_scenario.specs.Drafts.{draft_of, Takes, Completes, draft_completed, noted};
@@ -12,7 +12,7 @@ use crate::values::{Values, given_up};
 use sspi_types::Rows;
 use std::alloc::{AllocError, Global};
 
-/// What the lines so far tell.
+/// What the lines so far say.
 #[derive(Drop)]
 pub struct Draft {
     values: Values,
@@ -35,8 +35,8 @@ impl Draft {
         }
     }
 
-    /// Takes one line of a scenario for this. `Fault` where it is none, or stands against those
-    /// before it; `InsufficientMemory` where there is none for it.
+    /// Takes one line of a scenario for this purpose. `Fault` if it is no such line, or if earlier
+    /// lines exclude it; `InsufficientMemory` if memory runs out.
     pub fn take_line(
         &mut self,
         alloc: Global,
@@ -60,7 +60,7 @@ impl Draft {
         Ok(())
     }
 
-    /// The scenario of these lines, for this.
+    /// The scenario of these lines, for this purpose.
     pub fn complete(self, alloc: Global, purpose: Purpose) -> Result<Scenario, ScenarioError>
         ensures { Completes result (draft_completed purpose self) }
     {
@@ -73,7 +73,7 @@ impl Draft {
     }
 }
 
-/// Adds a key, unless it is there.
+/// Adds a key, unless it is already there.
 fn note(seen: &mut Rows<Key>, key: Key) -> Result<(), AllocError>
     ensures { OnOk result (seen.new ≡ noted seen.old key) }
 {

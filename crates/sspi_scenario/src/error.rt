@@ -1,12 +1,12 @@
-//! Why a line or a value is none of a scenario.
+//! Why a line or a value of a scenario is refused.
 
 use hex::FromHexError;
 use std::alloc::AllocError;
 
-/// Why a line, or a value, is none of a scenario.
+/// Why a line or a value of a scenario is refused.
 #[derive(Clone, Copy, Debug, PartialEq, Eq)]
 pub enum LineError {
-    /// It is against the format.
+    /// It violates the format.
     Fault,
     InsufficientMemory,
 }

@@ -8,7 +8,7 @@ use crate::error::LineError;
 use sspi_types::Bytes;
 use std::alloc::Global;
 
-/// The bytes that a text of hex digits encodes, in either case.
+/// The bytes that a text of hex digits encodes, in upper or lower case.
 pub fn bytes(alloc: Global, text: &str) -> Result<Bytes, LineError>
     ensures { Reads result (hex_of text.now) }
 {

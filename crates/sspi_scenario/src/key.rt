@@ -85,14 +85,14 @@ impl Key {
         named(name, &NAMES)
     }
 
-    /// Whether these two are one.
+    /// Whether these two keys are the same.
     pub fn is(self, other: Key) -> bool
         ensures { result ≡ Keys.is_same self other }
     {
         self == other
     }
 
-    /// Whether a line of this key allows no later line of that one.
+    /// Whether a line with this key excludes a later line with the other.
     pub fn excludes(self, later: Key) -> bool
         ensures { result ≡ Keys.excludes self later }
     {
@@ -102,7 +102,7 @@ impl Key {
         }
     }
 
-    /// Whether a key may stand again.
+    /// Whether a key may be repeated.
     fn repeats(self) -> bool
         ensures { result ≡ (row self).repeats }
     {
@@ -120,7 +120,7 @@ impl Key {
     }
 }
 
-/// The first key of these that has this name.
+/// The first of these keys that has this name.
 fn named(name: &str, rows: &[(Key, &str)]) -> Option<Key>
     ensures { result ≡ first_named name.now rows.now }
 {
@@ -139,14 +139,14 @@ pub fn has(keys: &[Key], key: Key) -> bool
     keys.iter().any(|earlier| earlier.is(key))
 }
 
-/// Whether these keys allow no later line of this one.
+/// Whether these keys exclude a later line with this one.
 pub fn is_excluded(keys: &[Key], key: Key) -> bool
     ensures { result ≡ Keys.is_excluded keys.now key }
 {
     keys.iter().any(|earlier| earlier.excludes(key))
 }
 
-/// Whether the keys that each scenario names are among these.
+/// Whether the keys that every scenario must have are among these.
 pub fn has_required(keys: &[Key]) -> bool
     ensures { result ≡ Keys.has_required keys.now }
 {

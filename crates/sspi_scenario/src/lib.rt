@@ -1,18 +1,18 @@
-//! Scenarios: the text that tells which two ends meet, over which link, and what a program does
-//! with them.
+//! Scenarios: texts that say which two ends meet, over which link, and what a program does with
+//! them.
 //!
-//! It is read line by line; LF separates lines, and behind the last one it may be left out. Every
-//! line has a number, also an empty one and one that begins with `#`, which say nothing else. Any
-//! other has a key, and what follows the first space in it is the value. `Scenario::parse` gives
-//! the scenario of a text, which is for an exchange or for a play, or the number of its first
-//! faulty line. `numbered` makes scenarios of numbers alone.
+//! It is read line by line. LF separates lines, and may be omitted after the last one. Every line
+//! is numbered, including empty lines and those that begin with `#`, which are otherwise ignored.
+//! Any other line has a key, and its value follows the first space. `Scenario::parse` returns the
+//! scenario of a text for a purpose, or the number of its first faulty line. `numbered` makes a
+//! scenario from a number alone.
 //!
-//! `specs/Table.antt` has the table of keys, a row for each, `specs/Keys.antt` which of them
-//! exclude each other, `specs/Purposes.antt` which of them a scenario may have, `specs/Faults.antt`
-//! which line is the first at fault, and `specs/Scenario.antt` the defaults and the scenario of a
-//! text. `reason` says in words why a text is no scenario. `laws` has what follows from these. A
-//! key is a variant of `Key` with its name, a row of `Values::put`, and a field of `Scenario` with
-//! its default; and in the definitions a row with its place among all keys, and the same default.
+//! `specs/Table.antt` has a row for each key, and `specs/Keys.antt` says which keys exclude each
+//! other. `specs/Purposes.antt` says which keys a scenario may have, and `specs/Faults.antt` which
+//! line is the first faulty one. `specs/Scenario.antt` has the defaults and the scenario of a text.
+//! `reason` says in words why a text is not a scenario. `laws` has what follows from these. A key
+//! is a named variant of `Key`, an arm of `Values::put`, and a field of `Scenario` with its
+//! default. In the definitions it is a row, an entry in `all_keys`, and the same default.
 #![tactic(auto)]
 
 mod deliveries;

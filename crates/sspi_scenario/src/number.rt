@@ -3,7 +3,7 @@
 ghost use Rattle.std.specs.Prelude.{◌≡◌};
 ghost use Rattle.sspi_scenario.specs.Numbers.{number_of};
 
-/// The number that a text of decimal digits is: without a sign or a leading zero, and below 2^32.
+/// The decimal number that a text is: without a sign or a leading zero, and below 2^32.
 pub fn number(text: &str) -> Option<u32>
     ensures { result ≡ number_of text.now }
 {

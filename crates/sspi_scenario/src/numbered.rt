@@ -1,5 +1,5 @@
-//! Scenarios that are told by a number alone: a sequence of exchanges that differ in how they
-//! authenticate, in their versions and in what stands in their way.
+//! Scenarios that are given by a number alone: a sequence of exchanges that differ in how they
+//! authenticate, in their versions and in what hinders them.
 
 ghost use Rattle.std.specs.Prelude.{◌≡◌, ◌∷◌, [], IfOk, OnOk};
 ghost use Rattle.sspi_scenario.specs.Held.{HoldsValues};
@@ -17,9 +17,9 @@ use std::alloc::{AllocError, Global};
 
 const KEY_LENGTH: usize = 40;
 
-/// The scenario of a number: the user, the password and the key are its own; how the ends
-/// authenticate, their versions and what stands in their way go by it with a period of eight. Fails
-/// only when out of memory.
+/// The scenario of a number. The user, password and key are derived from the number. How the ends
+/// authenticate, their versions and what hinders them repeat with a period of eight. Fails only
+/// when out of memory.
 pub fn numbered(alloc: Global, number: u32) -> Result<Scenario, AllocError>
     ensures scenario { IfOk result (λ scenario. scenario ≡ numbered number) }
     ensures holds { IfOk result HoldsValues }
@@ -32,7 +32,7 @@ pub fn numbered(alloc: Global, number: u32) -> Result<Scenario, AllocError>
     Ok(scenario)
 }
 
-/// Puts what the number tells in the place of the defaults.
+/// Replaces the defaults by what the number determines.
 fn tell(alloc: Global, number: u32, scenario: &mut Scenario) -> Result<(), AllocError>
     ensures { scenario.old ≡ defaults.scenario → OnOk result (scenario.new ≡ numbered number) }
 {
@@ -40,7 +40,7 @@ fn tell(alloc: Global, number: u32, scenario: &mut Scenario) -> Result<(), Alloc
     tell_apart(alloc, number % 8, scenario)
 }
 
-/// What each number tells.
+/// What every number determines.
 fn tell_usual(alloc: Global, number: u32, scenario: &mut Scenario) -> Result<(), AllocError>
     ensures { scenario.old ≡ defaults.scenario → OnOk result (scenario.new ≡ usual_at number) }
 {
@@ -74,7 +74,7 @@ fn tell_apart(alloc: Global, remainder: u32, scenario: &mut Scenario) -> Result<
     Ok(())
 }
 
-/// Both ends begin with Kerberos, and have what it takes.
+/// Both ends begin with Kerberos, and have what it needs.
 fn begin_with_kerberos(alloc: Global, scenario: &mut Scenario) -> Result<(), AllocError>
     ensures { OnOk result (scenario.new ≡ with_kerberos scenario.old) }
 {
@@ -104,7 +104,7 @@ fn version_at(number: u32) -> u32
     if (number / 2) % 2 == 1 { 4 } else { 6 }
 }
 
-/// The least version that each end takes of the other.
+/// The lowest version that each end accepts of the other.
 fn least_at(number: u32) -> u32
     ensures { result ≡ least_at number }
 {
@@ -138,7 +138,7 @@ fn key_at(alloc: Global, number: u32) -> Result<Bytes, AllocError>
     Ok(Bytes::from_vec(key))
 }
 
-/// A table that knows this user by this password.
+/// A table that knows this user with this password.
 fn known_by(
     alloc: Global,
     user: &Username,

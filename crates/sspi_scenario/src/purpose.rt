@@ -6,26 +6,26 @@ ghost use Rattle.sspi_scenario.specs.Purposes.{key_for};
 
 use crate::key::{Key, has};
 
-/// What a scenario is for, which says what keys it may have.
+/// What a scenario is for, which determines the keys that it may have.
 #[derive(Clone, Copy, Debug, PartialEq, Eq)]
 pub enum Purpose {
-    /// Its ends carry their messages to each other over a link.
+    /// Its ends exchange their messages over a link.
     Exchange,
-    /// Its ends take the deliveries of a schedule.
+    /// Its ends receive the deliveries of a schedule.
     Play,
-    /// Its ends carry their messages to each other over a link, and then its server tells who may
-    /// log on.
+    /// Its ends exchange their messages over a link, and then its server reports whether the user
+    /// may log on.
     Early,
-    /// Many of its clients are served at one desk, which delivers what was sent.
+    /// Many clients like its own are served at one desk, which delivers what was sent.
     Sessions,
-    /// Its server takes the credentials of a peer, over a channel.
+    /// Its server receives the credentials of a peer, over a channel.
     Serve,
     /// Its client delegates its credentials to a peer, over a channel.
     Connect,
 }
 
 impl Purpose {
-    /// The key of this name, where a scenario for this may have it.
+    /// The key of this name, if a scenario for this purpose may have it.
     #[tactic(auto, unfolding(crate::specs::Purposes::key_for))]
     pub fn key_named(self, name: &str) -> Option<Key>
         ensures { result ≡ key_for self name.now }
@@ -34,7 +34,7 @@ impl Purpose {
         if self.takes(key) { Some(key) } else { None }
     }
 
-    /// Whether a scenario for this may have a key.
+    /// Whether a scenario for this purpose may have a key.
     pub fn takes(self, key: Key) -> bool
         ensures { result ≡ Purposes.takes self key }
     {
@@ -49,7 +49,7 @@ impl Purpose {
         }
     }
 
-    /// Whether the random value of an end over a channel is told: zeros are known to everybody.
+    /// Whether an end over a channel is given its random value: zeros are known to everybody.
     pub fn has_random(self, keys: &[Key]) -> bool
         ensures { result ≡ Purposes.has_random self keys.now }
     {

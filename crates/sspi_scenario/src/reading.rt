@@ -1,4 +1,4 @@
-//! The whole text of a source, up to a limit.
+//! Reads the whole text of a source, up to a limit.
 ghost use Rattle.std.specs.Prelude.{◌≡◌, ◌+◌, ◌<◌, ◌≤◌, true, false, length, IfOk, MatchOption};
 ghost use Rattle.std.specs.Str.{is_utf8};
 ghost use Rattle.sspi_scenario.specs.Reading.{ReadsText, ReadsSoFar, TextCause, TakesAtMost};
@@ -7,7 +7,7 @@ use sspi_ber::Source;
 use std::alloc::Global;
 use std::str;
 
-/// The text of a scenario has at most so many bytes.
+/// The most bytes that the text of a scenario may have.
 pub const TEXT_LIMIT: usize = 1_048_576;
 
 const PIECE_LENGTH: usize = 1024;
@@ -22,12 +22,12 @@ pub enum TextError {
     InsufficientMemory,
 }
 
-/// All that is left of a source, which may be so many bytes: `TEXT_LIMIT` of a scenario.
+/// All that is left of a source, which may be at most `limit` bytes: `TEXT_LIMIT` for a scenario.
 ///
-/// `TooLong` where more are left, of which one past the limit is read and no more. `Failed` where a
-/// call on the source fails, and no failed call hides behind another answer: at each the count of
-/// faults is as it was. `InsufficientMemory` where there is none for the text. What was read is
-/// lost with a refusal: as many bytes as the limit, and one.
+/// `TooLong` if more are left; one byte past the limit is then read, and no more. `Failed` if a
+/// call on the source fails. At any other result no call failed: the count of faults is unchanged.
+/// `InsufficientMemory` if memory runs out for the text. A refusal loses what was read: at most
+/// `limit` bytes and one more.
 pub fn read_text<S: Source>(
     alloc: Global,
     limit: usize,
@@ -36,7 +36,7 @@ pub fn read_text<S: Source>(
     // What was read.
     ensures text { ReadsText limit (S.left source.old) result }
     ensures short { IfOk result (λ text. length text.items ≤ limit) }
-    // What was taken of the source, and why no more.
+    // What was taken from the source, and why no more.
     ensures taken { TakesAtMost (limit + 1) (S.left source.old) (S.left source.new) }
     ensures so_far { ReadsSoFar limit (S.left source.old) (S.left source.new) result }
     ensures cause { TextCause (S.faults source.old) (S.faults source.new) result }
@@ -58,7 +58,7 @@ pub fn read_text<S: Source>(
     Err(TextError::TooLong)
 }
 
-/// How many bytes are asked for, once so many were read: never more than one past the limit.
+/// How many bytes to ask for once `read` bytes were read: never more than one past the limit.
 fn most_at(limit: usize, read: usize) -> usize
     requires { read ≤ limit }
     ensures some { 0 < result }
@@ -68,7 +68,7 @@ fn most_at(limit: usize, read: usize) -> usize
     PIECE_LENGTH.min((limit - read).saturating_add(1))
 }
 
-/// The text that these bytes are, if they are UTF-8.
+/// These bytes as text, if they are UTF-8.
 pub fn text_of(bytes: &[u8]) -> Option<&str>
     ensures { MatchOption result (is_utf8 bytes.now ≡ false)
         (λ text. (text.now ≡ bytes.now) × (is_utf8 bytes.now ≡ true)) }

@@ -1,4 +1,4 @@
-//! Why a text is no scenario, in words for whoever writes it.
+//! Why a text is not a scenario, in words for its author.
 ghost use Rattle.std.specs.Prelude.{◌≡◌, ◌-◌, ◌++◌, None, string_bytes, IfOk, OnOk, option_copied};
 ghost use Rattle.std.specs.List.{list_all, slice_get};
 ghost use Rattle.sspi_scenario.specs.Lines.{lines_of};
@@ -19,17 +19,17 @@ use crate::scenario::{Scenario, ScenarioError};
 use crate::values::Values;
 use std::alloc::{AllocError, Global};
 
-/// So many bytes of a value are shown at most.
+/// The length of the longest value that is shown, in bytes.
 const SHOWN: usize = 40;
 
-/// Why this text is no scenario for this purpose, in words and without a line's end: what
-/// `Scenario::parse` refuses it for. Nothing where it is one.
+/// Why `Scenario::parse` refuses this text for this purpose, in words without a line end. Empty if
+/// the text is a scenario.
 ///
-/// It names the line, as `line 5: turns: no number from 0 to 4294967295 without leading zeros:
-/// "05"`; or the keys that are missing; or that the text is too long or is not UTF-8. A value is
-/// shown where its key takes a number or one of a few words, and only where it is short and of
-/// printable ASCII. No password, keytab or ticket is shown, nor a key that is unknown, which may be
-/// part of a password.
+/// It names the faulty line, as in `line 5: turns: no number from 0 to 4294967295 without leading
+/// zeros: "05"`. Or it says which of `mode`, `user`, `password` and `key` are missing, or that the
+/// text is too long or not UTF-8. A value is shown only if its key takes a number or one of a few
+/// words, and it is short and printable ASCII. No password, keytab or ticket is shown, nor an
+/// unknown key, which may be part of a password.
 #[tactic(auto, unfolding(crate::specs::Reasons::reason_text))]
 pub fn reason(alloc: Global, purpose: Purpose, text: &[u8]) -> Result<String, AllocError>
     ensures { IfOk result (λ told. string_bytes told ≡ reason_text purpose text.now) }
@@ -40,7 +40,7 @@ pub fn reason(alloc: Global, purpose: Purpose, text: &[u8]) -> Result<String, Al
     }
 }
 
-/// Why a text is refused at the line of this number, 0 where no line is to blame.
+/// Why a text is refused at the line of this number, which is 0 if no line is to blame.
 fn refusal_text(
     alloc: Global,
     purpose: Purpose,
@@ -56,7 +56,7 @@ fn refusal_text(
     }
 }
 
-/// The number of the first faulty line, 0 where none is to blame; none of a scenario.
+/// The number of the first faulty line, 0 if no line is to blame; `None` for a scenario.
 fn faulty_line(alloc: Global, purpose: Purpose, text: &[u8]) -> Result<Option<usize>, AllocError>
     ensures { IfOk result (λ line. line ≡ fault_line (scenario_of purpose text.now)) }
 {
@@ -67,14 +67,14 @@ fn faulty_line(alloc: Global, purpose: Purpose, text: &[u8]) -> Result<Option<us
     }
 }
 
-/// Generic, since to drop a value of a type parameter is one step.
+/// Generic, since dropping a value of a type parameter is a single step.
 fn none_beside<T: Drop>(_value: T) -> Option<usize>
     ensures { result ≡ None }
 {
     None
 }
 
-/// Why no line of a text is looked at, or which keys it lacks.
+/// Why no line of a text is examined, or which keys the text lacks.
 #[tactic(auto, unfolding(crate::specs::Reasons::whole_text))]
 fn whole_text(alloc: Global, text: &[u8]) -> Result<String, AllocError>
     ensures { IfOk result (λ told. string_bytes told ≡ whole_text text.now) }
@@ -88,7 +88,7 @@ fn whole_text(alloc: Global, text: &[u8]) -> Result<String, AllocError>
     }
 }
 
-/// The required keys that no line of a text names.
+/// Which of `mode`, `user`, `password` and `key` no line of a text names.
 #[tactic(auto, unfolding(crate::specs::Reasons::missing_text))]
 fn missing_text(alloc: Global, text: &str) -> Result<String, AllocError>
     ensures { IfOk result (λ told. string_bytes told ≡ missing_text text.now) }
@@ -128,7 +128,7 @@ fn names_key(text: &str, name: &str) -> bool
     false
 }
 
-/// What is wrong with the line of this number, from 1.
+/// What is wrong with the line of this number, counted from 1.
 #[tactic(auto, unfolding(crate::specs::Reasons::numbered_text))]
 fn numbered_text(
     alloc: Global,
@@ -162,7 +162,7 @@ fn line_text(
     }
 }
 
-/// The line of this number, from 1.
+/// The line of this number, counted from 1.
 fn line_at(text: &str, number: usize) -> Option<&str>
     ensures { option_copied result ≡ slice_get (lines_of text.now) (number - 1) }
 {
@@ -209,7 +209,7 @@ fn key_text(
     format!(in alloc; "{name}: {fault}")
 }
 
-/// Whether a value is as the grammar of its key wants it.
+/// Whether a value fits the grammar of its key.
 #[tactic(auto, using(crate::proofs::Wanted::there))]
 fn value_is_good(alloc: Global, key: Key, value: &str) -> Result<bool, AllocError>
     ensures { IfOk result (λ is. is ≡ value_is_good key value.now) }
@@ -231,7 +231,7 @@ fn beside<T: Drop, A>(_values: T, answer: A) -> A
     answer
 }
 
-/// What the grammar of a key wants, and the value where it may be shown.
+/// What the grammar of a key wants, and the value if it may be shown.
 fn value_text(alloc: Global, key: Key, value: &str) -> Result<String, AllocError>
     ensures { IfOk result (λ told. string_bytes told ≡ value_text key value.now) }
 {
@@ -263,7 +263,7 @@ fn is_shown(key: Key) -> bool
     }
 }
 
-/// Whether a value is short and of printable ASCII alone.
+/// Whether a value is short and has only printable ASCII characters.
 fn is_plain(value: &str) -> bool
     ensures { result ≡ is_plain value.now }
 {
@@ -287,7 +287,7 @@ fn is_plain_byte(byte: u8) -> bool
     32 <= byte && byte <= 126
 }
 
-/// What a value of this key is not.
+/// What a faulty value of this key is not.
 fn wanted(key: Key) -> &'static str
     ensures { result.now ≡ wanted key }
 {

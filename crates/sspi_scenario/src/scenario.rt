@@ -35,7 +35,7 @@ pub enum Package {
     Kerberos,
 }
 
-/// What a scenario text tells: each field has the value of its key, or the key's default.
+/// What a scenario text says: each field has the value of its key, or the key's default.
 #[derive(Drop)]
 pub struct Scenario {
     pub mode: Mode,
@@ -43,7 +43,7 @@ pub struct Scenario {
     pub password: Text,
     /// The public key of the channel, as the client sees it.
     pub key: Bytes,
-    /// The same as the server sees it.
+    /// The same key, as the server sees it.
     pub server_key: Bytes,
     pub client_version: u32,
     pub server_version: u32,
@@ -54,46 +54,45 @@ pub struct Scenario {
     /// The service principal name of the server.
     pub target: Text,
     pub delegation: CredSspMode,
-    /// Where it is there the client's credentials are this keytab.
+    /// If present, this keytab is the client's credentials.
     pub keytab: Option<Bytes>,
-    /// What the client of a negotiation begins with.
+    /// The mechanism that the client of a negotiation begins with.
     pub client_protocol: Package,
     pub server_protocol: Package,
-    /// Which packages the client of a negotiation may use, in the form that
-    /// `PackageListConfig::parse` reads; where there is no list, all of them.
+    /// The packages that the client of a negotiation may use, in the form that
+    /// `PackageListConfig::parse` reads; all of them if there is no list.
     pub client_packages: Option<Text>,
     pub server_packages: Option<Text>,
-    /// The URL that the client's Kerberos asks; where there is none, that of its realm in the
-    /// table.
+    /// The URL of the KDC that the client's Kerberos asks; if absent, that of its realm in `kdc`.
     pub client_url: Option<Text>,
     /// Which KDC serves which realm.
     pub kdc: KdcTable,
     /// The names that the KDC knows.
     pub kdc_user: Rows<Text>,
-    /// How the KDC answers its first calls; all later ones as usual.
+    /// How the KDC answers its first calls; it answers all later ones as usual.
     pub kdc_answer: Rows<Scripted>,
     /// The ticket of the server's Kerberos, by which it authenticates user-to-user.
     pub ticket: Option<[u8; 32]>,
-    /// The table of the server's proxy.
+    /// The account table of the server's proxy.
     pub account: Rows<AuthIdentity>,
-    /// The numbers of the proxy's calls that fail, from 0.
+    /// The numbers of the proxy's calls that fail, counted from 0.
     pub proxy_fail: Rows<u64>,
-    /// How many turns the client has at most.
+    /// The most turns that the client may make.
     pub turns: u32,
     pub edit: Rows<Edit>,
-    /// What the ends are handed, the first delivery first.
+    /// The deliveries that the ends are given, in order.
     pub deliver: Rows<Delivery>,
-    /// The least version of its peer that the client takes.
+    /// The lowest version that the client accepts of its peer.
     pub client_least: u32,
     pub server_least: u32,
-    /// The names of those whom the server's policy admits.
+    /// The names of the users whom the server's policy admits.
     pub admit: Rows<Username>,
 }
 
 /// Why a text gave no scenario.
 #[derive(Clone, Copy, Debug, PartialEq, Eq)]
 pub enum ScenarioError {
-    /// The text is no scenario. The number is that of its first faulty line, from 1; 0 where no
+    /// The text is not a scenario. The number is that of its first faulty line, from 1; 0 if no
     /// line is to blame.
     Line(usize),
     InsufficientMemory,
@@ -111,10 +110,10 @@ impl From<AllocError> for ScenarioError {
 }
 
 impl Scenario {
-    /// The scenario of a text, which is UTF-8 of at most `TEXT_LIMIT` bytes. Out of memory apart,
-    /// `Line` comes exactly where the text is no scenario for this purpose, with the number of its
-    /// first faulty line; 0 for a text that is too long or is not UTF-8, and for one without a
-    /// faulty line that lacks a key. A line with a key of another purpose is faulty.
+    /// The scenario of a text, which must be UTF-8 of at most `TEXT_LIMIT` bytes. Unless memory
+    /// runs out, `Line` is returned exactly if the text is not a scenario for this purpose. It has
+    /// the number of the first faulty line; 0 if the text is too long, is not UTF-8, or lacks a key
+    /// and has no faulty line. A line with a key of another purpose is faulty.
     pub fn parse(alloc: Global, purpose: Purpose, text: &[u8]) -> Result<Scenario, ScenarioError>
         ensures { Parses purpose text.now result }
     {
@@ -122,7 +121,7 @@ impl Scenario {
     }
 }
 
-/// The text of these bytes, where they are not too many and are UTF-8.
+/// These bytes as text, if they are within the limit and are UTF-8.
 fn checked(text: &[u8]) -> Result<&str, ScenarioError>
     ensures text { IfOk result (λ read. (read.now ≡ text.now) × (is_readable text.now ≡ true)) }
     ensures refused { IfErr result (λ error. (error ≡ Line 0) × (is_readable text.now ≡ false)) }

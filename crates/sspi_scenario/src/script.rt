@@ -7,7 +7,7 @@ use crate::lines::parted;
 use crate::number::number;
 use sspi_mech::Scripted;
 
-/// How a KDC answers one call: as usual, not at all, or by an error code, which is a byte.
+/// How a KDC answers one call: as usual, not at all, or with an error code, which is a byte.
 #[tactic(auto, using(crate::proofs::Scripting::is_usual, crate::proofs::Scripting::is_fail, crate::proofs::Scripting::is_code))]
 pub fn kdc_answer(text: &str) -> Option<Scripted>
     ensures { result ≡ scripted_of text.now }

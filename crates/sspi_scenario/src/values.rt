@@ -23,16 +23,16 @@ use sspi_tsreq::CredSspMode;
 use sspi_types::{Bytes, Rows, Secret, Text};
 use std::alloc::{AllocError, Global};
 
-/// What some lines tell, with the defaults of the keys that they lack.
+/// The values that some lines give, with defaults for the keys that they lack.
 #[derive(Drop)]
 pub struct Values {
     pub scenario: Scenario,
-    /// What the proxy's table holds where no line tells an account.
+    /// What the proxy's table holds if no line gives an account.
     pub accounts: Accounts,
 }
 
 impl Values {
-    /// The defaults. An empty value stands for each key that has none of its own.
+    /// The defaults. A key without a default of its own has an empty value.
     #[tactic(auto, unfolding(sspi_names::specs::Name::parse_name))]
     pub fn new(alloc: Global) -> Result<Values, LineError>
         ensures { Reads result (Some defaults) }
@@ -75,8 +75,8 @@ impl Values {
         })
     }
 
-    /// Puts what a value of a key tells in its place. `Fault` where the value is against the key's
-    /// grammar, `InsufficientMemory` where there is none for it.
+    /// Sets what this value of a key says. `Fault` if the value violates the key's grammar,
+    /// `InsufficientMemory` if memory runs out.
     pub fn put(&mut self, alloc: Global, key: Key, value: &str) -> Result<(), LineError>
         ensures { Puts self.old self.new result ((row key).value value.now) }
     {
@@ -117,7 +117,7 @@ impl Values {
         Ok(())
     }
 
-    /// The scenario of these values, where these are the keys of their lines.
+    /// The scenario of these values; `keys` are the keys of their lines.
     pub fn finish(self, alloc: Global, keys: &[Key]) -> Result<Scenario, AllocError>
         ensures { IfOk result (λ scenario. scenario ≡ finished keys.now self) }
     {
@@ -132,15 +132,15 @@ impl Values {
     }
 }
 
-/// Gives up what cannot be completed. Generic, since to drop a value of a type parameter is one
-/// step.
+/// Drops what cannot be completed, and returns the error. Generic, since dropping a value of a type
+/// parameter is a single step.
 pub fn given_up<T: Drop, R, E>(_value: T, error: E) -> Result<R, E>
     ensures { result ≡ Err error }
 {
     Err(error)
 }
 
-/// The key of the server and the table of the proxy, where lines do not tell them.
+/// Fills in the server's key and the proxy's table, if no line gives them.
 fn complete(
     alloc: Global,
     told: &mut Scenario,
@@ -172,7 +172,7 @@ fn own_identity(alloc: Global, user: &Username, password: &Text) -> Result<AuthI
     })
 }
 
-/// A value that is there; a fault where there is none.
+/// The value, or a fault if there is none.
 fn found<T>(value: Option<T>) -> Result<T, LineError>
     ensures reads { Reads result value }
     ensures fault { IfErr result (λ error. error ≡ LineError.Fault) }

@@ -8,7 +8,7 @@ use crate::scenario::{Mode, Package};
 use sspi_delegate::End;
 use sspi_tsreq::CredSspMode;
 
-/// What the proxy's table holds where no `account` tells it.
+/// What the proxy's table holds if no line has an `account`.
 #[derive(Clone, Copy, Debug, PartialEq, Eq)]
 pub enum Accounts {
     /// The client's user and password.
