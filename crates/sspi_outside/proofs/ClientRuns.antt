@@ -1,4 +1,4 @@
--- A client's step asks what the host was told.
+-- A client's step asks for what the host was told.
 use Rattle.std.proofs.Common.{◌≡◌, ℕ, ◌==◌, ◌&&◌, Bool, true, false, length, List, [], Option, None, Some, option_map, unwrap_or}
 use Rattle.std.proofs.Common.{not, refl, sym, subst, ap, ◌∙◌, if◌then◌else◌}
 use Rattle.sspi_types.specs.declared.error_kind.ErrorKind.TheVariants.{InvalidToken}

@@ -1,4 +1,4 @@
--- The rows that both ends have in common ask what the host was told.
+-- The rows that both ends have in common ask for what the host was told.
 use Rattle.std.proofs.Common.{◌≡◌, ℕ, ◌==◌, Bool, true, false, length, map, List, [], ◌∷◌, Option, None, Some, refl, if◌then◌else◌}
 use Rattle.sspi_types.specs.declared.security_status.SecurityStatus.{SecurityStatus}
 use Rattle.sspi_types.specs.declared.security_status.SecurityStatus.TheVariants as statuses

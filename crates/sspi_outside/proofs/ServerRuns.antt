@@ -1,4 +1,4 @@
--- A server's step asks what the host was told.
+-- A server's step asks for what the host was told.
 use Rattle.std.proofs.Common.{◌≡◌, ℕ, ◌==◌, Bool, true, false, List, [], ◌∷◌, Option, None, Some, refl, sym, subst, ap, ◌∙◌, if◌then◌else◌}
 use Rattle.std.proofs.lemmas.Bool.{false≢true}
 use Rattle.sspi_types.specs.declared.security_status.SecurityStatus.{SecurityStatus}

@@ -1,4 +1,4 @@
--- A blob has a text exactly where the host opened it.
+-- A blob has a text exactly if the host opened it.
 use Rattle.std.proofs.Common.{◌≡◌, ℕ, ◌++◌, List, ◌∷◌, drop, take, length, nat_lt, Bool, true, false, None, Some, refl}
 use Rattle.std.proofs.Common.{ap, arith, if◌then◌else◌, length-take}
 use Rattle.std.specs.Str.{bytes_eq}
@@ -28,6 +28,6 @@ closed_as : (blob : List ℕ) (short : Bool) → nat_lt (length blob) 16 ≡ sho
 closed_as blob true short = short_has_none blob short
 closed_as blob false long = long_has_none (drop 1 blob)
 
--- whatever stands in the message in the place of a report
+-- whatever the message has in place of a report
 pub closed_has_none : (blob : List ℕ) → text_in (closed blob) ≡ None
 closed_has_none blob = closed_as blob (nat_lt (length blob) 16) refl

@@ -1,4 +1,4 @@
--- Of what an end over the host's mechanisms makes its negotiation.
+-- The configuration from which an end over the host's mechanisms makes its negotiation.
 use Rattle.std.specs.Prelude.{◌≡◌, ℕ, List, [], codes, replicate, Bool, true, false, Option, None}
 use Rattle.std.specs.Prelude.{Some, if◌then◌else◌}
 use Rattle.sspi_names.specs.declared.identity.AuthIdentity.{AuthIdentity}
@@ -12,14 +12,14 @@ use Rattle.sspi_negotiate.specs.Values.{Negotiation, values_of}
 use Rattle.sspi_outside.specs.Course.{course_of, new_course}
 use Rattle.sspi_outside.specs.Outside.{OutsideState, outside_meaning}
 
--- the mechanisms by their names, where not all may be used
+-- the mechanisms by their names, unless all may be used
 abbrev pub list_by : Bool → Bool → Option (List ℕ)
 list_by true true = None
 list_by true false = Some (codes "ntlm")
 list_by false true = Some (codes "kerberos")
 list_by false false = Some []
 
--- Kerberos comes first, where it may be used; what the mechanisms are made of is not looked at
+-- Kerberos comes first, if it may be used; the mechanisms' own settings do not matter
 abbrev pub begins_with : Bool → ProtocolConfig
 begins_with true = configs.Kerberos (record {
   kdc_url = None;
@@ -41,7 +41,7 @@ configured packages = record {
 abbrev pub Hosts : Type 0
 Hosts = Negotiation (NegotiatedProtocol OutsideState OutsideState)
 
--- What a new negotiation of these packages has is what its host begins with.
+-- A new negotiation of these packages has what its host begins with.
 abbrev pub CourseBegins : Type 0
 CourseBegins = (packages : PackageListConfig) (ip : Bool) (known : List AuthIdentity) (s : Hosts) →
     (MadeOf outside_meaning outside_meaning (ForServer (configured packages) known) s →

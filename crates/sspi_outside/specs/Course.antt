@@ -1,4 +1,4 @@
--- What the host of a negotiation knows of it, and what it is told to do before each step.
+-- What the host of a negotiation knows about it, and what it is told to do before each step.
 use Rattle.std.specs.Prelude.{◌≡◌, ℕ, ◌==◌, ◌&&◌, List, [], Bool, true, false, Option, None, Some}
 use Rattle.std.specs.Prelude.{option_map, if◌then◌else◌}
 use Rattle.sspi_types.specs.declared.security_status.SecurityStatus.{SecurityStatus}
@@ -36,7 +36,7 @@ course_of ip v = record {
   by_address = ip;
 }
 
--- an end that begins with Kerberos where it may be used
+-- an end begins with Kerberos if it may be used
 abbrev pub first_hand : PackageListConfig → Protocol
 first_hand packages = if packages.kerberos then protocols.Kerberos else protocols.Ntlm
 
@@ -57,7 +57,7 @@ taken choices.MsKerberos held = held
 taken choices.Kerberos held = held
 taken choices.Ntlm held = protocols.Ntlm
 
--- the mechanism that is picked steps with the client's token, where the client likes it best
+-- the picked mechanism steps with the client's token, if it is the client's first choice
 abbrev pub due_if : Bool → Choice → Option (List ℕ) → Protocol → Option Asking
 due_if best choice None held = None
 due_if best choice (Some token) held = if best
@@ -88,14 +88,14 @@ take_offer offer c = takes_list offer.mech_types c
 
 -- ---- a client
 
--- a target that is named by its IP address is for NTLM alone, where that may be used
+-- a target that is named by its IP address is for NTLM alone, if that may be used
 abbrev pub addressed : Course → Course
 addressed c =
     if c.by_address && c.packages.ntlm
     then record c { hand = protocols.Ntlm; packages = record c.packages { kerberos = false } }
     else c
 
--- the first step: the selected mechanism's, whose token stands in the client's offer
+-- after the first step, of the selected mechanism, whose token is in the client's offer
 abbrev pub make_offer : Course → Course
 make_offer c = record c { state = states.InProgress; list = offered c.hand c.packages }
 
@@ -135,7 +135,7 @@ chosen_due (Some c) token = continuation_due c token
 abbrev pub answer_due : Course → NegTokenTarg → Option Asking
 answer_due c token = chosen_due (take_choice token.supported_mech c) token
 
--- where the negotiation is then: over, or awaiting the MIC of its peer once the mechanism has ended
+-- the state of the negotiation then: over, or awaiting the peer's MIC once the mechanism has ended
 abbrev pub next : Bool → SecurityStatus → NegotiateState
 next ended status = if is_ok status then states.Ok else if ended then states.VerifyMic
     else states.InProgress

@@ -1,4 +1,4 @@
--- What one call of an end is that keeps what it came to.
+-- One call of an end that keeps the call's result.
 use Rattle.std.specs.Prelude.{◌≡◌, Result, Ok, Err}
 use Rattle.sspi_types.specs.declared.error.Error.{Error}
 use Rattle.sspi_mech.specs.Meaning.{Meaning}
@@ -23,7 +23,7 @@ abbrev pub server_said : Result ServerState ServerError → Result (Unit {0}) Er
 server_said (Ok state) = Ok tt
 server_said (Err refusal) = Err refusal.error
 
--- one call of `CredSspClient::process`, of which the end keeps what it came to
+-- one call of `CredSspClient::process`, whose result the end keeps
 pub record ClientCalled {C : Type 0} (c : Meaning ContextSetting C) (old : ClientView C)
     (d : TsRequest) (result : Result (Unit {0}) Error)
     (new : ClientView C) (last : Last) : Type 0 where
@@ -32,7 +32,7 @@ pub record ClientCalled {C : Type 0} (c : Meaning ContextSetting C) (old : Clien
   pub kept : last ≡ client_last answer
   pub said : result ≡ client_said answer
 
--- the same of `CredSspServer::process`
+-- the same for `CredSspServer::process`
 pub record ServerCalled {C P : Type 0} (c : Meaning ContextSetting C) (p : ProxyMeaning P)
     (old : ServerView C P) (d : TsRequest)
     (result : Result (Unit {0}) Error) (new : ServerView C P) (last : Last) : Type 0 where

@@ -1,14 +1,14 @@
--- What the host of an `Outside` hands in: in the place of a token an envelope, in the place of a
--- sealed blob sixteen zeros and the text.
+-- What the host of an `Outside` passes in: an envelope in place of a token, and sixteen zeros and
+-- the text in place of a sealed blob.
 --
 --     step    = %x00 token            the context has ended
 --             / %x01 token            it goes on
---             / %x02 4OCTET           it refused the step, by a code of winerror.h
+--             / %x02 4OCTET           it refused the step, with a code of winerror.h
 --             / %x03 token            it goes on, and is user-to-user or in DCE style
 --     client  = step
---     server  = 2OCTET name step      the bytes of the name, and the peer's name in UTF-16, if known
+--     server  = 2OCTET name step      the length in bytes and the peer's name in UTF-16, if known
 --
--- The low byte of each number stands first.
+-- The low byte of each number comes first.
 use Rattle.std.specs.Prelude.{◌≡◌, ℕ, ◌+◌, ◌*◌, ◌==◌, List, [], ◌∷◌, take, drop, length, replicate}
 use Rattle.std.specs.Prelude.{nat_lt}
 use Rattle.std.specs.Prelude.{Option, None, Some, unwrap_or, Result, Ok, Err, if◌then◌else◌}
@@ -24,7 +24,7 @@ use Rattle.sspi_names.specs.Utf16.{decode_le, text_of}
 
 -- ---- a step
 
--- what an envelope says of the step that the host's context made
+-- what an envelope says about the step that the host's context made
 pub data Said : Type 0 where
   Ended : List ℕ → Said
   GoesOn : List ℕ → Said
@@ -44,7 +44,7 @@ unfoldable pub said : List ℕ → Said
 said [] = Unsaid
 said (status ∷ rest) = said_by status rest
 
--- the kind that a code names, and InvalidToken where it names none
+-- the kind that a code names, and InvalidToken if it names none
 abbrev pub IsKindOf : ℕ → ErrorKind → Type 0
 IsKindOf code kind = (read : Option ErrorKind) × ReadsNumber error_kind_number code read ×
     (kind ≡ unwrap_or read InvalidToken)
@@ -64,7 +64,7 @@ introduced [] = None
 introduced (low ∷ []) = None
 introduced (low ∷ high ∷ rest) = introduced_at (low + 256 * high) rest
 
--- the name that the units of UTF-16 are, if they are one
+-- the name in these UTF-16 units, if they are a name
 abbrev pub name_of_units : Result (List ℕ) Utf16Error → Option Name
 name_of_units (Ok units) = parse_name (text_of units)
 name_of_units (Err error) = None

@@ -1,4 +1,4 @@
--- What the host of an end over `Outside` reports of a message, and what it has to seal of the
+-- What the host of an end over `Outside` reports about a message, and what it has to seal in the
 -- answer.
 use Rattle.std.specs.Prelude.{ℕ, ◌++◌, List, ◌∷◌, drop, length, nat_lt, Option, None, Some, Result}
 use Rattle.std.specs.Prelude.{Ok, Err, if◌then◌else◌}
@@ -21,7 +21,7 @@ use Rattle.sspi_outside.specs.declared.last.Owed.TheVariants as owed
 use Rattle.sspi_outside.specs.declared.opened.Opened.{Opened}
 use Rattle.sspi_outside.specs.declared.opened.Opened.TheVariants as opened
 
--- ---- what the end is handed in the place of what came
+-- ---- what the end is given in place of what was received
 
 -- the texts that the host opened
 abbrev pub proof_opened : Opened → Option (List ℕ)
@@ -34,7 +34,7 @@ credentials_opened opened.Neither = None
 credentials_opened (opened.PubKeyAuth text) = None
 credentials_opened (opened.AuthInfo text) = Some text.now
 
--- a blob that the host did not open says so, whatever came; one that is too short stays
+-- a blob that the host did not open says so, whatever was received; a too short one is unchanged
 abbrev pub closed : List ℕ → List ℕ
 closed blob = if nat_lt (length blob) 16 then blob else 1 ∷ drop 1 blob
 
@@ -43,8 +43,8 @@ shown text None = None
 shown None (Some blob) = Some (closed blob)
 shown (Some text) (Some blob) = Some (no_tag ++ text)
 
--- the request with the envelope of the step, if one was made, and with what was opened: nothing of
--- it stands there as it came
+-- the request with the envelope of the step, if one was made, and with what was opened; no token,
+-- and no sealed field of at least 16 bytes, is left as received
 abbrev pub handed : TsRequest → List ℕ → Option (List ℕ) → Option (List ℕ) → TsRequest
 handed r step proof credentials = record r {
   nego_tokens = unless_empty step;
@@ -52,7 +52,7 @@ handed r step proof credentials = record r {
   auth_info = shown credentials r.auth_info;
 }
 
--- ---- what a call came to
+-- ---- the result of a call
 
 abbrev pub client_last : Result Progress Error → Last
 client_last (Ok (Suspended question)) = Asks question
@@ -67,7 +67,7 @@ server_last (Err refusal) = Refused refusal.error refusal.ts_request
 
 -- ---- what is sent
 
--- the text that the host owes the seal of: a proof, or the credentials, where the call made it
+-- the text that the host has yet to seal: a proof or the credentials, if the call made it
 abbrev pub owed_of : Acts → Last → Owed
 owed_of acts Nothing = owed.Neither
 owed_of acts (Reply message) = if acts.proved then owed.PubKeyAuth else owed.Neither
@@ -94,7 +94,7 @@ owed_text owed.Neither (Some message) = None
 owed_text owed.PubKeyAuth (Some message) = text_of message.pub_key_auth
 owed_text owed.AuthInfo (Some message) = text_of message.auth_info
 
--- the message with the sealed blob in its place, and with nothing of what came
+-- the message with the sealed blob in its place, and with nothing that was received
 abbrev pub sealed_by : Owed → List ℕ → TsRequest → TsRequest
 sealed_by owed.Neither blob m = record m { pub_key_auth = None; auth_info = None }
 sealed_by owed.PubKeyAuth blob m = record m { pub_key_auth = Some blob; auth_info = None }

@@ -1,5 +1,5 @@
--- A token of SPNEGO over a mechanism that the host keeps: what stands in it in the place of the
--- mechanism's token and of a MIC.
+-- A SPNEGO token over a mechanism that the host keeps: what it has in place of the mechanism's
+-- token and of a MIC.
 use Rattle.std.specs.Prelude.{◌≡◌, ℕ, List, Option, None, Some, option_map}
 use Rattle.sspi_tokens.specs.declared.neg_token_init.NegTokenInit.{NegTokenInit}
 use Rattle.sspi_tokens.specs.declared.neg_token_targ.NegTokenTarg.{NegTokenTarg}
@@ -7,8 +7,8 @@ use Rattle.sspi_credssp.specs.Requests.{unless_empty}
 use Rattle.sspi_outside.specs.Hosting.{shown, text_of}
 use Rattle.sspi_outside.specs.Outside.{OutsideState, outside_meaning}
 
--- the offer, with the envelope of the step in the place of its token; where it has none, no step of
--- the host's is taken
+-- the offer, with the envelope of the step in place of its token; if it has none, no step of the
+-- host's is taken
 abbrev pub offered : List ℕ → Option (List ℕ) → Option (List ℕ)
 offered step None = None
 offered step (Some token) = unless_empty step
@@ -24,18 +24,18 @@ handed_response token step verified = record token {
   mech_list_mic = shown verified token.mech_list_mic;
 }
 
--- the list over which the end's token is to have a MIC
+-- the list over which the end's token needs a MIC
 abbrev pub list_to_sign : NegTokenTarg → Option (List ℕ)
 list_to_sign token = text_of token.mech_list_mic
 
--- the token with the host's MIC in the place of that list
+-- the token with the host's MIC in place of that list
 abbrev pub signed : List ℕ → NegTokenTarg → NegTokenTarg
 signed mic token = record token { mech_list_mic = option_map (λ _. mic) token.mech_list_mic }
 
 -- ---- the laws
 
--- A MIC that came verifies over exactly the list over which the host reported it to be good, and
--- over none where it reported none.
+-- A received MIC verifies over exactly the list over which the host reported it to be good, and
+-- over none if it reported none.
 abbrev pub MicIsGoodAsReported : Type 0
 MicIsGoodAsReported = (m : OutsideState) (n : ℕ) (token : NegTokenTarg) (step : List ℕ)
     (verified : Option (List ℕ)) (mic list : List ℕ) →

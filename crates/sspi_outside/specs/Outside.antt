@@ -1,4 +1,4 @@
--- What a mechanism means whose steps are made, and whose texts are sealed and opened, by the host.
+-- The meaning of a mechanism whose steps, sealing and opening the host does.
 use Rattle.std.specs.Prelude.{◌≡◌, ◌≢◌, ◌++◌, ℕ, List, [], ◌∷◌, Bool, true, false, length, nat_lt}
 use Rattle.std.specs.Prelude.{Option, None, Some, is_some}
 use Rattle.std.specs.Prelude.{Result, Ok, Err, if◌then◌else◌}
@@ -35,7 +35,7 @@ pub record OutsideState : Type 0 where
   pub ended : Bool
   -- whether it said that this authenticates user-to-user or in DCE style
   pub pairs : Bool
-  -- the name of the peer that it told last
+  -- the peer's name that it gave last
   pub peer : Option Name
   pub counts : Counts
 
@@ -54,7 +54,7 @@ abbrev pub latest : Option Name → Option Name → Option Name
 latest None before = before
 latest (Some name) before = Some name
 
--- what the host said of a step, and of the peer's name
+-- what the host said about a step, and about the peer's name
 abbrev pub takes : OutsideState → Option Name → Said → Outcome
 takes m heard (Ended token) =
     Goes (record m { ended = true; peer = latest heard m.peer })
@@ -66,7 +66,7 @@ takes m heard (UserToUser token) = Goes (record m { pairs = true; peer = latest 
 takes m heard (Denied code) = Denies code
 takes m heard Unsaid = Stops InvalidToken
 
--- a name is told or left out; anything else is no envelope
+-- a name is given or left out; anything else is not an envelope
 abbrev pub hears_of : OutsideState → Option Name → List ℕ → Outcome
 hears_of m None step = Stops InvalidToken
 hears_of m (Some name) step = takes m (Some name) (said step)

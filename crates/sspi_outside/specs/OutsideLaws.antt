@@ -1,4 +1,4 @@
--- A mechanism of the host is a mechanism.
+-- The host's mechanism satisfies the laws of a mechanism.
 use Rattle.std.specs.Prelude.{◌≡◌, ℕ, ◌≤◌, ◌++◌, List, [], ◌∷◌, length, Bool, true, false, Option}
 use Rattle.std.specs.Prelude.{None, Some, Result, Ok, Err, refl}
 use Rattle.std.specs.Prelude.{if◌then◌else◌}
@@ -18,7 +18,7 @@ use Rattle.sspi_outside.specs.Outside.{OutsideState, outside_meaning, Outcome, G
 use Rattle.sspi_outside.specs.Outside.{Steps, takes, hears_of, hears_name, hears}
 use Rattle.sspi_outside.specs.Outside.{client_step, server_step, OutsideSteps, OutsideResumes}
 
--- an outcome keeps the counts of the object that it is of
+-- an outcome keeps the counts of its object
 abbrev Keeps : OutsideState → Outcome → Type 0
 Keeps m (Goes m2 step) = m2.counts ≡ m.counts
 Keeps m (Stops kind) = Unit {0}

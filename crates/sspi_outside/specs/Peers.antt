@@ -1,4 +1,4 @@
--- What is told of the peers that a server takes.
+-- What is reported about the peers that a server accepts.
 use Rattle.std.specs.Prelude.{[], ◌∷◌, None, Some}
 use Rattle.sspi_names.specs.Name.{Name}
 use Rattle.sspi_names.specs.declared.identity.AuthIdentity.{AuthIdentity}

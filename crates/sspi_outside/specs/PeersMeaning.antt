@@ -1,4 +1,4 @@
--- What it means to take the peers of a list, or whoever is named.
+-- What it means to accept the peers of a list, or whoever is named.
 use Rattle.std.specs.Prelude.{ℕ}
 use Rattle.sspi_credssp.specs.Proxy.{ProxyMeaning, ProxyTells}
 use Rattle.sspi_credssp.specs.Table.{table_meaning}

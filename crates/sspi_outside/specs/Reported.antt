@@ -1,4 +1,4 @@
--- What the host reported in a call of an end that came to give something out (MS-CSSP 3.1.5).
+-- What the host reported in a call in which an end gives something out (MS-CSSP 3.1.5).
 use Rattle.std.specs.Prelude.{◌≡◌, ◌≢◌, ℕ, List, Option, Some, Result, Ok, true, nat_lt}
 use Rattle.sspi_types.specs.declared.error.Error.{Error}
 use Rattle.sspi_names.specs.declared.identity.AuthIdentity.{AuthIdentity}
@@ -27,7 +27,7 @@ Hosted = SspiContext OutsideState OutsideState
 abbrev pub hosted : Meaning ContextSetting Hosted
 hosted = either 0 outside_meaning outside_meaning
 
--- ---- one call of an end, of what came and of what the host reports: its step, and which texts it opened
+-- ---- one call of an end, on what was received and what the host reports: step and opened texts
 
 abbrev pub ClientReports : ClientView Hosted → TsRequest → List ℕ → Option (List ℕ) →
     Option (List ℕ) → ClientView Hosted → Last → Type 0
@@ -51,8 +51,8 @@ OpenedServerProof client noted proof =
     AtNoted noted (λ version. proof ≡ Some
     (prescribed Server version client.settings.nonce client.settings.public_key))
 
--- the host opened exactly the proof that the client owes, over the nonce that came; from version 5
--- on one came
+-- the host opened exactly the proof that the client owes, over the received nonce; from version 5
+-- on there is one
 pub record OpenedClientProof {P : Type 0} (server : ServerView Hosted P) (d : TsRequest)
     (proof : Option (List ℕ)) (version : ℕ) :
     Type 0 where
@@ -67,7 +67,7 @@ OpenedIdentity credentials identity = (text : List ℕ) × (credentials ≡ Some
 
 -- ---- the laws
 
--- A client owes the seal of its credentials only in a call in which the host reported exactly the
+-- A client's credentials are to be sealed only in a call in which the host reported exactly the
 -- proof that the server owes.
 abbrev pub CredentialsFollowTheProof : Type 0
 CredentialsFollowTheProof = (old new : ClientView Hosted) (d : TsRequest) (step : List ℕ)
@@ -84,7 +84,7 @@ ServerProofFollowsTheProof {P} p = (old new : ServerView Hosted P) (d : TsReques
     ServerReports p old d step proof credentials new last →
     new.acts.proved ≡ true → AtNoted new.noted (OpenedClientProof old d proof)
 
--- Only such a call brings a server to wait for the credentials.
+-- Only such a call makes a server wait for the credentials.
 abbrev pub CredentialsAreAwaitedOnceProved : {P : Type 0} → ProxyMeaning P → Type 0
 CredentialsAreAwaitedOnceProved {P} p = (old new : ServerView Hosted P) (d : TsRequest)
     (step : List ℕ)
@@ -92,8 +92,8 @@ CredentialsAreAwaitedOnceProved {P} p = (old new : ServerView Hosted P) (d : TsR
     ServerReports p old d step proof credentials new last →
     new.state ≡ state.AuthInfo → old.state ≢ state.AuthInfo → new.acts.proved ≡ true
 
--- A server that waits for the credentials tells an identity only as the host reported, in that
--- call, a text that delegates it.
+-- A server that reports an identity was waiting for the credentials, and in that call the host
+-- reported a text that delegates it.
 pub record IdentityWasReported {P : Type 0} (old : ServerView Hosted P)
     (credentials : Option (List ℕ)) (identity : AuthIdentity) :
     Type 0 where

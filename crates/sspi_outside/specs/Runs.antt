@@ -1,4 +1,4 @@
--- That the host was told what a step of its negotiation asks.
+-- That the host was told what a step of its negotiation asks for.
 use Rattle.std.specs.Prelude.{◌≡◌, ℕ, List, [], ◌∷◌, Bool, true, false, Option, None, Some}
 use Rattle.std.specs.Prelude.{unwrap_or}
 use Rattle.sspi_types.specs.declared.security_status.SecurityStatus.{SecurityStatus}
@@ -33,10 +33,9 @@ named_by (Configured (configs.Kerberos config)) = protocols.Kerberos
 named_by (Configured (configs.KerberosServer config server)) = protocols.Kerberos
 named_by (InPlaceOfNtlm url kdcs computer) = protocols.Kerberos
 
--- A step by this plan, where no question of it is refused: of the mechanisms one steps as told, or
--- none, and no other one; each MIC that is made or verified is over this list; and what is known
--- afterwards, by whether a mechanism has ended in the step and by what the step answers, is what
--- the end then has.
+-- A step by this plan, if none of its questions is refused. One mechanism steps as told, or none,
+-- and no other. Each MIC that is made or verified is over this list. What is known afterwards, by
+-- whether a mechanism ended in the step and by the step's answer, is what the end then has.
 module _ (ip : Bool) (list : Option (List ℕ)) (known : Bool → SecurityStatus → Course) where
   abbrev pub Runs : Option Asking → Bool → Protocol → Plan → Type 0
   Runs due ended held (Goes v step) = (due ≡ None) × (course_of ip v ≡ known ended step.status)
@@ -56,7 +55,7 @@ module _ (ip : Bool) (list : Option (List ℕ)) (known : Bool → SecurityStatus
       ((mic : List ℕ) → Runs due ended held (go mic))
   Runs due ended held (Verifies mic text v p) = (list ≡ Some text) × Runs due ended held p
 
--- the step that was told, with the envelope that the host made of it; an empty one is none
+-- the step that the host was told, with its envelope; an empty envelope is no step
 abbrev pub made_with : Protocol → List ℕ → Option Asking
 made_with mechanism [] = None
 made_with mechanism (byte ∷ bytes) = Some (record { mechanism = mechanism; token = byte ∷ bytes })
@@ -65,7 +64,7 @@ abbrev pub made_of : List ℕ → Option Asking → Option Asking
 made_of envelope None = None
 made_of envelope (Some due) = made_with due.mechanism envelope
 
--- the same, where an empty one stands for no token
+-- the same, if an empty envelope means no token
 abbrev pub stepped_with : List ℕ → Option Asking → Option Asking
 stepped_with envelope None = None
 stepped_with envelope (Some due) = Some (record { mechanism = due.mechanism; token = envelope })
@@ -101,7 +100,7 @@ LastIsVerified = (v : Values) (args : AcceptArgs) (token : NegTokenTarg) (envelo
     (stepped_with envelope (continuation_due (course_of false v) token)) true v.hand
     (spnego_server v args)
 
--- a client's first step, where no KDC of its own is set; no MIC is made or verified
+-- a client's first step, if no KDC of its own is set; no MIC is made or verified
 abbrev pub FirstIsStepped : Type 0
 FirstIsStepped = (ip : Bool) (v : Values) (args : StepArgs) → v.kdcs ≡ [] →
     v.state ≡ states.Initial →
@@ -110,7 +109,7 @@ FirstIsStepped = (ip : Bool) (v : Values) (args : StepArgs) → v.kdcs ≡ [] �
     (Some (record { mechanism = c.hand; token = args.input })) false v.hand
     (spnego_client ip v args)
 
--- its later steps, where the server's choice was taken
+-- its later steps, with the server's choice
 abbrev pub AnswerIsStepped : Type 0
 AnswerIsStepped = (ip : Bool) (v : Values) (args : StepArgs) (token : NegTokenTarg)
     (envelope : List ℕ) (verified : Option (List ℕ)) →

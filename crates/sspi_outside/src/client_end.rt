@@ -1,4 +1,4 @@
-//! A client that keeps what its last call came to.
+//! A client that keeps the result of its last call.
 ghost use Rattle.std.specs.Prelude.{◌≡◌};
 ghost use Rattle.sspi_credssp.specs.Context.{either};
 ghost use Rattle.sspi_outside.specs.declared.last.Last.TheVariants as lasts;
@@ -9,17 +9,17 @@ use sspi_mech::Mechanism;
 use sspi_tsreq::TsRequest;
 use sspi_types::Error;
 
-/// A client, and what its last call came to.
+/// A client, and the result of its last call.
 #[derive(Drop)]
 pub struct ClientEnd<N, K> {
     /// The client.
     pub client: CredSspClient<N, K>,
-    /// What its last call came to.
+    /// The result of its last call.
     pub last: Last,
 }
 
 impl<N, K> ClientEnd<N, K> {
-    /// Of a client that made no call yet.
+    /// An end with a client that has made no call yet.
     pub fn new(client: CredSspClient<N, K>) -> ClientEnd<N, K>
         ensures { result ≡ record { client = client; last = lasts.Nothing } }
     {

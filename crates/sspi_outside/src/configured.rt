@@ -1,4 +1,4 @@
-//! Of what an end over the host's mechanisms makes its negotiation.
+//! The configuration from which an end over the host's mechanisms makes its negotiation.
 ghost use Rattle.std.specs.Prelude.{◌≡◌, Some, IfOk};
 ghost use Rattle.sspi_outside.specs.Configured.{begins_with, configured, list_by};
 
@@ -41,8 +41,8 @@ fn begins_with(alloc: Global, kerberos: bool) -> Result<ProtocolConfig, AllocErr
     }))
 }
 
-/// A negotiation of these mechanisms, Kerberos first where it may be used. `Course::new` of the
-/// same mechanisms is what its host begins with.
+/// The configuration of a negotiation of these mechanisms, with Kerberos first if it may be used.
+/// Its host begins with `Course::new` of the same mechanisms.
 pub fn negotiation(
     alloc: Global,
     packages: PackageListConfig,

@@ -23,22 +23,22 @@ pub struct Due<'a> {
     pub token: &'a [u8],
 }
 
-/// What the host of an end knows of its negotiation.
+/// What the host of an end knows about its negotiation.
 ///
-/// The host keeps one beside the end, and asks it before each call which of its contexts steps. A
-/// MIC that came is verified, and one that is made is signed, by the context of `hand` over `list`.
-/// After a call that was refused nothing of it holds, and no further call is made.
+/// The host keeps one next to the end, and asks it before each call which of its contexts steps.
+/// The context of `hand` verifies a received MIC, and signs one that is made, over `list`. After a
+/// refused call none of this is valid, and no further call is made.
 #[derive(Drop)]
 pub struct Course {
-    /// How far the negotiation has come.
+    /// The state of the negotiation.
     pub state: NegotiateState,
     /// The selected mechanism.
     pub hand: Protocol,
     /// The mechanisms that may be used.
     pub packages: PackageListConfig,
-    /// The mechanisms that the client offered; empty until then.
+    /// The mechanisms that the client offered; empty before that.
     pub list: MechTypeList,
-    /// Whether a client's target is named by its IP address, which Kerberos has no name for.
+    /// Whether a client's target is named by its IP address, for which Kerberos has no name.
     pub by_address: bool,
 }
 
@@ -96,7 +96,7 @@ impl Course {
     ghost use Rattle.sspi_outside.specs.Course.{go_on, make_offer, new_course, offer_due};
     ghost use Rattle.sspi_outside.specs.Course.{picks, take_choice, take_offer};
 
-    /// Of an end that has made no step. It begins with Kerberos where that may be used.
+    /// The course of an end that has made no step. It begins with Kerberos if that may be used.
     pub fn new(alloc: Global, packages: PackageListConfig, by_address: bool) -> Course
         ensures { result ≡ new_course packages by_address }
     {
@@ -115,9 +115,9 @@ impl Course {
         pick(list.as_slice(), self.packages, self.hand)
     }
 
-    /// Before a server's first call, of the client's offer: the mechanism that the server picks
-    /// steps with the offer's token. None steps where that is not the client's first choice, where
-    /// the offer has no token, and where nothing is picked.
+    /// Before a server's first call, with the client's offer: the mechanism that the server picks
+    /// steps with the offer's token. None steps if it is not the client's first choice, if the
+    /// offer has no token, or if nothing is picked.
     pub fn offer_due<'a>(&self, offer: &'a NegTokenInit) -> Option<Due<'a>>
         ensures { option_map (λ d. record { mechanism = d.mechanism; token = d.token.now })
             result ≡ offer_due self.now offer.now }
@@ -135,7 +135,7 @@ impl Course {
         }
     }
 
-    /// The offer's list is kept, and what the server picks of it is selected.
+    /// Keeps the offer's list and selects the server's pick; without a pick nothing changes.
     pub fn take_offer(&mut self, alloc: Global, offer: &NegTokenInit) -> Result<(), AllocError>
         ensures ok { OnOk result (self.new ≡ take_offer offer.now self.old) }
         ensures err { OnErr result (self.new ≡ self.old) }
@@ -161,8 +161,8 @@ impl Course {
         }
     }
 
-    /// Before a client's first call, whose step `hand` makes then, with no token: a target that is
-    /// named by its IP address is for NTLM, where that may be used.
+    /// Before a client's first call, in which `hand` then steps without a token: a target that is
+    /// named by its IP address selects NTLM, if that may be used.
     pub fn address(&mut self)
         ensures { self.new ≡ addressed self.old }
     {
@@ -182,8 +182,8 @@ impl Course {
         Ok(())
     }
 
-    /// Before a client's later call, of the server's token: the choice that it tells is selected.
-    /// Answers whether that may be used; the negotiation refuses another one.
+    /// Before a client's later call, with the server's token: selects the choice in it, and answers
+    /// whether that may be used. The negotiation refuses any other.
     pub fn take_choice(&mut self, token: &NegTokenTarg) -> bool
         ensures { OfChoice (take_choice token.now.supported_mech self.old) result self.new }
     {
@@ -227,8 +227,8 @@ impl Course {
         true
     }
 
-    /// Before a later call of an end, once its choice was taken: the selected mechanism steps with
-    /// the token that came, or with none, while it authenticates.
+    /// Before a later call of an end, for a client after `take_choice`: while it authenticates, the
+    /// selected mechanism steps with the received token, or with none.
     pub fn continuation_due<'a>(&self, token: &'a NegTokenTarg) -> Option<Due<'a>>
         ensures { option_map (λ d. record { mechanism = d.mechanism; token = d.token.now })
             result ≡ continuation_due self.now token.now }
@@ -244,7 +244,7 @@ impl Course {
         }
     }
 
-    /// After a call, behind a client's first: `ended` is whether the context of `hand` has ended,
+    /// After every call but a client's first: `ended` is whether the context of `hand` has ended,
     /// and `status` what the negotiation answered.
     pub fn go_on(&mut self, ended: bool, status: SecurityStatus)
         ensures { self.new ≡ go_on ended status self.old }

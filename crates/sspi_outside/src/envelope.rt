@@ -1,10 +1,10 @@
-//! Reads what a host reports in the place of a token or a blob.
+//! Reads what a host reports in place of a token or a blob.
 
 ghost use Rattle.std.specs.Prelude.{◌≡◌, option_copied, option_map};
 ghost use Rattle.sspi_outside.specs.Envelope.{denied_by, introduced, said, text_in};
 ghost use Rattle.sspi_outside.specs.Seen.{seen};
 
-// What the host says of the step that its context made.
+// What the host says about the step that its context made.
 #[derive(Clone, Copy)]
 pub enum Envelope<'a> {
     // The context has ended, with this token for the peer.
@@ -15,7 +15,7 @@ pub enum Envelope<'a> {
     UserToUser(&'a [u8]),
     // The context refused the step, with this code of winerror.h.
     Denied(u32),
-    // The bytes are no envelope.
+    // The bytes are not an envelope.
     Unsaid,
 }
 
@@ -41,7 +41,7 @@ fn read_code(code: &[u8]) -> Envelope<'static>
     }
 }
 
-// The bytes of the name that a server's envelope begins with, and the envelope of the step behind
+// The bytes of the name that a server's envelope begins with, and the envelope of the step after
 // it.
 #[tactic(auto, unfolding(crate::specs::Envelope::introduced))]
 pub fn read_name(envelope: &[u8]) -> Option<(&[u8], &[u8])>

@@ -1,4 +1,4 @@
-//! What the last call of an end came to, and what of it is sent.
+//! The result of an end's last call, and what of it is sent.
 ghost use Rattle.std.specs.Prelude.{◌≡◌, Ok, Some, IfOk, option_copied};
 ghost use Rattle.sspi_outside.specs.Hosting.{message_of, owed_text, refusing, sealed_by, sent};
 ghost use Rattle.sspi_outside.specs.Hosting.{text_of};
@@ -10,7 +10,7 @@ use sspi_tsreq::TsRequest;
 use sspi_types::{Bytes, Error};
 use std::alloc::{AllocError, Global};
 
-/// What the last call of an end came to.
+/// The result of an end's last call.
 #[derive(Drop)]
 pub enum Last {
     /// There was none.
@@ -23,11 +23,11 @@ pub enum Last {
     Finished(AuthIdentity),
     /// A client's turn waits for a KDC.
     Asks(NetworkRequest),
-    /// A refusal; a server's with the message that tells its client.
+    /// A refusal, and a server's message that tells its client.
     Refused(Error, Option<TsRequest>),
 }
 
-/// Which text the host owes the seal of.
+/// Which text the host has yet to seal.
 #[derive(Clone, Copy, Debug, PartialEq, Eq)]
 pub enum Owed {
     /// None.
@@ -60,7 +60,7 @@ impl Last {
         }
     }
 
-    /// Which text of the message the call made, and the host owes the seal of.
+    /// Which text of the message the call made and the host has yet to seal.
     pub fn owed(&self, acts: Acts) -> Owed
         ensures { result ≡ owed_of acts self.now }
     {
@@ -85,7 +85,7 @@ impl Last {
         }
     }
 
-    /// The text that the host has to seal; none where nothing is owed.
+    /// The text that the host has to seal; `None` if nothing is owed.
     pub fn text(&self, owed: Owed) -> Option<&[u8]>
         ensures { option_copied result ≡ owed_text owed (message_of self.now) }
     {
@@ -97,8 +97,8 @@ impl Last {
         }
     }
 
-    /// The message for the peer, with the sealed blob in the place of the text that was owed, and
-    /// nothing of what came.
+    /// The message for the peer, with the sealed blob in place of the text that was owed, and with
+    /// nothing that was received.
     pub fn sent(
         &self,
         alloc: Global,

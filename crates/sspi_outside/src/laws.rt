@@ -1,4 +1,4 @@
-//! What holds of what the host reports.
+//! Laws about what the host reports.
 ghost use Rattle.std.specs.Prelude.{◌≡◌, ◌++◌, ℕ, List, None, Some};
 ghost use Rattle.sspi_outside.specs.Envelope.{no_tag, text_in};
 ghost use Rattle.sspi_outside.specs.Hosting.{closed};
@@ -9,18 +9,18 @@ ghost use Rattle.sspi_outside.specs.Reported.{ServerProofFollowsTheProof};
 
 use sspi_credssp::CredentialsProxy;
 
-/// A text behind sixteen zeros is what the host opened.
+/// A text after sixteen zeros is what the host opened.
 #[tactic(auto, unfolding(crate::specs::Envelope::text_in))]
 pub fn reported_text_is_opened()
     ensures { (text : List ℕ) → text_in (no_tag ++ text) ≡ Some text }
 {}
 
-/// A blob that the host did not open has no text, whatever came.
+/// A blob that the host did not open has no text, whatever was received.
 pub fn unopened_blob_has_no_text()
     ensures { (blob : List ℕ) → text_in (closed blob) ≡ None }
 {}
 
-/// A client owes the seal of its credentials only in a call in which the host reported exactly the
+/// A client's credentials are to be sealed only in a call in which the host reported exactly the
 /// proof that the server owes: at the pinned version, over the client's nonce and the channel's
 /// key.
 pub fn credentials_follow_the_proof()
@@ -28,20 +28,20 @@ pub fn credentials_follow_the_proof()
 {}
 
 /// A server proves its key only in a call in which the host reported exactly the proof that the
-/// client owes, and only such a call brings it to wait for the credentials.
+/// client owes. Only such a call makes it wait for the credentials.
 pub fn server_proof_follows_the_proof<C: CredentialsProxy>()
     ensures proof { ServerProofFollowsTheProof C.meaning }
     ensures state { CredentialsAreAwaitedOnceProved C.meaning }
 {}
 
-/// A server tells an identity only where it waited for the credentials, and of a text that the host
-/// reported in that call.
+/// A server reports an identity only if it was waiting for the credentials. It takes it from a text
+/// that the host reported in that call.
 pub fn identity_is_reported<C: CredentialsProxy>()
     ensures { IdentityIsReported C.meaning }
 {}
 
-/// A MIC that came verifies over exactly the list over which the host reported it to be good, and
-/// over none where it reported none.
+/// A received MIC verifies over exactly the list over which the host reported it to be good, and
+/// over none if it reported none.
 pub fn mic_is_good_as_reported()
     ensures { MicIsGoodAsReported }
 {}

@@ -1,4 +1,4 @@
-//! A token of SPNEGO over a mechanism that the host keeps (RFC 4178 5).
+//! A SPNEGO token over a mechanism that the host keeps (RFC 4178 5).
 ghost use Rattle.std.specs.Prelude.{◌≡◌, IfOk, option_copied, option_map};
 ghost use Rattle.sspi_outside.specs.Negotiated.{handed_offer, handed_response, list_to_sign};
 ghost use Rattle.sspi_outside.specs.Negotiated.{offered, signed};
@@ -9,10 +9,10 @@ use sspi_tokens::{NegTokenInit, NegTokenTarg};
 use sspi_types::Bytes;
 use std::alloc::{AllocError, Global};
 
-/// The offer that a negotiation over `Outside` is handed for one that came.
+/// The offer that a negotiation over `Outside` is given in place of the received one.
 ///
-/// `step` is the envelope of the step that the host's context made with the offer's token; empty
-/// where it made none. An offer without a token stays without.
+/// `step` is the envelope of the step that the host's context made with the offer's token; empty if
+/// it made none. An offer without a token stays without one.
 pub fn handed_offer(
     alloc: Global,
     token: NegTokenInit,
@@ -27,12 +27,12 @@ pub fn handed_offer(
     Ok(token)
 }
 
-/// The later token that it is handed for one that came.
+/// The later token that a negotiation is given in place of the received one.
 ///
-/// `step` is the envelope of the step with its `responseToken`; empty where the host made none.
+/// `step` is the envelope of the step with its `responseToken`; empty if the host made none.
 /// `verified` is the list of mechanisms, as `encode_mech_types` encodes it, over which the host's
-/// context verified its `mechListMIC`. Where it is `None` the MIC verifies over no list, whatever
-/// came: the host verified none, or found it bad.
+/// context verified its `mechListMIC`. If it is `None`, the MIC verifies over no list, whatever was
+/// received: the host verified none, or found it bad.
 pub fn handed_response(
     alloc: Global,
     token: NegTokenTarg,
@@ -48,7 +48,7 @@ pub fn handed_response(
     Ok(token)
 }
 
-/// The list that the host has to sign for the token that the negotiation made; none where the token
+/// The list that the host has to sign for the token that the negotiation made; `None` if the token
 /// has no MIC.
 pub fn list_to_sign(token: &NegTokenTarg) -> Option<&[u8]>
     ensures { option_copied result ≡ list_to_sign token.now }
@@ -56,7 +56,7 @@ pub fn list_to_sign(token: &NegTokenTarg) -> Option<&[u8]>
     text_of(&token.mech_list_mic)
 }
 
-/// The token with the host's MIC in the place of that list. One without a MIC stays without.
+/// The token with the host's MIC in place of that list. One without a MIC stays without.
 pub fn signed(token: NegTokenTarg, mic: Bytes) -> NegTokenTarg
     ensures { result ≡ signed mic token }
 {

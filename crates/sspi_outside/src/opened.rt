@@ -1,4 +1,4 @@
-//! What an end is handed in the place of what came.
+//! What an end is given in place of what was received.
 ghost use Rattle.std.specs.Prelude.{◌≡◌, ◌++◌, None, Some, IfOk, OnOk, option_copied};
 ghost use Rattle.sspi_credssp.specs.Requests.{unless_empty};
 ghost use Rattle.sspi_outside.specs.Hosting.{closed, credentials_opened, handed, proof_opened};
@@ -83,12 +83,12 @@ pub(crate) fn token_of(alloc: Global, step: &[u8]) -> Result<Option<Bytes>, Allo
     Ok(Some(Bytes::from_slice(alloc, step)?))
 }
 
-/// The request that an end over `Outside` is handed for one that came.
+/// The request that an end over `Outside` is given in place of the received one.
 ///
-/// `step` is the envelope of the step that the host's context made with the token that came; empty
-/// where it made none. Of the sealed fields the one that was opened has its text; another one is
-/// refused as `MessageAltered` where it is due, or as `InvalidToken` where it has under 16 bytes.
-/// So nothing that came is taken for an envelope or for an opened text.
+/// `step` is the envelope of the step that the host's context made with the received token; empty
+/// if it made none. The sealed field that was opened has its text. Any other is refused where it is
+/// due: as `MessageAltered`, or as `InvalidToken` if it has fewer than 16 bytes. So nothing
+/// received is taken for an envelope or an opened text.
 pub fn handed(
     alloc: Global,
     request: TsRequest,

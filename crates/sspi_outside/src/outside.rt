@@ -20,30 +20,30 @@ use std::marker::Model;
 
 /// The security context of the host, as an end of CredSSP sees it.
 ///
-/// Before a call of the end the host steps its own context with the token that came, and opens the
-/// sealed field that came. In the place of the token it hands in the *envelope* of the step, in the
+/// Before a call of the end the host steps its own context with the received token, and opens the
+/// received sealed field. In place of the token it passes in the *envelope* of the step, and in
 /// place of the field sixteen zeros and the text:
 ///
-/// - a client's envelope is a status byte, 0 where the context has ended and 1 where it goes on,
-///   and the token for the peer; or 2 and a code of winerror.h in four bytes, the low one first,
-///   where the context refused the step. The byte 3 says what 1 says, and that the context
-///   authenticates user-to-user or in DCE style: then a server needs MICs of a Kerberos too;
-/// - a server's has before that how many bytes the peer's name has, in two bytes with the low one
-///   first, and the name in UTF-16; no bytes where the name is not known yet.
+/// - A client's envelope is a status byte and the token for the peer. The byte is 0 if the context
+///   has ended and 1 if it goes on; 3 adds to 1 that it authenticates user-to-user or in DCE style.
+///   Then a server needs MICs of Kerberos too. If the context refused the step, the envelope is 2
+///   and a code of winerror.h in four bytes, the low one first.
+/// - A server's envelope has before that the length of the peer's name in bytes, as two bytes with
+///   the low one first, and the name in UTF-16. The length is 0 while the name is not known.
 ///
-/// After the call the host seals what stands behind the sixteen zeros of the field that the end
-/// made, puts the sealed blob in its place, and sends. Neither an envelope nor such a field is ever
-/// sent, and none may be taken from what came.
+/// After the call the host seals what follows the sixteen zeros in the field that the end made. It
+/// puts the sealed blob in its place, and sends. Neither an envelope nor such a field is ever sent,
+/// and neither may be taken from what was received.
 ///
-/// Refusals, of which the first that holds is answered:
+/// Refusals, of which the first that applies is answered:
 /// - `OutOfSequence`: a step after the one that ended the context; `resume`; completing, sealing,
-///   opening, signing and verifying before it; the name before it was told.
+///   opening, signing and verifying before that one; the name before it is known.
 /// - `ContextExpired`: a message whose count is `u64::MAX`.
-/// - the kind of the code that the host handed in, `InvalidToken` where the code is of no kind.
-/// - `InvalidToken`: an envelope of another form or with a name that is none; a blob under 16
+/// - The kind of the code that the host passed in; `InvalidToken` if the code has no kind.
+/// - `InvalidToken`: an envelope of another form or with an invalid name; a blob of fewer than 16
 ///   bytes.
 /// - `MessageAltered`: a blob or a MIC that does not begin with sixteen zeros; a MIC with another
-///   text behind them.
+///   text after them.
 /// - `UnsupportedFunction`: the session key.
 #[derive(Drop)]
 pub struct Outside {
@@ -85,7 +85,7 @@ fn denied(code: u32) -> Refusal
     }
 }
 
-// The name that the host told.
+// The name that the host gave.
 fn name_in(alloc: Global, bytes: &[u8]) -> Result<Username, Refusal>
     ensures ok { IfOk result (λ name. name_of bytes.now ≡ Some name) }
     ensures err { IfErr result (λ error. error.error_type ≢ kinds.InsufficientMemory →
@@ -102,7 +102,7 @@ fn name_in(alloc: Global, bytes: &[u8]) -> Result<Username, Refusal>
     }
 }
 
-// The number of the next message: `ContextExpired` where there is none.
+// The number of the next message; `ContextExpired` if there is none.
 fn next(count: u64) -> Result<u64, Refusal>
     ensures ok { IfOk result (λ next. (next ≡ count + 1) × (unless_spent count None ≡ None)) }
     ensures err { IfErr result (λ error. unless_spent count None ≡ Some error.error_type) }
@@ -125,7 +125,7 @@ impl Outside {
         }
     }
 
-    // What the host said of a step, and of the peer's name.
+    // What the host said about a step, and about the peer's name.
     fn take(&mut self, heard: Option<Username>, envelope: &[u8]) -> Result<Step, Refusal>
         ensures { Steps (takes self.old heard (said envelope.now)) self.old (answered result)
             self.new }
@@ -194,7 +194,7 @@ impl Outside {
         }
     }
 
-    // The number after this one: `OutOfSequence` before the context has ended.
+    // The number after this one; `OutOfSequence` before the context has ended.
     fn count_on(&self, count: u64) -> Result<u64, Refusal>
         ensures ok { IfOk result (λ next. (next ≡ count + 1) ×
             (unless_early self.now count None ≡ None)) }

@@ -1,4 +1,4 @@
-//! Where a server over the host's mechanism looks its peers up.
+//! Where a server over the host's mechanism looks up its peers.
 ghost use Rattle.std.specs.Prelude.{◌≡◌, [], ◌∷◌, IfOk};
 ghost use Rattle.sspi_outside.specs.Peers.{without_password};
 
@@ -7,8 +7,8 @@ use sspi_names::{AuthIdentity, Username};
 use sspi_types::{Secret, Text};
 use std::alloc::{AllocError, Global};
 
-/// Whoever the mechanism names: each name has one identity, of that name and without a password.
-/// For a mechanism that has its users in a directory of its own, and names only those that it
+/// Whoever the mechanism names: each name has one identity, with that name and without a password.
+/// For a mechanism that keeps its users in a directory of its own, and names only those that it
 /// authenticated.
 #[derive(Drop)]
 pub struct AnyPeer {
@@ -17,7 +17,7 @@ pub struct AnyPeer {
 }
 
 impl AnyPeer {
-    /// Takes no memory.
+    /// Allocates nothing.
     pub fn new(alloc: Global) -> AnyPeer
         ensures { result.calls ≡ 0 }
     {
@@ -74,7 +74,7 @@ impl CredentialsProxy for AnyPeer {
     }
 }
 
-/// The peers that a server takes.
+/// The peers that a server accepts.
 #[derive(Drop)]
 pub enum Peers {
     /// Those of a list.

@@ -53,8 +53,8 @@ fn is_kerberos(protocol: Protocol) -> bool
     }
 }
 
-/// Kerberos under its identifier of Windows 2000, then under its own, each where it may be used and
-/// is selected; then NTLM, where it may be used.
+/// Kerberos by its Windows 2000 identifier, then by its own, each if it may be used and is
+/// selected; then NTLM, if it may be used.
 pub fn pick(list: &[Oid], packages: PackageListConfig, selected: Protocol) -> Option<Picked>
     ensures { result ≡ pick list.now packages selected }
 {
@@ -64,7 +64,7 @@ pub fn pick(list: &[Oid], packages: PackageListConfig, selected: Protocol) -> Op
     picked(kerberos, Choice::MsKerberos, list, by_oid)
 }
 
-/// Kerberos under both identifiers, where it is selected, and NTLM where it may be used.
+/// Kerberos by both identifiers, if it is selected, and NTLM if it may be used.
 pub fn offered(
     alloc: Global,
     selected: Protocol,

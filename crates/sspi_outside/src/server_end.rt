@@ -1,4 +1,4 @@
-//! A server that keeps what its last call came to.
+//! A server that keeps the result of its last call.
 ghost use Rattle.std.specs.Prelude.{◌≡◌};
 ghost use Rattle.sspi_credssp.specs.Context.{either};
 ghost use Rattle.sspi_outside.specs.declared.last.Last.TheVariants as lasts;
@@ -9,17 +9,17 @@ use sspi_mech::Mechanism;
 use sspi_tsreq::TsRequest;
 use sspi_types::Error;
 
-/// A server, and what its last call came to.
+/// A server, and the result of its last call.
 #[derive(Drop)]
 pub struct ServerEnd<N, K, C> {
     /// The server.
     pub server: CredSspServer<N, K, C>,
-    /// What its last call came to.
+    /// The result of its last call.
     pub last: Last,
 }
 
 impl<N, K, C> ServerEnd<N, K, C> {
-    /// Of a server that made no call yet.
+    /// An end with a server that has made no call yet.
     pub fn new(server: CredSspServer<N, K, C>) -> ServerEnd<N, K, C>
         ensures { result ≡ record { server = server; last = lasts.Nothing } }
     {
