@@ -1,4 +1,4 @@
--- What is kept of a scenario, from the record of it up to the source that told it.
+-- What is kept of a scenario, from its record up to the source that gave it.
 use Rattle.std.proofs.Common.{◌≡◌, ℕ, ◌⊎◌, inl, inr, List, [], Option, None, Some, Result, Ok, Err, refl, sym, ap, subst, ◌∙◌}
 use Rattle.std.proofs.lemmas.Bool.{le-leb, lt-leb, and_from, and_right}
 use Rattle.std.specs.Prelude.{IfOk, IfSome, IsErr, IsSome, IsSomeAnd, true, false, nat_le, length}
@@ -120,7 +120,7 @@ sums P tally has c text made told =
     let kept : c.tally ≡ Some tally = ap (λ (d : Conducted). d.tally) made in
     ((rw kept has, tally_alone c tally made kept), rw kept told)
 
--- with a text of which there was memory
+-- with a text for which there was memory
 pub sums_done : (tally : List Record) (c : Conducted) (text : List ℕ) → c ≡ tallying 0 tally → text ≡ summary_text (summary_of tally) →
     (c ≡ tallying c.status tally) × IsDue (TallyDue tally) c.status text
 sums_done tally c text made told =
@@ -147,7 +147,7 @@ sits count scenario seats has c text made told =
     let kept : c.seats ≡ Some seats = ap (λ (d : Conducted). d.seats) made in
     ((rw kept (scenario, refl, has), seats_alone c seats made kept), rw kept told)
 
--- with a text of which there was memory
+-- with a text for which there was memory
 pub seats_done : (status : ℕ) (seats : List PlainSeat) (c : Conducted) (text : List ℕ) → c ≡ seating status seats →
     status ≡ seats_status seats → text ≡ seats_text seats → (c ≡ seating c.status seats) × IsDue (SeatsDue seats) c.status text
 seats_done status seats c text made is told =
@@ -172,7 +172,7 @@ comes_generated count left before now ReadFault made = absurd made
 comes_generated count left before now OtherWords made = absurd made
 comes_generated count left before now NoMemory made = refl
 
--- ---- of another scenario that is such
+-- ---- a weaker condition on the scenario
 
 record_more : (R : Record → Type 0) (P Q : Scenario → Type 0) → ((s : Scenario) → P s → Q s) → (kept : Option Record) →
     IfSome kept (λ k. R k × P k.scenario × IsSome (status_of k.outcome)) →

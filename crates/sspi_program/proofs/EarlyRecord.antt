@@ -1,4 +1,4 @@
--- The record of an exchange and of what its server told behind it.
+-- The record of an exchange and of what its server told after it.
 use Rattle.std.proofs.Common.{◌≡◌, ℕ, List, ◌++◌, length, reverse, drop, Some, Result, Ok, Err, refl, sym, ap, ◌∙◌, subst}
 use Rattle.std.specs.Global.{Vec}
 use Rattle.std.specs.Prelude.{IfOk}
@@ -52,7 +52,7 @@ pub no_other : {A : Type 0} (made : Record) (other : RunOutcome) → HasExchange
     ((answer : Result Delegation DelegateError) → other ≡ outcomes.Delegated answer → A) → A
 no_other made other has is never = never has.exchange.answer (sym is ∙ has.exchange.outcome_is)
 
--- what is told of such a record
+-- what is told about such a record
 pub told_early : {E F : Type 0} (made kept : Record) (report : Result (Vec ℕ) E) (told : Result (ℕ × Vec ℕ) F) (entries : ℕ) →
     IsEarlyOf made kept → IfOk report (λ text. text.items ≡ report_of made) → entries ≡ length made.link.log →
     IfOk told (λ t. (status_of kept.outcome ≡ Some t.0) × IsOkAnd report (λ text. t.1.items ≡ text.items

@@ -1,4 +1,4 @@
--- The status of an early result, where the exchange of a scenario whose ends match came before it.
+-- The status of an early result after the exchange of a scenario whose ends match.
 use Rattle.std.proofs.Common.{◌≡◌, ℕ, inr, List, [], Some, Result, Ok, Err, refl, sym, ap, ◌∙◌, subst}
 use Rattle.std.proofs.Math.Dec.{lit<}
 use Rattle.sspi_names.specs.declared.identity.AuthIdentity.{AuthIdentity}
@@ -28,7 +28,7 @@ use Rattle.sspi_program.specs.Status.{IsUnlessWrite, EndsAs}
 list_calm : (names names2 : List Name) → IsCalm (list_meaning.faults names) (list_meaning.faults names2)
 list_calm names names2 = record { same = refl; counted = lit< tt }
 
--- the status of the names that are admitted, where this one was delegated
+-- the status if these names are admitted and this one was delegated
 abbrev status_for : List Name → Name → ℕ
 status_for names name = heard_status (told_of (is_listed names name))
 

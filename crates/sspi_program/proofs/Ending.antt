@@ -1,4 +1,4 @@
--- What the status of a run is where the source tells its text.
+-- The status of a run whose source exposes its text.
 use Rattle.std.proofs.Common.{◌≡◌, ℕ, ◌≤◌, inl, inr, List, [], Option, None, Some, Result, Ok, Err, refl, sym, ap, ◌∙◌, subst, arith}
 use Rattle.std.specs.Prelude.{IfSome, IsSome, IsSomeAnd, Bool, true, false}
 use Rattle.sspi_names.specs.declared.identity.AuthIdentity.{AuthIdentity}
@@ -50,9 +50,9 @@ both purpose text scenario line is none = cc
 both_ways : (b : Bool) → b ≡ true → b ≡ false → ⊥
 both_ways b is not = cc
 
--- ---- a text that is no scenario
+-- ---- a text that is not a scenario
 
--- where nothing is kept, there was no memory
+-- if nothing is kept, memory ran out
 none_due : (D : Record → ℕ → List ℕ → Type 0) (own : ℕ) (text : List ℕ) → IsDue (KeptDue D None) own text → own ≡ 5
 none_due D own text (inl told) = absurd told
 none_due D own text (inr h) = h.0
@@ -305,7 +305,7 @@ module _ (w w2 : Option (List ℕ)) (f f2 : ℕ) (status : ℕ) where
   early_ends before now text NoMemory comes written = λ scenario is matching.
       early_lost (admitted_status scenario) scenario matching [] written
 
-  -- without memory
+  -- out of memory
   no_memory_status : (text : List ℕ) → Written 5 text w w2 f f2 status → IsUnlessWrite 0 status
   no_memory_status text (inl h) = inr (inr h.0)
   no_memory_status text (inr (inl h)) = inr (inl h.0)

@@ -1,4 +1,4 @@
--- The ends of a scenario whose ends match match, and nothing disturbs their exchange.
+-- The ends of a matching scenario match, and nothing disturbs their exchange.
 use Rattle.std.proofs.Common.{◌≡◌, ℕ, List, length, Option, Some, refl, ap, sym, ◌∙◌, subst, arith}
 use Rattle.sspi_names.specs.declared.network.NetworkRequest.{NetworkRequest}
 use Rattle.sspi_mech.specs.declared.step.Reply.{Reply}
@@ -25,7 +25,7 @@ ntlm_server s server named matching =
     subst (λ (v : ServerSettings). IsNtlmServer v.mode) (sym named.settings)
     (subst (λ (mode : Mode). IsNtlmServer (server_mode_by mode s)) (sym matching) tt)
 
--- the same of the ends and of the KDC that the scenario names, and as many messages
+-- the same for the ends and the KDC that the scenario names, with the same number of messages
 pub record Modes (s : Scenario) (matching : IsMatching s) (told : Option (ℕ → NetworkRequest → Reply)) (call : ℕ) (target : List ℕ)
     (client : ClientMode) (server : ServerMode) : Type 0 where
   pub modes : MatchModes told call target (user_identity s) client server

@@ -1,4 +1,4 @@
--- The ends of the scenario of a number match where nothing stands in the way, and where only the turns are few.
+-- The ends of a numbered scenario match if nothing prevents it, or if only the turns are too few.
 use Rattle.std.proofs.Common.{◌≡◌, ℕ, ◌<◌, ◌≤◌, ◌^◌, ◌%◌, ◌==◌, inl, inr, Bool, true, false, List, [], ◌∷◌, ◌++◌, codes}
 use Rattle.std.proofs.Common.{decimal, length, replicate}
 use Rattle.std.proofs.Common.{option_map, suc, Option, None, Some, Result, Ok, Err, refl, sym, ap, ◌∙◌, subst, arith, if◌then◌else◌}
@@ -129,7 +129,7 @@ picks_ntlm : pick (offered protocols.Ntlm (record { ntlm = true; kerberos = true
 unfolding kind_of
 picks_ntlm = refl
 
--- a server that names itself by no computer
+-- a server that names no computer as its own
 abbrev ntlm_server : List ℕ → NegotiateConfig
 ntlm_server computer = record {
   protocol_config = configs.Ntlm (record { client_computer_name = None; challenge = replicate 8 0 });
@@ -162,7 +162,7 @@ ntlm_negotiation told identity computer no_guest =
 
 -- ---- scenarios that match
 
--- a scenario whose ends match, in which the client makes so many messages and may make so many
+-- a scenario whose ends match, with the number of messages that the client makes and may make
 pub record Matches (messages limit : ℕ) (s : Scenario) : Type 0 where
   pub matching : IsMatching s
   pub made : messages_in s matching ≡ messages

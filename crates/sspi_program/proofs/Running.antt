@@ -51,7 +51,7 @@ some_text w w2 text wrote e = wrote.cut (nothing_behind wrote.front wrote.rest (
 -- ---- how a text was written
 
 module _ (w w2 : Option (List ℕ)) (f f2 : ℕ) where
-  -- another status than 4 and 5 is the text's own, and the whole of it was written
+  -- any status other than 4 and 5 is the text's own, and the whole text was written
   pub whole : (own : ℕ) (text : List ℕ) (status : ℕ) → status ≢ 4 → status ≢ 5 → Written own text w w2 f f2 status → (status ≡ own) ×
       Wrote w w2 text
   whole own text status no_fault memory (inl h) = h
@@ -375,7 +375,7 @@ module _ (command : Option Command) (left : Option (List ℕ)) (before now : ℕ
       (λ (e : status ≡ 5). omega (arith, e, small)) written in
       calm_said said calm (omega (arith, all.0, small))
 
--- a command that is none
+-- words that are not a command
 module _ (left : Option (List ℕ)) (before now : ℕ) (w w2 : Option (List ℕ)) (f f2 : ℕ) where
   none_said : (said : Said) (status : ℕ) → Comes None left before now said →
       Written (said_status said) (said_text said) w w2 f f2 status → IsUnlessWrite 6 status

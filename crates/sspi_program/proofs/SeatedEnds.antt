@@ -1,4 +1,4 @@
--- The ends that a scenario names are one value, whenever they are made.
+-- The ends that a scenario names are the same value, whenever they are made.
 use Rattle.std.proofs.Common.{◌≡◌, ℕ, ◌+◌, List, length, Result, Ok, Err, ◌∙◌, refl, sym, ap, subst}
 use Rattle.std.specs.Prelude.{IfErr, OnOk}
 use Rattle.std.proofs.lemmas.List.{replicate_more}
@@ -15,7 +15,7 @@ use Rattle.sspi_program.specs.Desk.{client_in, server_in, place_in, places_in}
 use Rattle.sspi_program.specs.Ends.{PlainContext, IsClientOf, IsServerOf}
 use Rattle.sspi_program.specs.Making.{AreEndsOf}
 
--- a field after another
+-- field by field
 client_is : (scenario : Scenario) (a : ClientView PlainContext) → IsFreshClient a → IsClientOf scenario a → a ≡ client_in scenario
 client_is scenario a fresh named =
     let made = client_in scenario in
@@ -108,7 +108,7 @@ pub seated_by : {A E : Type 0} (scenario : Scenario) (came : Place PlainContext 
 seated_by scenario came old new result same joined =
     subst (λ (a : Place PlainContext TableView PlainKdcState). OnOk result (new ≡ seating.with_place old a)) (sym same) joined
 
--- with one client more of the scenario
+-- with one more client of the scenario
 pub seated_more : (limit count : ℕ) (scenario : Scenario) (old new : PlainTableView) →
     old ≡ record { limit = limit; places = places_in count scenario } → new ≡ seating.with_place old (place_in scenario) →
     new ≡ record { limit = limit; places = places_in (count + 1) scenario }
@@ -124,7 +124,7 @@ full_by : (table : PlainTableView) (error : JoinError) → seating.IsRefusedFor 
 full_by table Full refused is = refused
 full_by table InsufficientMemory refused is = absurd cc
 
--- the table was full where that is said
+-- the table was full if the answer says so
 pub full_before : {A : Type 0} (table : PlainTableView) (result : Result A JoinError) →
     IfErr result (λ error. seating.IsRefusedFor error table) →
     IfErr result (λ error. error ≡ Full → length table.places ≡ table.limit)

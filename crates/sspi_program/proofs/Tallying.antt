@@ -1,4 +1,4 @@
--- The exchanges of so many numbers, and of one more.
+-- The exchanges of this many numbers, and of one more.
 use Rattle.std.proofs.Common.{◌≡◌, ℕ, ◌+◌, inl, inr, List, [], ◌∷◌, ◌++◌, Result, Ok, Err, refl, sym, subst}
 use Rattle.std.proofs.Common.{arith}
 use Rattle.std.proofs.lemmas.List.{length-append}

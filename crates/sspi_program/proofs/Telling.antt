@@ -1,4 +1,4 @@
--- What is written where nothing is kept.
+-- What is written if nothing is kept.
 use Rattle.std.proofs.Common.{◌≡◌, ℕ, List, Option, sym, ap, subst}
 use Rattle.sspi_program.specs.declared.record.Conducted.{Conducted}
 use Rattle.sspi_program.specs.declared.said.Said.{Said}

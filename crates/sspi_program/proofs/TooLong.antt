@@ -1,4 +1,4 @@
--- A text past the limit is no scenario.
+-- A text past the limit is not a scenario.
 use Rattle.std.proofs.Common.{◌≡◌, ℕ, ◌<◌, false, nat_le, List, length, Err, refl}
 use Rattle.std.proofs.lemmas.Bool.{lt-leb}
 use Rattle.sspi_scenario.specs.declared.purpose.Purpose.{Purpose}

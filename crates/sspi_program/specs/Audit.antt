@@ -7,7 +7,7 @@ use Rattle.sspi_report.specs.Audit.{audit_line}
 use Rattle.sspi_program.specs.declared.record.Record.{Record}
 use Rattle.sspi_program.specs.Said.{status_of, report_of}
 
--- The status and the report of the exchange, and behind it the line of the verdict on its turns and
+-- The status and the report of the exchange, followed by the line of the verdict on its turns and
 -- its log.
 pub record IsJudged (kept : Record) (status : ℕ) (text : List ℕ) : Type 0 where
   pub verdict : Verdict

@@ -33,11 +33,11 @@ counted most digits = within most (number_of digits)
 abbrev pub desk_of : ℕ → Command
 desk_of count = Told (Desk count)
 
--- how many scenarios are made at most
+-- the most scenarios that are made
 abbrev pub most_scenarios : ℕ
 most_scenarios = 10000
 
--- how many sessions a desk has at most
+-- the most sessions that a desk has
 abbrev pub most_sessions : ℕ
 most_sessions = 64
 
@@ -69,11 +69,11 @@ task_in (Some (Told task)) = Some task
 task_in (Some (Gen count)) = None
 task_in (Some Explain) = None
 
--- the text whose messages are explained has at most so many bytes, 2 MiB
+-- the most bytes of a text whose messages are explained, 2 MiB
 abbrev pub explain_limit : ℕ
 explain_limit = 2097152
 
--- how many bytes the text of the source may have, where a command reads it
+-- how many bytes the text of the source may have, if a command reads it
 abbrev pub limit_of : Command → Option ℕ
 limit_of (Told task) = Some text_limit
 limit_of (Gen count) = None
@@ -83,7 +83,7 @@ abbrev pub limit_in : Option Command → Option ℕ
 limit_in None = None
 limit_in (Some command) = limit_of command
 
--- how many bytes of the source are taken at most: one more than its text may have
+-- the most bytes taken from the source: one more than its text may have
 abbrev pub most_taken : Option ℕ → ℕ
 most_taken None = 0
 most_taken (Some limit) = limit + 1

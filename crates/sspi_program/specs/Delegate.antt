@@ -8,12 +8,12 @@ use Rattle.sspi_program.specs.Exchange.{IsExchange}
 use Rattle.sspi_program.specs.Outcome.{messages_in, IsMatching, IsOutcome}
 use Rattle.sspi_program.specs.Status.{EndsMatched}
 
--- the ends of the scenario met, and came to what they come to where nothing stands in their way
+-- the ends of the scenario met, with the outcome that they have if nothing prevents it
 pub record HasExchange (kept : Record) : Type 0 where
   pub exchange : IsExchange kept
   pub comes : IsOutcome kept.scenario exchange.answer
 
--- what the status is where the text is that of a scenario whose ends match
+-- the status if the text is that of a scenario whose ends match
 abbrev pub DelegateEnds : List ℕ → ℕ → Type 0
 DelegateEnds text status = (scenario : Scenario) → scenario_of Exchange text ≡ Ok scenario →
     (matching : IsMatching scenario) →

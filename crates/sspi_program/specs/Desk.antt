@@ -32,7 +32,7 @@ client_in scenario = record {
   kept = None;
 }
 
--- the server, whose table was not asked yet
+-- the server, whose table has not been asked yet
 abbrev pub server_in : Scenario → ServerView PlainContext TableView
 server_in scenario = record {
   settings = server_settings_in scenario;
@@ -53,13 +53,13 @@ server_in scenario = record {
 abbrev pub place_in : Scenario → Place PlainContext TableView PlainKdcState
 place_in scenario = place (client_in scenario) (kdc_in scenario) (server_in scenario)
 
--- the places of so many clients of one scenario
+-- the places of this many clients of one scenario
 abbrev pub places_in : ℕ → Scenario → List (Place PlainContext TableView PlainKdcState)
 places_in count scenario = replicate count (place_in scenario)
 
 -- ---- the sessions
 
--- so many had a session each at one desk
+-- this many clients had a session each at one desk
 abbrev pub HasSeats : ℕ → Scenario → List PlainSeat → Type 0
 HasSeats count scenario seats = AreSeats plain_meaning table_meaning (calls_of_kdc around)
     (places_in count scenario) scenario.turns seats

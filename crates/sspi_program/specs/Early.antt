@@ -20,9 +20,8 @@ use Rattle.sspi_program.specs.Outcome.{messages_in, user_identity, IsMatching}
 use Rattle.sspi_program.specs.Said.{heard_status, report_of, status_of}
 use Rattle.sspi_program.specs.Status.{EndsAs}
 
--- Behind the exchange that `made` is the record of, the server told what the policy decides that
--- the scenario names. Of `made`, only the link went on, the policy came to it, and the outcome is
--- that of the whole.
+-- After the exchange that `made` records, the server told what the scenario's policy decides. Only
+-- the link, the policy and the outcome differ from `made`: the outcome is that of the whole.
 pub record IsEarlyOf (made r : Record) : Type 0 where
   pub exchange : HasExchange made
   pub rest : r ≡ record made { link = r.link; policy = r.policy; outcome = r.outcome }
@@ -37,32 +36,32 @@ pub record HasEarly (kept : Record) : Type 0 where
   pub made : Record
   pub early : IsEarlyOf made kept
 
--- the entries of the log that came behind the exchange, the first one first
+-- the entries of the log that came after the exchange, the first one first
 abbrev pub entries_behind : Record → Record → List Carried
 entries_behind made kept = drop (length made.link.log) (reverse kept.link.log)
 
--- what stands behind the report of the exchange
+-- what follows the report of the exchange
 abbrev pub behind_text : RunOutcome → List Carried → List ℕ
 behind_text (outcomes.Delegated answer) entries = []
 behind_text (outcomes.Played answer) entries = []
 behind_text (outcomes.Early answer) entries = early_text entries answer
 
--- The report of the exchange, and behind it the entries that came behind it and the line of the
--- early result; the status is 0 where the client heard that its user may log on.
+-- The report of the exchange, followed by the entries that came after it and the line of the early
+-- result; the status is 0 if the client heard that its user may log on.
 pub record IsEarlyTold (kept : Record) (status : ℕ) (text : List ℕ) : Type 0 where
   pub made : Record
   pub early : IsEarlyOf made kept
   pub status_is : status_of kept.outcome ≡ Some status
   pub text_is : text ≡ report_of made ++ behind_text kept.outcome (entries_behind made kept)
 
--- what the status is where the exchange comes to its end: 0 where the delegated name is one that
--- the scenario admits, and else 1
+-- the status if the exchange completes: 0 if the delegated name is one that the scenario admits,
+-- and otherwise 1
 abbrev pub admitted_status : Scenario → ℕ
 admitted_status scenario =
     heard_status (told_of (is_listed scenario.admit
     (delegated_as scenario.delegation (user_identity scenario)).username))
 
--- what the status is where the text is that of a scenario whose ends match
+-- the status if the text is that of a scenario whose ends match
 abbrev pub EarlyEnds : List ℕ → ℕ → Type 0
 EarlyEnds text status = (scenario : Scenario) → scenario_of purposes.Early text ≡ Ok scenario →
     (matching : IsMatching scenario) →

@@ -29,7 +29,7 @@ use Rattle.sspi_scenario.specs.declared.scenario.Scenario.{Scenario}
 abbrev pub PlainContext : Type 0
 PlainContext = SspiContext NtlmState KerberosState
 
--- the user's credentials: the keytab where there is one, else the password
+-- the user's credentials: the keytab if there is one, otherwise the password
 abbrev pub credentials_by : Option (List ℕ) → Username → List ℕ → Credentials
 credentials_by None user password = AuthIdentity
     (record { username = user; password = record { value = password } })
@@ -57,7 +57,7 @@ client_ntlm scenario = record {
 abbrev pub server_ntlm : Scenario → NtlmConfig
 server_ntlm scenario = record { client_computer_name = None; challenge = scenario.challenge }
 
--- The client's Kerberos asks the URL that the scenario tells, or that of its realm; the server's
+-- The client's Kerberos asks the KDC at the URL of the scenario, or that of its realm; the server's
 -- asks nobody.
 abbrev pub kerberos_config : Scenario → Option (List ℕ) → KerberosConfig
 kerberos_config scenario url = record {
@@ -125,7 +125,7 @@ server_settings_in scenario = record {
 abbrev pub IsClientOf : Scenario → ClientView PlainContext → Type 0
 IsClientOf scenario a = a.settings ≡ client_settings_in scenario
 
--- the server has what the scenario names, a table of which no call was made included
+-- the server has what the scenario names, including a table on which no call was made
 pub record IsServerOf (scenario : Scenario) (a : ServerView PlainContext TableView) : Type 0 where
   pub settings : a.settings ≡ server_settings_in scenario
   pub proxy : a.proxy ≡ record {
@@ -135,11 +135,11 @@ pub record IsServerOf (scenario : Scenario) (a : ServerView PlainContext TableVi
     faults = 0;
   }
 
--- the link has the scenario's edits, and carried nothing yet
+-- the link has the scenario's edits, and has carried nothing yet
 abbrev pub link_in : Scenario → MemoryLinkView
 link_in scenario = record { log = []; edits = scenario.edit; faults = 0; most = None }
 
--- the KDC knows the scenario's names and answers by its script, and was not asked yet
+-- the KDC knows the scenario's names and answers by its script, and has not been asked yet
 abbrev pub kdc_in : Scenario → PlainKdcState
 kdc_in scenario = record {
   users = scenario.kdc_user;

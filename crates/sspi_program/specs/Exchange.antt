@@ -1,4 +1,4 @@
--- What holds of an exchange that is kept.
+-- What holds for an exchange that is kept.
 use Rattle.std.specs.Prelude.{◌≡◌, ℕ, List, [], Option, Some, Result}
 use Rattle.sspi_names.specs.declared.network.NetworkRequest.{NetworkRequest}
 use Rattle.sspi_mech.specs.Meaning.{Meaning}
@@ -24,7 +24,7 @@ use Rattle.sspi_program.specs.declared.record.RunOutcome.TheVariants.{Delegated}
 abbrev pub plain_meaning : Meaning ContextSetting PlainContext
 plain_meaning = either 0 ntlm_meaning kerberos_meaning
 
--- the KDC tells its reply to each call
+-- the KDC exposes its reply to each call
 abbrev pub told_replies : PlainKdcState → Option (ℕ → NetworkRequest → Reply)
 told_replies kdc = Some (told_by kdc.users kdc.script)
 
@@ -47,7 +47,7 @@ abbrev pub around : Around TableView MemoryLinkView PlainKdcState
 around = around_by table_meaning link_log told_edits link_faults told_replies kdc_asked kdc_faults
 
 -- The ends that the scenario names met over the link that it names, and the client asked the KDC
--- that it names: all that `delegate` promises holds from these as they were made, and from an empty
+-- that it names. All that `delegate` promises holds from these as they were made, with an empty
 -- log, to what the record keeps.
 pub record IsExchange (r : Record) : Type 0 where
   -- the ends as they were made
@@ -61,7 +61,7 @@ pub record IsExchange (r : Record) : Type 0 where
   pub follows : FollowsEdits r.scenario.edit r.link.log
   -- nobody is admitted
   pub policy : r.policy ≡ []
-  -- what `delegate` answered, and all that it promises of these ends
+  -- what `delegate` answered, and all that it promises about these ends
   pub answer : Result Delegation DelegateError
   pub outcome_is : r.outcome ≡ Delegated answer
   pub delegates : Delegates plain_meaning around

@@ -16,7 +16,7 @@ use Rattle.sspi_program.specs.declared.record.Record.{Record}
 use Rattle.sspi_program.specs.Said.{report_of}
 use Rattle.sspi_program.specs.Status.{IsUnlessFault}
 
--- these bytes, if they are of this end
+-- these bytes, if they come from this end
 abbrev pub bytes_from : End → End → List ℕ → List ℕ
 bytes_from Client Client bytes = bytes
 bytes_from Client Server bytes = []
@@ -27,7 +27,7 @@ bytes_from Server Server bytes = bytes
 abbrev pub delivered_from : End → Carried → List ℕ
 delivered_from end entry = bytes_from end entry.from entry.delivered
 
--- what was delivered of the messages of an end, one behind the other
+-- what was delivered of the messages of an end, one after the other
 abbrev pub stream_of : End → List Carried → List ℕ
 stream_of end log = flat_map (delivered_from end) log
 
@@ -46,7 +46,7 @@ abbrev pub relayed_status : Result Relayed GateError → ℕ
 relayed_status (Ok relayed) = 0
 relayed_status (Err error) = 1
 
--- The report of the exchange, and behind it the line of a relay of the two streams that its log
+-- The report of the exchange, followed by the line of a relay of the two streams that its log
 -- delivered.
 pub record IsGated (kept : Record) (status : ℕ) (text : List ℕ) : Type 0 where
   pub answer : Result Relayed GateError
@@ -57,7 +57,7 @@ pub record IsGated (kept : Record) (status : ℕ) (text : List ℕ) : Type 0 whe
   pub status_is : status ≡ relayed_status answer
   pub text_is : text ≡ report_of kept ++ line
 
--- an exchange of which something was relayed ends with 0 or 1, whatever came of it
+-- a scenario ends with 0 or 1, whatever its relay came to, except for a fault or out of memory
 abbrev pub GateEnds : List ℕ → ℕ → Type 0
 GateEnds text status =
     (scenario : Scenario) → scenario_of Exchange text ≡ Ok scenario → (own : ℕ) × (own ≤ 1) ×

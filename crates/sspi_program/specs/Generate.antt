@@ -18,15 +18,15 @@ use Rattle.sspi_program.specs.Said.{status_of}
 
 -- ---- the exchange of a number
 
--- nothing stands in the way of it
+-- nothing prevents it
 abbrev pub IsFree : ℕ → Type 0
 IsFree i = (i % 8 ≡ 0) ⊎ ((i % 8 ≡ 1) ⊎ ((i % 8 ≡ 2) ⊎ (i % 8 ≡ 5)))
 
--- the messages that the client makes then: three by NTLM alone, four in a negotiation
+-- the messages that the client then makes: three by NTLM alone, four in a negotiation
 abbrev pub messages_at : ℕ → ℕ
 messages_at i = if i % 2 == 0 then 3 else 4
 
--- the server has these credentials, after so many messages of the client
+-- the server has these credentials, after this many messages of the client
 abbrev pub HasDelegated : ℕ → AuthIdentity → RunOutcome → Type 0
 HasDelegated messages identity (Delegated (Ok delegation)) = (delegation.rounds ≡ messages) ×
     (delegation.credentials ≡ identity)
@@ -34,9 +34,9 @@ HasDelegated messages identity (Delegated (Err error)) = ⊥
 HasDelegated messages identity (Played answer) = ⊥
 HasDelegated messages identity (Early answer) = ⊥
 
--- The exchange of the scenario of a number, in which memory was not wanting. Where nothing stands
--- in its way the server has the user's credentials; where the client may make two messages alone,
--- its turns are spent.
+-- The exchange of the scenario of a number, in which memory did not run out. If nothing prevents
+-- it, the server has the user's credentials; if the client may make only two messages, its turns
+-- are spent.
 pub record IsNumbered (i : ℕ) (r : Record) : Type 0 where
   pub scenario_is : r.scenario ≡ numbered i
   pub exchange : HasExchange r
@@ -44,7 +44,7 @@ pub record IsNumbered (i : ℕ) (r : Record) : Type 0 where
   pub free : IsFree i → HasDelegated (messages_at i) (user_identity (numbered i)) r.outcome
   pub spent : i % 8 ≡ 4 → r.outcome ≡ Delegated (Err TurnsSpent)
 
--- the exchanges of the numbers from 0 on, so many, one behind the other
+-- the exchanges of this many numbers, from 0 on, in order
 pub record AreNumbered (count : ℕ) (tally : List Record) : Type 0 where
   pub counted : length tally ≡ count
   pub each : (i : ℕ) (r : Record) → slice_get tally i ≡ Some r → IsNumbered i r
@@ -60,7 +60,7 @@ abbrev pub how_many : Kind → List Record → ℕ
 how_many kind tally = count_by (λ r. came_to kind r.outcome) tally
 
 -- how many exchanges there are, how many came to each kind of outcome, and how many messages their
--- logs have together
+-- logs have in total
 abbrev pub summary_of : List Record → Summary
 summary_of tally = record {
   runs = length tally;

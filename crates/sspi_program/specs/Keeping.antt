@@ -2,13 +2,13 @@
 use Rattle.std.specs.Prelude.{◌≡◌, ℕ, List, [], ◌∷◌, ◌++◌, Option, Some, None, ◌⊎◌, Result, Ok, Err}
 use Rattle.sspi_ber.specs.declared.source.SourceError.{SourceError}
 
--- the source that it reads, and what it gave so far: nothing once there was no memory for it
+-- the source that it reads, and what it gave so far: none once memory for it ran out
 pub record KeepingView (S : Type 0) : Type 0 where
   pub source : S
   pub given : Option (List ℕ)
 
--- this piece is kept behind what was kept before, or there was no memory for it and nothing is kept
--- from here on
+-- this piece is kept after what was kept before, or memory for it ran out and nothing is kept from
+-- here on
 abbrev pub Keeps : Option (List ℕ) → Option (List ℕ) → List ℕ → Type 0
 Keeps None now piece = now ≡ None
 Keeps (Some given) now piece = (now ≡ Some (given ++ piece)) ⊎ (now ≡ None)

@@ -12,15 +12,15 @@ nothing status = record { status = status; kept = None; tally = None; seats = No
 abbrev pub keeping : ℕ → Record → Conducted
 keeping status kept = record (nothing status) { kept = Some kept }
 
--- the same of the records of many scenarios
+-- the same for the records of many scenarios
 abbrev pub tallying : ℕ → List Record → Conducted
 tallying status tally = record (nothing status) { tally = Some tally }
 
--- the same of the sessions of a desk
+-- the same for the sessions of a desk
 abbrev pub seating : ℕ → List PlainSeat → Conducted
 seating status seats = record (nothing status) { seats = Some seats }
 
--- nothing is kept but a record, if any is; but the records of many scenarios; but sessions
+-- at most a record is kept; at most the records of many scenarios; at most sessions
 abbrev pub HasRecordAlone : Conducted → Type 0
 HasRecordAlone conducted = conducted ≡ record (nothing conducted.status) { kept = conducted.kept }
 

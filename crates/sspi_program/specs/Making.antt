@@ -1,4 +1,4 @@
--- The two ends that are made of a scenario, and their KDC, before they meet.
+-- The two ends that are made from a scenario, and their KDC, before they meet.
 use Rattle.std.specs.Prelude.{◌≡◌}
 use Rattle.sspi_credssp.specs.Ends.{IsFreshClient, IsFreshServer}
 use Rattle.sspi_scenario.specs.declared.scenario.Scenario.{Scenario}

@@ -1,4 +1,4 @@
--- What the exchange of a scenario comes to where nothing stands in its way.
+-- What the exchange of a scenario comes to if nothing prevents it.
 use Rattle.std.specs.Prelude.{◌≡◌, ℕ, ◌<◌, ◌≤◌, [], length, Option, None, Some, Result, IfOk}
 use Rattle.std.specs.Prelude.{nat_lt}
 use Rattle.sspi_names.specs.declared.identity.AuthIdentity.{AuthIdentity}
@@ -23,9 +23,9 @@ abbrev pub kdc_told : Scenario → Option (ℕ → NetworkRequest → Reply)
 kdc_told scenario = Some (told_by scenario.kdc_user scenario.kdc_answer)
 
 -- The ends that the scenario names match: both authenticate by plain NTLM alone, or both negotiate
--- and come to a mechanism. Nothing is edited and no look-up fails; the client has the password that
--- the server's table knows, both ends have one key and one kind of proof, and each takes the
--- other's version.
+-- and agree on a mechanism. Nothing is edited and no lookup fails. The client has the password that
+-- the server's table knows, both ends have one key and kind of proof, and each takes the other's
+-- version.
 pub record IsMatching (scenario : Scenario) : Type 0 where
   pub mode : MatchModes (kdc_told scenario) 0 scenario.target (user_identity scenario)
       (client_mode_in scenario) (server_mode_in scenario)
@@ -40,16 +40,16 @@ pub record IsMatching (scenario : Scenario) : Type 0 where
   pub entry : HasEntry scenario.account (user_identity scenario)
   pub short : IsShort (user_identity scenario)
 
--- the messages that the client makes then
+-- the number of messages that the client then makes
 abbrev pub messages_in : (scenario : Scenario) → IsMatching scenario → ℕ
 messages_in scenario matching =
     messages_of (kdc_told scenario) 0 scenario.target (user_identity scenario)
     (client_mode_in scenario) (server_mode_in scenario)
     matching.mode
 
--- Ok of plain NTLM alone takes three messages of the client. A scenario whose ends match comes to
--- Ok where the client may make as many messages as it takes, and else is cut short; but when out of
--- memory.
+-- By plain NTLM alone, Ok takes at least three messages of the client. A scenario whose ends match
+-- comes to Ok if the client may make the messages that this takes. Otherwise it is cut short.
+-- Either may run out of memory.
 pub record IsOutcome (scenario : Scenario) (answer : Result Delegation DelegateError) : Type 0 where
   pub three : scenario.mode ≡ Ntlm → IfOk answer (λ delegation. 3 ≤ delegation.rounds)
   pub comes : (matching : IsMatching scenario) → messages_in scenario matching ≤ scenario.turns →

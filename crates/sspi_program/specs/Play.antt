@@ -28,8 +28,8 @@ use Rattle.sspi_program.specs.Status.{IsUnlessFault}
 abbrev pub no_link : MemoryLinkView
 no_link = record { log = []; edits = []; faults = 0; most = None }
 
--- The ends that the scenario names took its deliveries, and the client asked the KDC that it names:
--- all that `play` promises holds from these as they were made to what the record keeps.
+-- The ends that the scenario names took its deliveries, and the client asked the KDC that it names.
+-- All that `play` promises holds from these as they were made to what the record keeps.
 pub record HasPlay (r : Record) : Type 0 where
   -- the ends as they were made
   pub client : ClientView PlainContext
@@ -40,7 +40,7 @@ pub record HasPlay (r : Record) : Type 0 where
   pub link : r.link ≡ no_link
   -- nobody is admitted
   pub policy : r.policy ≡ []
-  -- what `play` answered, and all that it promises of these ends
+  -- what `play` answered, and all that it promises about these ends
   pub answer : Result Played DelegateError
   pub outcome_is : r.outcome ≡ outcomes.Played answer
   pub accounts : Accounts plain_meaning table_meaning (calls_of_kdc around) r.scenario.deliver
@@ -58,7 +58,7 @@ pub record HasPlay (r : Record) : Type 0 where
   pub kdc : KdcStays told_replies kdc_faults (kdc_in r.scenario) r.kdc
   pub proxy : ProxyStays table_meaning server.proxy r.server.value.proxy
 
--- what is delivered refuses no play
+-- whatever is delivered, a play is not refused
 abbrev pub PlayEnds : List ℕ → ℕ → Type 0
 PlayEnds text status = (scenario : Scenario) → scenario_of purposes.Play text ≡ Ok scenario →
     IsUnlessFault 0 status

@@ -1,4 +1,4 @@
--- What each command promises where it has its way.
+-- What each command promises if it is carried out.
 use Rattle.std.specs.Prelude.{◌≡◌, ℕ, List, Option, IfSome, IsSome, IsSomeAnd}
 use Rattle.sspi_scenario.specs.declared.scenario.Scenario.{Scenario}
 use Rattle.sspi_program.specs.declared.command.Command.{Command}
@@ -20,24 +20,24 @@ use Rattle.sspi_program.specs.Play.{HasPlay, PlayEnds}
 use Rattle.sspi_program.specs.Said.{status_of, RecordDue, IsDue}
 use Rattle.sspi_program.specs.Status.{IsUnlessWrite}
 
--- a record is kept, if any is, of which this holds, of such a scenario, and in which no there was
--- no memory; and nothing else is
+-- if a record is kept, this holds for it, its scenario is such, and it did not run out of memory;
+-- and nothing else is kept
 abbrev pub KeepsRecord : (Record → Type 0) → (Scenario → Type 0) → Conducted → Type 0
 KeepsRecord P IsOf conducted =
     IfSome conducted.kept (λ kept. P kept × IsOf kept.scenario × IsSome (status_of kept.outcome)) ×
     HasRecordAlone conducted
 
--- the same of the records of many scenarios
+-- the same for the records of many scenarios
 abbrev pub KeepsTally : (List Record → Type 0) → Conducted → Type 0
 KeepsTally P conducted = IfSome conducted.tally P × HasTallyAlone conducted
 
--- the sessions of one scenario that is such
+-- the same for the sessions of one such scenario
 abbrev pub KeepsSeats : ℕ → (Scenario → Type 0) → Conducted → Type 0
 KeepsSeats count IsOf conducted =
     IfSome conducted.seats (λ seats. (scenario : Scenario) × IsOf scenario ×
     HasSeats count scenario seats) × HasSeatsAlone conducted
 
--- what a command keeps, of a scenario that is such
+-- what a command keeps, for such a scenario
 abbrev pub Keeps : Command → (Scenario → Type 0) → Conducted → Type 0
 Keeps (Told Delegate) IsOf conducted = KeepsRecord HasExchange IsOf conducted
 Keeps (Told Play) IsOf conducted = KeepsRecord HasPlay IsOf conducted
@@ -48,7 +48,7 @@ Keeps (Told (Desk count)) IsOf conducted = KeepsSeats count IsOf conducted
 Keeps (Gen count) IsOf conducted = KeepsTally (AreNumbered count) conducted
 Keeps Explain IsOf conducted = conducted ≡ nothing conducted.status
 
--- a record is kept for which these are due
+-- a record is kept for which this status and this text are due
 abbrev pub KeptDue : (Record → ℕ → List ℕ → Type 0) → Option Record → ℕ → List ℕ → Type 0
 KeptDue D kept status text = IsSomeAnd kept (λ k. D k status text)
 
@@ -62,19 +62,19 @@ TaskDue Early conducted status text = KeptDue IsEarlyTold conducted.kept status 
 TaskDue (Desk count) conducted status text =
     IsSomeAnd conducted.seats (λ seats. SeatsDue seats status text)
 
--- the same of a command, where the source has this left
+-- the same for a command, if the source has this left
 abbrev pub Due : Command → Option (List ℕ) → Conducted → ℕ → List ℕ → Type 0
 Due (Told task) left conducted status text = TaskDue task conducted status text
 Due (Gen count) left conducted status text =
     IsSomeAnd conducted.tally (λ tally. TallyDue tally status text)
 Due Explain left conducted status text = ExplainDue left status text
 
--- what a command made of a scenario that is such
+-- what a command made of such a scenario
 abbrev pub Does : Command → Option (List ℕ) → (Scenario → Type 0) → Conducted → List ℕ → Type 0
 Does command left IsOf conducted text = Keeps command IsOf conducted ×
     IsDue (Due command left conducted) conducted.status text
 
--- what the status is where the source tells its text
+-- the status if the source exposes its text
 abbrev pub EndsSo : Command → Option (List ℕ) → ℕ → Type 0
 EndsSo (Told Delegate) left status = IfSome left (λ text. DelegateEnds text status)
 EndsSo (Told Play) left status = IfSome left (λ text. PlayEnds text status)

@@ -21,7 +21,7 @@ use Rattle.sspi_program.specs.Said.{line_text, no_text}
 use Rattle.sspi_program.specs.Status.{IsUnlessWrite, IsUnlessFault}
 
 -- what the source and the sink of a run show at one moment: the bytes that are left and those that
--- were written, where these are told, and how often each failed
+-- were written, if these are exposed, and how often each failed
 pub record Outside : Type 0 where
   pub left : Option (List ℕ)
   pub read_faults : ℕ
@@ -39,7 +39,7 @@ outside left read_faults written write_faults =
 
 -- ---- what is due
 
--- the scenario that the source tells, where it tells its text
+-- the scenario in the text of the source, if that is exposed
 abbrev pub IsTold : Purpose → Option (List ℕ) → Scenario → Type 0
 IsTold purpose left scenario = IfSome left (λ text. scenario_of purpose text ≡ Ok scenario)
 
@@ -66,8 +66,7 @@ Comes command left faults faults2 ReadFault = IsSome (limit_in command) × Rose 
 Comes command left faults faults2 OtherWords = command ≡ None
 Comes command left faults faults2 NoMemory = IsSome command
 
--- a text is due with what is said: of a command, for what is kept of it and what the source has
--- left
+-- a text is due with what is said: for a command, by what it keeps and what the source has left
 abbrev pub HasText : Option Command → Option (List ℕ) → Said → Type 0
 HasText command left (Done conducted text) =
     IsSomeAnd command (λ c. Due c left conducted conducted.status text.items)
@@ -79,7 +78,7 @@ HasText command left NoMemory = ⊥
 
 -- ---- what a run promises
 
--- what is kept: by a command what it keeps of a scenario that the source tells, and else nothing
+-- what is kept: by a command, what it keeps for the scenario of the source; otherwise nothing
 abbrev pub KeepsOnly : Option Command → Option (List ℕ) → Conducted → Type 0
 KeepsOnly None left conducted = conducted ≡ nothing conducted.status
 KeepsOnly (Some command) left conducted = Keeps command (IsToldFor (Some command) left) conducted
@@ -89,13 +88,13 @@ abbrev pub IsReported : (ℕ → List ℕ → Type 0) → ℕ → Outside → Ou
 IsReported D status before after = (text : List ℕ) × D status text ×
     Wrote before.written after.written text
 
--- a line of the text was named that is to blame
+-- a line of the text that is to blame was named
 pub record WroteLine (purpose : Purpose) (before after : Outside) : Type 0 where
   pub line : ℕ
   pub refused : NoneTold purpose before.left line
   pub wrote : Wrote before.written after.written (line_text line)
 
--- the text of the source is none for a command: a line of it was named, or that it cannot be
+-- a command refused the text of the source: it named a line of the text, or said that it cannot be
 -- explained
 abbrev pub WroteRefusal : Command → Outside → Outside → Type 0
 WroteRefusal (Told task) before after = WroteLine (purpose_of task) before after
@@ -103,20 +102,20 @@ WroteRefusal (Gen count) before after = ⊥
 WroteRefusal Explain before after = HasNoText before.left ×
     Wrote before.written after.written no_text
 
--- a command refuses a text that is none for it
+-- a command refuses a text that is not for it
 abbrev pub RefusesText : Command → ℕ → List ℕ → Type 0
 RefusesText (Told task) status text = (line : ℕ) → scenario_of (purpose_of task) text ≡ Err line →
     IsUnlessFault 2 status
 RefusesText (Gen count) status text = Unit {0}
 RefusesText Explain status text = is_explainable text ≡ false → IsUnlessFault 2 status
 
--- when each status comes, of any command
+-- when each status occurs, for any command
 pub record HasStatus (command : Option Command) (before after : Outside) (status : ℕ) : Type 0 where
   pub most : status ≤ 6
-  -- up to 2: the whole text was read, where one is
+  -- up to 2: the whole text was read, if one is
   pub whole : status ≤ 2 → IfSome (limit_in command)
       (λ limit. IsReadWhole limit before.left after.left)
-  -- 2: the text is no scenario, or cannot be explained
+  -- 2: the text is not a scenario, or cannot be explained
   pub two : status ≡ 2 → IsSomeAnd command (λ c. WroteRefusal c before after)
   pub refused : IfSome command (λ c. IfSome before.left (RefusesText c status))
   -- up to 2: no read failed
@@ -127,25 +126,25 @@ pub record HasStatus (command : Option Command) (before after : Outside) (status
   -- 4: the sink failed, and at any other status it did not
   pub four : status ≡ 4 → Rose before.write_faults after.write_faults
   pub clean : (status ≡ 4 → ⊥) → after.write_faults ≡ before.write_faults
-  -- 6: the words are no command
+  -- 6: the words are not a command
   pub six : status ≡ 6 → (command ≡ None) × Wrote before.written after.written words_text
   pub no_command : command ≡ None → IsUnlessWrite 6 status
 
 -- The whole text was written, and the status is its own; or a proper prefix of it, since the sink
--- failed (4) or had no memory (5).
+-- failed (4) or ran out of memory (5).
 abbrev pub Written : ℕ → List ℕ → Option (List ℕ) → Option (List ℕ) → ℕ → ℕ → ℕ → Type 0
 Written own text before after faults faults2 status =
     ((status ≡ own) × Wrote before after text)
     ⊎ (((status ≡ 4) × Rose faults faults2 × WroteFront before after text)
     ⊎ ((status ≡ 5) × WroteFront before after text))
 
--- what was written is the text that the words and the source owe, or a proper prefix of it
+-- what was written is the text that the words and the source call for, or a proper prefix of it
 pub record WroteOwed (command : Option Command) (before after : Outside)
     (conducted : Conducted) : Type 0 where
   pub said : Said
   pub owed : Comes command before.left before.read_faults after.read_faults said
   pub keeps : conducted ≡ conducted_as conducted.status said
-  -- where the sink failed there was a text, and what it is due for is kept
+  -- if the sink failed there was a text, and what it was due for is kept
   pub told : conducted.status ≡ 4 → HasText command before.left said
   pub wrote : Written (said_status said) (said_text said) before.written after.written
       before.write_faults after.write_faults
@@ -160,7 +159,7 @@ pub record IsRun (command : Option Command) (before after : Outside) (conducted 
   pub reported : conducted.status ≤ 1 →
       IsSomeAnd command (λ c. IsReported (Due c before.left conducted) conducted.status before
       after)
-  -- the status where the source tells its text
+  -- the status if the source exposes its text
   pub ends : IfSome command (λ c. EndsSo c before.left conducted.status)
   pub owed : WroteOwed command before after conducted
 

@@ -39,14 +39,13 @@ line_text line = with_newline (codes "error: scenario line " ++ decimal line)
 
 -- ---- the report of a record
 
--- 0 where the server has the credentials, 1 where the exchange was refused; none where there was no
--- memory
+-- 0 if the server has the credentials, 1 if the exchange was refused; none if memory ran out
 abbrev pub delegated_status : Result Delegation DelegateError → Option ℕ
 delegated_status (Ok delegation) = Some 0
 delegated_status (Err errors.InsufficientMemory) = None
 delegated_status (Err error) = Some 1
 
--- 0 where the client heard that its user may log on, and else 1
+-- 0 if the client heard that its user may log on, and otherwise 1
 abbrev pub heard_status : EarlyUserAuthResult → ℕ
 heard_status Success = 0
 heard_status AccessDenied = 1
@@ -56,7 +55,7 @@ early_status (Ok early) = Some (heard_status early.heard)
 early_status (Err early_errors.InsufficientMemory) = None
 early_status (Err error) = Some 1
 
--- the same of a play, which nothing refuses
+-- the same for every outcome; a play is never refused
 abbrev pub status_of : RunOutcome → Option ℕ
 status_of (Delegated answer) = delegated_status answer
 status_of (Played (Ok played)) = Some 0
@@ -64,7 +63,7 @@ status_of (Played (Err error)) = None
 status_of (outcomes.Early answer) = early_status answer
 
 -- The report of the whole log or of all turns, the first one first. That of an early result has two
--- parts, which its word puts together.
+-- parts, which `early` puts together.
 abbrev pub report_by : RunOutcome → Record → List ℕ
 report_by (Delegated answer) kept = report_text (reverse kept.link.log) answer
 report_by (Played (Ok played)) kept = play_text (reverse kept.transcript.turns) played
@@ -74,14 +73,14 @@ report_by (outcomes.Early answer) kept = []
 abbrev pub report_of : Record → List ℕ
 report_of kept = report_by kept.outcome kept
 
--- the status and the text that are due for a record; none where there was no memory
+-- the status and the text that are due for a record; none if memory ran out
 abbrev pub record_due : Record → Option (ℕ × List ℕ)
 record_due kept = option_map (λ status. (status, report_of kept)) (status_of kept.outcome)
 
 abbrev pub RecordDue : Record → ℕ → List ℕ → Type 0
 RecordDue kept status text = record_due kept ≡ Some (status, text)
 
--- the status and the text are such that are due; or, where the text had no memory, there is none
+-- this status and this text are due; or memory for the text ran out, and there is none
 abbrev pub IsDue : (ℕ → List ℕ → Type 0) → ℕ → List ℕ → Type 0
 IsDue D status text = D status text ⊎ ((status ≡ 5) × (text ≡ []))
 

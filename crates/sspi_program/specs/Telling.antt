@@ -1,4 +1,4 @@
--- How a record is told, step by step.
+-- What is said of a record, step by step.
 use Rattle.std.specs.Prelude.{◌≡◌, ℕ, true, false, List, Option, None, IsSome, Ok, ◌⊎◌, [], Result}
 use Rattle.std.specs.Prelude.{Err, IsErr}
 use Rattle.std.specs.Global.{Vec}
@@ -22,8 +22,8 @@ use Rattle.sspi_program.specs.Seats.{PlainSeat}
 use Rattle.sspi_program.specs.Said.{status_of, RecordDue, IsDue}
 use Rattle.sspi_program.specs.Commands.{purpose_of}
 
--- what was read of the source where its text was judged: all of it, or one byte more than a text
--- may have
+-- what was read from the source if its text was judged: all of it, or one byte more than a text may
+-- have
 abbrev pub IsJudged : ℕ → Option (List ℕ) → Option (List ℕ) → Said → Type 0
 IsJudged limit before after (Done conducted text) = IsReadWhole limit before after
 IsJudged limit before after (NoScenario line) = IsReadWhole limit before after
@@ -32,7 +32,7 @@ IsJudged limit before after ReadFault = Unit {0}
 IsJudged limit before after OtherWords = Unit {0}
 IsJudged limit before after NoMemory = Unit {0}
 
--- no read failed, but where that is said
+-- no read failed, unless that is said
 abbrev pub ReadsWell : ℕ → ℕ → Said → Type 0
 ReadsWell before now (Done conducted text) = now ≡ before
 ReadsWell before now (NoScenario line) = now ≡ before
@@ -51,7 +51,7 @@ Conducts task scenario ReadFault = ⊥
 Conducts task scenario OtherWords = ⊥
 Conducts task scenario NoMemory = Unit {0}
 
--- what is made of so many scenarios
+-- what is made of this many scenarios
 abbrev pub Generates : ℕ → Said → Type 0
 Generates count (Done conducted written) = Does (Gen count) None (λ s. Unit {0}) conducted
     written.items
@@ -61,7 +61,7 @@ Generates count ReadFault = ⊥
 Generates count OtherWords = ⊥
 Generates count NoMemory = Unit {0}
 
--- what is said where this is kept with its status, and this text is due
+-- what is said if this is kept with its status and this text is due
 abbrev pub SaysDue : (ℕ → Conducted) → (ℕ → List ℕ → Type 0) → Said → Type 0
 SaysDue kept Due (Done conducted written) = (conducted ≡ kept conducted.status) ×
     IsDue Due conducted.status written.items
@@ -86,8 +86,8 @@ SaysOf kept ReadFault = ⊥
 SaysOf kept OtherWords = ⊥
 SaysOf kept NoMemory = status_of kept.outcome ≡ None
 
--- the record is kept with the status and the text that are told; or, where these had no memory,
--- with none
+-- the record is kept with the given status and text; or, if memory for these ran out, with status 5
+-- and no text
 abbrev pub IsDoneWith : {E : Type 0} → Record → Result (ℕ × Vec ℕ) E → Said → Type 0
 IsDoneWith kept told (Done conducted text) = (conducted ≡ keeping conducted.status kept) ×
     ((told ≡ Ok (conducted.status, text)) ⊎
@@ -98,7 +98,7 @@ IsDoneWith kept told ReadFault = ⊥
 IsDoneWith kept told OtherWords = ⊥
 IsDoneWith kept told NoMemory = ⊥
 
--- what is said of a record with the status and the text that are told
+-- what is said of a record with the given status and text
 abbrev pub SaysWith : {E : Type 0} → Record → Result (ℕ × Vec ℕ) E → Said → Type 0
 SaysWith kept told (Done conducted text) = (conducted ≡ keeping conducted.status kept) ×
     IsSome (status_of kept.outcome) ×
@@ -130,7 +130,7 @@ ExplainsText text ReadFault = ⊥
 ExplainsText text OtherWords = ⊥
 ExplainsText text NoMemory = Unit {0}
 
--- the same of bytes, which are a text where they are UTF-8
+-- the same for bytes, which are a text if they are UTF-8
 abbrev pub Explains : List ℕ → Said → Type 0
 Explains bytes (Done conducted told) =
     (is_utf8 bytes ≡ true) × (conducted ≡ nothing 0) × (told.items ≡ explained bytes)

@@ -8,18 +8,18 @@ ghost use Rattle.sspi_program.specs.declared.command.TheConstants.{MOST_SCENARIO
 use sspi_scenario::Purpose;
 use sspi_scenario::number::number;
 
-/// How many scenarios are made at most.
+/// The most scenarios that are made.
 pub const MOST_SCENARIOS: u32 = 10_000;
 
-/// How many sessions a desk has at most.
+/// The most sessions that a desk has.
 pub const MOST_SESSIONS: u32 = 64;
 
 /// What the words of the program ask for.
 #[derive(Clone, Copy)]
 pub enum Command {
-    /// This, of the scenario that the source tells.
+    /// This task, for the scenario in the text of the source.
     Told(Task),
-    /// The exchanges of so many scenarios, which are made of their numbers. The source is not read.
+    /// The exchanges of this many scenarios, made from their numbers. The source is not read.
     Gen(u32),
     /// What the messages in the text of the source say.
     Explain,
@@ -32,18 +32,18 @@ pub enum Task {
     Delegate,
     /// Its ends take the deliveries of its schedule.
     Play,
-    /// What `Delegate` does, and then a relay passes what the link delivered.
+    /// What `Delegate` does, and then a relay passes on what the link delivered.
     Gate,
     /// What `Delegate` does, and then its turns and its log are judged.
     Audit,
     /// What `Delegate` does, and then its server tells whether the user may log on.
     Early,
-    /// So many clients of it have a session each at one desk.
+    /// This many of its clients have a session each at one desk.
     Desk(u32),
 }
 
 impl Task {
-    /// What the scenario of this is for.
+    /// What the scenario of this task is for.
     pub fn purpose(self) -> Purpose
         ensures { result ≡ Commands.purpose_of self }
     {
@@ -56,7 +56,7 @@ impl Task {
     }
 }
 
-/// The command of these words, which are its name and, where there is one, its number.
+/// The command of these words, which are its name and, if it has one, its number.
 pub fn command_of(words: &[String]) -> Option<Command>
     ensures { result ≡ command_of words.now }
 {
@@ -94,7 +94,7 @@ fn numbered_command(word: &str, digits: &str) -> Option<Command>
     }
 }
 
-/// The number from 1 to this that a text of decimal digits is, without a sign or a leading zero.
+/// The number from 1 to `most` that these decimal digits denote, without a sign or a leading zero.
 fn counted(most: u32, digits: &str) -> Option<u32>
     ensures { result ≡ counted most digits.now }
 {

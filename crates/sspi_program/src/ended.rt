@@ -1,5 +1,5 @@
-//! How the process ends: what `main` hands in is what the words and the standard streams of the
-//! process are, and what it answers is the status that the process ends with.
+//! How the process ends: `main` passes in the words and the standard streams of the process, and
+//! answers with the status that the process ends with.
 ghost use Rattle.std.specs.Prelude.{◌≡◌, ◌≢◌, ◌≤◌, None, IfOk, IfErr};
 ghost use Rattle.std.specs.IoError.{error_kind};
 ghost use Rattle.sspi_program.specs.Commands.{command_of, limit_in, most_taken};
@@ -14,8 +14,8 @@ use std::alloc::Global;
 use std::env::{self, Env};
 use std::io::{self, ErrorKind};
 
-/// The words after the program's name. One that is not UTF-8 is an error, and so is out of memory,
-/// by its kind `OutOfMemory`. Which words a process was given no contract can say.
+/// The words after the program's name. A word that is not UTF-8 is an error, and so is out of
+/// memory, by its kind `OutOfMemory`. No contract can say which words a process was given.
 pub fn words_of<R: Env + Alloc<A = Global>>(rt: &R) -> io::Result<Vec<String>> {
     let mut words = Vec::new(rt.alloc());
     for word in env::args(rt)?.skip(1) {
@@ -24,7 +24,7 @@ pub fn words_of<R: Env + Alloc<A = Global>>(rt: &R) -> io::Result<Vec<String>> {
     Ok(words)
 }
 
-/// What words that were read ask for. Words that are not UTF-8 are no command.
+/// What the words that were read ask for. Words that could not be read are not a command.
 pub fn command_in(words: &io::Result<Vec<String>>) -> Option<Command>
     ensures read { IfOk words.now (λ words. result ≡ command_of words.items) }
     ensures unread { IfErr words.now (λ error. result ≡ None) }
@@ -36,9 +36,8 @@ pub fn command_in(words: &io::Result<Vec<String>>) -> Option<Command>
 }
 
 /// Runs the program on the words that were read, and answers the status that the process ends with:
-/// that of `exit_status` of these words. Where a word is not UTF-8 they are no command, so it is
-/// that of no words. Where there was no memory for them it is 5 at once, and nothing was read or
-/// written.
+/// that of `exit_status` for these words. If a word is not UTF-8 they are not a command, so it is
+/// that of no words. If memory for them ran out it is 5 at once, and nothing is read or written.
 pub fn ended<S: Source, W: Sink>(
     alloc: Global,
     words: io::Result<Vec<String>>,
@@ -69,7 +68,7 @@ pub fn ended<S: Source, W: Sink>(
     match words {
         Ok(words) => exit_status(alloc, &words, source, sink),
         Err(error) if error.kind() == ErrorKind::OutOfMemory => status::NO_MEMORY,
-        // A word that is not UTF-8 is no command.
+        // A word that is not UTF-8 is not a command.
         Err(_) => exit_status(alloc, &[], source, sink),
     }
 }

@@ -17,13 +17,13 @@ use std::alloc::{AllocError, Global};
 /// The client of a scenario.
 pub type Client = CredSspClient<Ntlm, Kerberos>;
 
-/// The server of a scenario. Its proxy looks its peers up in the table of the scenario.
+/// The server of a scenario. Its proxy looks up its peers in the table of the scenario.
 pub type Server = CredSspServer<Ntlm, Kerberos, TableProxy>;
 
 /// Both ends of a scenario, and the KDC that the client asks.
 #[derive(Drop)]
 pub struct Ends {
-    // An end is some thousand bytes, so that it is moved by its address.
+    // An end has several thousand bytes, so it is moved by its address.
     pub client: Box<Client>,
     pub server: Box<Server>,
     pub kdc: PlainKdc,
@@ -43,8 +43,8 @@ pub fn ends_of(alloc: Global, scenario: &Scenario) -> Result<Ends, AllocError>
     })
 }
 
-/// What was made, and what was there before. Generic, as what follows is, since to drop a value of
-/// a type parameter is one step.
+/// What was made, and what was there before. Generic, as what follows is, since dropping a value of
+/// a type parameter is one proof step.
 pub fn beside<T, A: Drop>(made: Result<T, AllocError>, there: A) -> Result<(T, A), AllocError>
     ensures made { IfOk result (λ both. (made ≡ Ok both.0) × (both.1 ≡ there)) }
     ensures unmade { OnErr result (IsErr made) }
@@ -59,7 +59,7 @@ pub fn given_up<A: Drop, T>(_there: A, error: AllocError) -> Result<T, AllocErro
     Err(error)
 }
 
-/// The client that the scenario names, to which nothing was delivered.
+/// The client that the scenario names, to which nothing has been delivered.
 pub fn client_of(alloc: Global, scenario: &Scenario) -> Result<Box<Client>, AllocError>
     ensures fresh { IfOk result (λ client. IsFreshClient client.value) }
     ensures named { IfOk result (λ client. IsClientOf scenario.now client.value) }
@@ -106,7 +106,7 @@ fn credentials_of(alloc: Global, scenario: &Scenario) -> Result<Credentials, All
     })
 }
 
-/// The server that the scenario names, to which nothing was delivered.
+/// The server that the scenario names, to which nothing has been delivered.
 pub fn server_of(alloc: Global, scenario: &Scenario) -> Result<Box<Server>, AllocError>
     ensures fresh { IfOk result (λ server. IsFreshServer server.value) }
     ensures named { IfOk result (λ server. IsServerOf scenario.now server.value) }
@@ -153,7 +153,7 @@ fn copy_edits(alloc: Global, edits: &[Edit]) -> Result<Vec<Edit>, AllocError>
     Ok(copies)
 }
 
-/// The KDC that the scenario names, which was not asked yet.
+/// The KDC that the scenario names, which has not been asked yet.
 pub fn kdc_of(alloc: Global, scenario: &Scenario) -> Result<PlainKdc, AllocError>
     ensures { IfOk result (λ kdc. kdc ≡ kdc_in scenario.now) }
 {

@@ -1,5 +1,4 @@
-//! A source that keeps what it gave, so that what is wrong with a text can be told once it was
-//! refused.
+//! A source that keeps what it gave, so that the fault of a refused text can be reported later.
 ghost use Rattle.std.specs.Prelude.{◌≡◌, ◌≤◌, [], Some, IfOk, OnErr, length, take};
 ghost use Rattle.std.specs.Io.KnownBytes.{ReadConsumes};
 ghost use Rattle.std.specs.Option.{option_map};
@@ -10,12 +9,12 @@ use sspi_ber::{Source, SourceError};
 use std::alloc::Global;
 use std::marker::Model;
 
-/// A source over another one. It gives what that one gives, and keeps a copy of it as long as there
-/// is memory for that.
+/// A source over another one. It gives what that one gives, and keeps a copy of it until memory for
+/// that runs out.
 #[derive(Drop)]
 pub struct KeepingSource<S> {
     source: S,
-    /// What was given so far; none once there was no memory for it.
+    /// What was given so far; none once memory for it ran out.
     given: Option<Vec<u8>>,
 }
 
@@ -32,7 +31,7 @@ impl<S> Model for KeepingSource<S> {
 }
 
 impl<S: Source> KeepingSource<S> {
-    /// A source over this one that gave nothing yet.
+    /// A source over this one that has given nothing yet.
     pub fn new(alloc: Global, source: S) -> KeepingSource<S>
         ensures { result ≡ record { source = source; given = Some [] } }
     {
@@ -42,7 +41,7 @@ impl<S: Source> KeepingSource<S> {
         }
     }
 
-    /// What was given so far; nothing where there was no memory for it.
+    /// What was given so far; none if memory for it ran out.
     pub fn given(&self) -> Option<&[u8]>
         ensures { option_map (λ given. given.now) result ≡ self.now.given }
     {

@@ -1,10 +1,10 @@
 //! What the program does with its words and its source: it reads a scenario, has its two ends
-//! delegate credentials by CredSSP, and writes what they sent and what came of it.
+//! delegate credentials by CredSSP, and writes what they sent and the outcome.
 //!
 //! `run` works over any source and sink; its contract says what each exit status means and what was
 //! written. `ended` is all that `main` does: its contract says which status the process ends with.
-//! `specs/Exchange.antt` has what holds of the exchange that is reported. The program itself,
-//! `sspi_run`, hands in its own.
+//! `specs/Exchange.antt` says what holds for the reported exchange. The program itself, `sspi_run`,
+//! passes in its own source and sink.
 #![tactic(auto)]
 
 pub mod command;

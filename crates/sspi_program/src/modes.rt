@@ -94,7 +94,7 @@ fn server_ntlm(scenario: &Scenario) -> NtlmConfig
     }
 }
 
-/// The client's Kerberos asks the URL that it is told, or that of its realm.
+/// The client's Kerberos asks the KDC at the URL of the scenario, or that of its realm.
 fn client_kerberos(alloc: Global, scenario: &Scenario) -> Result<KerberosConfig, AllocError>
     ensures { IfOk result (λ config. config ≡ client_kerberos scenario.now) }
 {

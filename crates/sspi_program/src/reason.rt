@@ -1,4 +1,4 @@
-//! What standard error is told of a run, in words.
+//! What standard error says about a run, in words.
 ghost use Rattle.std.specs.Prelude.{◌≡◌, ◌≤◌, string_bytes, IfOk};
 ghost use Rattle.sspi_program.specs.Reason.{reason_text, refused_text, unexplained_text};
 
@@ -9,7 +9,7 @@ use sspi_ber::{Sink, write_all};
 use sspi_scenario::{reason, text_of};
 use std::alloc::{AllocError, Global};
 
-/// The words of the program, a line each.
+/// The words of the program, one per line.
 pub const USAGE: &str = "\
 usage: sspi_run WORD, which reads standard input and writes standard output
   delegate    of a scenario: both ends exchange their messages over its link
@@ -26,8 +26,8 @@ Exit status: 0 done, 1 refused, 2 no such text, 3 no input, 4 no output,
 5 no memory, 6 other words. docs/FORMATS.md has the scenarios and the reports.
 ";
 
-/// Why a run of this command on this text ended with this status, in words and without the last
-/// line's end. Nothing at 0 and 1, where the report says it, and at 6, where `USAGE` does.
+/// Why a run of this command on this text ended with this status, in words, without a final line
+/// end. Empty at 0 and 1, where the report says it, and at 6, where `USAGE` does.
 pub fn reason_of(
     alloc: Global,
     command: Option<Command>,
@@ -45,9 +45,9 @@ pub fn reason_of(
     }
 }
 
-/// Tells standard error why a run ended with this status: the usage where the words are no command,
-/// and else the reason, as a line. Nothing at 0 and 1. Where the text was not kept, at 2 nothing.
-/// What `errors` does not take is lost.
+/// Tells standard error why a run ended with this status: the usage if the words are not a command,
+/// and otherwise the reason, as a line. Nothing is written at 0 and 1, nor at 2 if the text was not
+/// kept. What `errors` does not take is lost.
 pub fn tell_reason<E: Sink>(
     alloc: Global,
     errors: &mut E,
@@ -77,7 +77,7 @@ fn write_reason<E: Sink>(errors: &mut E, reason: Result<String, AllocError>) {
     };
 }
 
-/// Why a text is none for a command.
+/// Why a command refuses a text.
 fn refused_text(alloc: Global, command: Option<Command>, text: &[u8]) -> Result<String, AllocError>
     ensures { IfOk result (λ told. string_bytes told ≡ refused_text command text.now) }
 {

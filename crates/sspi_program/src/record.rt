@@ -19,11 +19,11 @@ use sspi_types::Rows;
 pub struct Conducted {
     /// The exit status of the program.
     pub status: u8,
-    /// What the ends of a scenario did, where it was told one.
+    /// What the ends of a scenario did, if it had one.
     pub kept: Option<Record>,
-    /// What the ends of many scenarios did, where it made them.
+    /// What the ends of many scenarios did, if it made them.
     pub tally: Option<Tally>,
-    /// What the sessions of a desk came to, where there was one.
+    /// What the sessions of a desk came to, if there was one.
     pub seats: Option<Seats>,
 }
 
@@ -40,7 +40,7 @@ impl Conducted {
         }
     }
 
-    /// The same where this record is kept.
+    /// The same with this record kept.
     pub fn keeping(status: u8, kept: Record) -> Conducted
         ensures { result ≡ keeping status kept }
     {
@@ -52,7 +52,7 @@ impl Conducted {
         }
     }
 
-    /// The same where these are kept.
+    /// The same with these records kept.
     pub fn tallying(status: u8, tally: Tally) -> Conducted
         ensures { result ≡ tallying status tally }
     {
@@ -64,7 +64,7 @@ impl Conducted {
         }
     }
 
-    /// The same where these sessions are kept.
+    /// The same with these sessions kept.
     pub fn seating(status: u8, seats: Seats) -> Conducted
         ensures { result ≡ seating status seats }
     {
@@ -77,10 +77,10 @@ impl Conducted {
     }
 }
 
-/// What the ends of many scenarios did, the first scenario first.
+/// What the ends of many scenarios did, in the order of the scenarios.
 pub type Tally = Rows<Record>;
 
-/// What the sessions of a desk came to, that of number 0 first.
+/// What the sessions of a desk came to, number 0 first.
 pub type Seats = Rows<PlainSeat>;
 
 /// A client of a scenario and its session.

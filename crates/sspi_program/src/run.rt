@@ -1,5 +1,5 @@
 //! What the program does: it reads the text of its source, does what its words ask for, and writes
-//! what comes of it.
+//! the outcome.
 ghost use Rattle.std.specs.Prelude.{◌≡◌, ◌+◌, ◌≤◌, None, Some, IfOk, IfSome, string_bytes};
 ghost use Rattle.sspi_program.specs.Commands.{command_of, explain_limit, limit_in, most_taken};
 ghost use Rattle.sspi_program.specs.Kept.{with_status};
@@ -16,43 +16,41 @@ use sspi_ber::{Sink, Source, WireKind, write_all};
 use sspi_scenario::{Scenario, ScenarioError, TEXT_LIMIT, TextError, read_text};
 use std::alloc::{AllocError, Global};
 
-/// The text whose messages are explained has at most so many bytes.
+/// The most bytes of a text whose messages are explained.
 pub const EXPLAIN_LIMIT: usize = 2_097_152;
 
-/// Does what the words ask for with the text of the source, and writes what comes of it.
+/// Does what the words ask for with the text of the source, and writes the outcome.
 ///
-/// The words are `delegate`, whose ends carry their messages to each other over the link of the
-/// scenario; `play`, whose ends take the deliveries of the scenario; `gate`, which does what
-/// `delegate` does and has a relay pass what the link delivered; `audit`, which does it and has its
-/// turns and its log judged; or `early`, which does it and has the server tell whether the user may
-/// log on. Or they are `desk` and a number from 1 to `MOST_SESSIONS`: so many clients of the
-/// scenario have a session each at one desk. Or they are `gen` and a number from 1 to
-/// `MOST_SCENARIOS`: the ends of so many scenarios, which are made of their numbers, carry their
-/// messages to each other, and a summary counts what they came to. Or the word is `explain`: the
-/// text of the source is written with what its messages say in the place of their lines, as
-/// `sspi_explain::explain` tells it. The exit status is
+/// The words are `delegate`: the scenario's ends carry their messages to each other over its link;
+/// `play`: they take the scenario's deliveries; `gate`: as `delegate`, and a relay passes on what
+/// the link delivered; `audit`: as `delegate`, and its turns and its log are judged; or `early`: as
+/// `delegate`, and the server tells whether the user may log on. Or they are `desk` and a number
+/// from 1 to `MOST_SESSIONS`: that many clients of the scenario have a session each at one desk. Or
+/// they are `gen` and a number from 1 to `MOST_SCENARIOS`: the ends of that many scenarios, made
+/// from their numbers, carry their messages to each other, and a summary counts the outcomes. Or
+/// the word is `explain`: the text of the source is written, with what its messages say in place of
+/// their lines, as by `sspi_explain::explain`. The exit status is
 ///
-/// - 0 where the server has the credentials, or the deliveries were taken, and 1 where the exchange
-///   was refused: its report is written. Of `gate` it is 0 where the relay came to an end by
-///   itself, and 1 where it had to stop; of `early` 0 where the client heard that its user may log
-///   on, and else 1; of `desk` 0 where every session has its credentials, and else 1; of `gen` and
-///   `explain` always 0;
-/// - 2 where the text is no scenario for this word or has more than `TEXT_LIMIT` bytes: `error:
-///   scenario line N`, with the number of the first faulty line, from 1, or 0 where no line is to
-///   blame; and where the text that is to be explained has more than `EXPLAIN_LIMIT` bytes or is
-///   not UTF-8: `error: text`;
-/// - 3 where the source failed: `error: read`;
-/// - 4 where the sink failed, which hides the status that was due: a prefix of the text, never all
+/// - 0 if the server has the credentials, or the deliveries were taken, and 1 if the exchange was
+///   refused: its report is written. For `gate` it is 0 if the relay came to an end by itself, and
+///   1 if it had to stop; for `early` 0 if the client heard that its user may log on, and otherwise
+///   1; for `desk` 0 if every session has its credentials, and otherwise 1; for `gen` and `explain`
+///   always 0;
+/// - 2 if the text is not a scenario for this word or has more than `TEXT_LIMIT` bytes: `error:
+///   scenario line N`, with the number of the first faulty line, from 1, or 0 if no line is to
+///   blame; also if the text to be explained has more than `EXPLAIN_LIMIT` bytes or is not UTF-8:
+///   `error: text`;
+/// - 3 if the source failed: `error: read`;
+/// - 4 if the sink failed, which hides the status that was due: a prefix of the text, never all of
+///   it;
+/// - 5 if memory ran out: nothing, or, if it ran out in the sink, a prefix of the text, never all
 ///   of it;
-/// - 5 where there was no memory: nothing, or where the sink had none a prefix of the text, never
-///   all of it;
-/// - 6 where the words are others: `error: words`, and the source is not read, as it is not for
-///   `gen`.
+/// - 6 for any other words: `error: words`. The source is not read, as it is not for `gen`.
 ///
 /// Each line ends with LF. The source is read to its end, or to the first byte past the limit and
-/// no further. No failed call hides behind another answer: the sink's count of faults is as it was
-/// at every status but 4, and the source's at 0, 1, 2 and 6. What the ends did is kept where there
-/// were some, at status 4 too; at 5 it may be.
+/// no further. No other answer hides a failed call: the sink's count of faults is unchanged at
+/// every status except 4, and the source's at 0, 1, 2 and 6. What the ends did is kept if there
+/// were any, even at status 4; at 5 it may be.
 pub fn run<S: Source, W: Sink>(
     alloc: Global,
     words: &[String],
@@ -73,8 +71,8 @@ pub fn run<S: Source, W: Sink>(
     tell(alloc, sink, said)
 }
 
-/// The same, of which nothing is kept: its exit status. The value that `run` answers is large, and
-/// costs a caller who drops it the proof of that.
+/// The exit status of `run`, of which nothing else is kept. The value that `run` answers is large,
+/// and a caller who drops it must prove that.
 pub fn exit_status<S: Source, W: Sink>(
     alloc: Global,
     words: &[String],
@@ -95,7 +93,7 @@ pub fn exit_status<S: Source, W: Sink>(
     status_of(conducted)
 }
 
-/// What is kept of a run is dropped.
+/// The status of a run; what it kept is dropped.
 fn status_of(conducted: Conducted) -> u8
     ensures { result ≡ conducted.status }
 {
@@ -108,7 +106,7 @@ fn status_of(conducted: Conducted) -> u8
     status_without(status, kept, tally, seats)
 }
 
-/// Generic, since to drop a value of a type parameter is one step.
+/// Generic, since dropping a value of a type parameter is one proof step.
 fn status_without<R: Drop, T: Drop, S: Drop>(status: u8, _kept: R, _tally: T, _seats: S) -> u8
     ensures { result ≡ status }
 {
@@ -117,7 +115,7 @@ fn status_without<R: Drop, T: Drop, S: Drop>(status: u8, _kept: R, _tally: T, _s
 
 /// What the words and the text of the source come to.
 fn conduct<S: Source>(alloc: Global, words: &[String], source: &mut S) -> Said
-    // What comes of it.
+    // The outcome.
     ensures comes { Comes (command_of words.now) (S.left source.old) (S.faults source.old)
         (S.faults source.new) result }
     ensures unread { limit_in (command_of words.now) ≡ None → source.new ≡ source.old }
@@ -243,7 +241,7 @@ fn line_text(alloc: Global, line: usize) -> Result<String, AllocError>
     format!(in alloc; "error: scenario line {line}\n")
 }
 
-/// Writes a text. The status is the text's own, where all of it was written.
+/// Writes a text. The status is the text's own, if all of it was written.
 fn write_text<W: Sink>(sink: &mut W, text: &[u8], own: u8) -> u8
     ensures written { Written own text.now (W.written sink.old) (W.written sink.new)
         (W.faults sink.old) (W.faults sink.new) result }

@@ -15,18 +15,18 @@ use std::alloc::{AllocError, Global};
 /// What a run comes to, before it is written.
 #[derive(Drop)]
 pub enum Said {
-    /// The words had their way: what is kept, with the status that is due, and the text that is.
+    /// The command was carried out: what is kept with its status, and the text that is due.
     Done(Conducted, Vec<u8>),
-    /// The text is no scenario. The number is that of its faulty line; 0 where no line is to blame.
+    /// The text is not a scenario. The number is that of its faulty line; 0 if no line is to blame.
     NoScenario(usize),
-    /// The text is too long, or is not UTF-8, so that no line of it is explained.
+    /// The text is too long or is not UTF-8, so no line of it is explained.
     NoText,
     ReadFault,
     OtherWords,
     NoMemory,
 }
 
-/// What is said of a record: its report. A record in which there was no memory is dropped.
+/// What is said of a record: its report. A record that ran out of memory is dropped.
 pub fn said_of(alloc: Global, made: Record) -> Said
     ensures { SaysOf made result }
 {
@@ -39,8 +39,8 @@ pub fn said_of(alloc: Global, made: Record) -> Said
     }
 }
 
-/// What is said of a record with this status and this text, where there was memory for them. A
-/// record in which there was no memory is dropped.
+/// What is said of a record with this status and this text, if there was memory for them. A record
+/// that ran out of memory is dropped.
 pub fn said_with(alloc: Global, made: Record, told: Result<(u8, Vec<u8>), AllocError>) -> Said
     ensures { SaysWith made told result }
 {
@@ -59,22 +59,22 @@ fn done_with(alloc: Global, made: Record, told: Result<(u8, Vec<u8>), AllocError
     }
 }
 
-/// What was made is dropped. Generic, since of a type parameter that is one step, and of a record
-/// one for each type in it.
+/// Drops what was made. Generic, since dropping a type parameter is one proof step, and dropping a
+/// record is one for each type in it.
 pub fn no_memory<R: Drop, T: Drop>(_made: R, _told: T) -> Said
     ensures { result ≡ Said.NoMemory }
 {
     Said::NoMemory
 }
 
-/// What is said, once what it was said of is dropped. Generic, as `no_memory` is.
+/// Drops what this was said of. Generic, as `no_memory` is.
 pub fn said_without<R: Drop>(_gone: R, said: Said) -> Said
     ensures { result ≡ said }
 {
     said
 }
 
-/// The report of a record with a line behind it.
+/// The report of a record, followed by a line.
 pub fn report_with(alloc: Global, kept: &Record, line: &str) -> Result<Vec<u8>, AllocError>
     ensures { IfOk result (λ text. text.items ≡ report_of kept.now ++ line.now) }
 {
@@ -83,7 +83,7 @@ pub fn report_with(alloc: Global, kept: &Record, line: &str) -> Result<Vec<u8>, 
     Ok(text)
 }
 
-/// The status of an outcome; none where there was no memory.
+/// The status of an outcome; none if it ran out of memory.
 pub fn status_of(outcome: &RunOutcome) -> Option<u8>
     ensures { result ≡ status_of outcome.now }
 {
@@ -125,7 +125,7 @@ fn heard_status(heard: EarlyUserAuthResult) -> u8
     }
 }
 
-/// The report of what the ends did by themselves; nothing where that was not all.
+/// The report of an exchange or a play; empty for an early result and for a play that failed.
 pub fn report_of(alloc: Global, kept: &Record) -> Result<Vec<u8>, AllocError>
     ensures { IfOk result (λ text. text.items ≡ report_of kept.now) }
 {

@@ -22,7 +22,7 @@ use std::alloc::Global;
 /// The clients of a scenario, which have a session each at one desk.
 type PlainTable = Table<Ntlm, Kerberos, TableProxy, PlainKdc>;
 
-/// So many clients of a scenario have a session each at one desk.
+/// `count` clients of a scenario have a session each at one desk.
 pub fn desk(alloc: Global, count: u32, scenario: Scenario) -> Said
     ensures { Conducts (Task.Desk count) scenario result }
 {
@@ -36,7 +36,7 @@ pub fn desk(alloc: Global, count: u32, scenario: Scenario) -> Said
     }
 }
 
-/// Seats so many clients. A table for as many, at which nobody is yet, is not full before.
+/// Seats `count` clients. An empty table with that limit does not fill up before that.
 fn seat_all(
     alloc: Global,
     count: u32,
@@ -53,7 +53,7 @@ fn seat_all(
     Ok(())
 }
 
-/// Seats one client more.
+/// Seats one more client.
 fn seat_one(alloc: Global, scenario: &Scenario, table: &mut PlainTable) -> Result<(), JoinError>
     ensures seated { OnOk result (table.new ≡ with_place table.old (place_in scenario.now)) }
     ensures full { IfErr result (λ error. error ≡ JoinError.Full →
@@ -67,7 +67,7 @@ fn seat_one(alloc: Global, scenario: &Scenario, table: &mut PlainTable) -> Resul
     )
 }
 
-/// What is said of the clients at a table, once they were served.
+/// What is said of the clients at a table, once they are served.
 fn serve(alloc: Global, limit: u32, table: PlainTable) -> Said
     ensures { (count : ℕ) (scenario : Scenario) → table.places ≡ places_in count scenario →
         limit ≡ scenario.turns →
@@ -92,7 +92,7 @@ fn said_of_seats(alloc: Global, seats: Seats) -> Said
     }
 }
 
-/// 0 where every server has the credentials, and else 1.
+/// 0 if every server has the credentials, and otherwise 1.
 fn seats_status(seats: &[PlainSeat]) -> u8
     ensures { result ≡ seats_status seats.now }
 {

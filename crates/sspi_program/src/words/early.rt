@@ -50,7 +50,7 @@ fn copy_names(alloc: Global, names: &[Username]) -> Result<Vec<Username>, AllocE
     Ok(copies)
 }
 
-/// What is said of an exchange, behind which its server tells what this policy decides.
+/// What is said of an exchange after which its server tells what this policy decides.
 fn told(alloc: Global, made: Record, policy: ListPolicy) -> Said
     ensures { HasExchange made → policy ≡ made.scenario.admit →
         Conducts Task.Early made.scenario result }
@@ -62,7 +62,7 @@ fn told(alloc: Global, made: Record, policy: ListPolicy) -> Said
     said_with(alloc, kept, text)
 }
 
-/// The record of an exchange and of what came behind it.
+/// The record of an exchange and of what followed it.
 fn tell(made: Record, policy: ListPolicy) -> Record
     ensures { HasExchange made → policy ≡ made.scenario.admit → IsEarlyOf made result }
 {
@@ -97,8 +97,8 @@ fn tell(made: Record, policy: ListPolicy) -> Record
     }
 }
 
-/// The status and the text of an early result: the report of the delegation, and what stands behind
-/// it, of which so many entries of the log are no part.
+/// The status and the text of an early result: the report of the delegation, and what follows it,
+/// without the first `entries` entries of the log.
 fn told_text(
     alloc: Global,
     kept: &Record,

@@ -8,7 +8,7 @@ use sspi_explain::explain;
 use sspi_scenario::text_of;
 use std::alloc::Global;
 
-/// The text of these bytes, with what its messages say in the place of their lines.
+/// The text of these bytes, with what its messages say in place of their lines.
 pub fn explain_bytes(alloc: Global, bytes: &[u8]) -> Said
     ensures { Explains bytes.now result }
 {

@@ -18,8 +18,8 @@ use sspi_report::gate_line;
 use sspi_scenario::Scenario;
 use std::alloc::{AllocError, Global};
 
-/// The ends of a scenario carry their messages to each other over its link, and a relay passes what
-/// that delivered.
+/// The ends of a scenario carry their messages to each other over its link, and a relay passes on
+/// what that delivered.
 pub fn gate(alloc: Global, scenario: Scenario) -> Said
     ensures { HoldsValues scenario → Conducts Task.Gate scenario result }
 {
@@ -32,7 +32,7 @@ pub fn gate(alloc: Global, scenario: Scenario) -> Said
     }
 }
 
-/// The status and the text of an exchange of which a relay passes what was delivered.
+/// The status and the text of an exchange whose deliveries a relay passes on.
 fn gated(alloc: Global, kept: &Record) -> Result<(u8, Vec<u8>), AllocError>
     ensures { IfOk result (λ told. IsGated kept.now told.0 told.1.items) }
 {
@@ -49,7 +49,7 @@ fn gated(alloc: Global, kept: &Record) -> Result<(u8, Vec<u8>), AllocError>
     }
 }
 
-/// What was delivered of the messages of an end, one behind the other.
+/// What was delivered of the messages of an end, one after the other.
 fn stream_of(alloc: Global, end: End, log: &[Carried]) -> Result<Vec<u8>, AllocError>
     ensures { IfOk result (λ stream. stream.items ≡ stream_of end log.now) }
 {
@@ -69,7 +69,7 @@ fn delivered_from(end: End, entry: &Carried) -> &[u8]
     }
 }
 
-/// The relay of two streams that stand in memory, which do not fail.
+/// The relay of two streams in memory, which do not fail.
 fn relay_streams(
     alloc: Global,
     client: &[u8],

@@ -1,4 +1,4 @@
-//! The word `gen`: exchanges of scenarios that are made of their numbers.
+//! The word `gen`: exchanges of scenarios that are made from their numbers.
 
 ghost use Rattle.std.specs.Prelude.{◌≡◌, ◌+◌, IfOk, OnOk};
 ghost use Rattle.sspi_program.specs.Delegate.{HasExchange};
@@ -15,8 +15,8 @@ use sspi_report::summary_text;
 use sspi_scenario::numbered::numbered;
 use std::alloc::{AllocError, Global};
 
-/// The ends of so many scenarios, which are made of the numbers from 0 on, carry their messages to
-/// each other, one pair of ends after the other; and a summary of what they came to.
+/// The ends of `count` scenarios, made from the numbers from 0 on, carry their messages to each
+/// other, one pair of ends after the other. A summary counts the outcomes.
 pub fn generate(alloc: Global, count: u32) -> Said
     ensures { Generates count result }
 {
@@ -40,7 +40,7 @@ fn summed(alloc: Global, tally: Tally) -> Said
     }
 }
 
-/// Adds the exchanges of so many numbers.
+/// Adds the exchanges of `count` numbers.
 fn add_exchanges(alloc: Global, count: u32, tally: &mut Tally) -> Result<(), AllocError>
     ensures { AreNumbered 0 tally.old → OnOk result (AreNumbered count tally.new) }
 {
@@ -50,7 +50,7 @@ fn add_exchanges(alloc: Global, count: u32, tally: &mut Tally) -> Result<(), All
     Ok(())
 }
 
-/// Adds the exchange of a number. Fails also where there was no memory in it.
+/// Adds the exchange of a number. Also fails if that ran out of memory.
 fn add_exchange(alloc: Global, number: u32, tally: &mut Tally) -> Result<(), AllocError>
     ensures { AreNumbered number tally.old → OnOk result (AreNumbered (number + 1) tally.new) }
 {
