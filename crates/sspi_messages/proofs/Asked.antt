@@ -27,7 +27,7 @@ both_found {A} {B} (Some x) (Some y) a b e =
     let pair : (a, b) ≡ (x, y) = same (a, b) (x, y) e in
     (ap (λ (z : A × B). Some z.0) (sym pair), ap (λ (z : A × B). Some z.1) (sym pair))
 
--- the second of a pair is there, so the first is not
+-- the second of an incomplete pair is there, so the first is not
 pub first_is_lacking : {A B : Type 0} (o : Option A) (p : Option B) (b : B) → p ≡ Some b → None ≡ pair_of o p → o ≡ None
 first_is_lacking None p b there e = refl
 first_is_lacking (Some x) None b there e = cc

@@ -1,4 +1,4 @@
--- What a message is once the buffers that a call takes are left otherwise.
+-- What a message is once the buffers that a call takes have changed.
 use Rattle.std.proofs.Common.{◌≡◌, ◌∙◌, ℕ, suc, ◌+◌, ◌==◌, ◌&&◌, ◌≢◌, Bool, true, false, cond, not, List, [], ◌∷◌, Some, sym, ap}
 use Rattle.std.proofs.Common.{refl, arith}
 use Rattle.std.specs.Prelude.{find, slice_set}
@@ -31,7 +31,7 @@ holding x bytes = record x { buffer = bytes }
 abbrev rebuffered : List ℕ → SecurityBuffer → SecurityBuffer
 rebuffered bytes x = record x { buffer = bytes }
 
--- a buffer with other bytes, in the place of the one that is taken
+-- a buffer with other bytes, in place of the one that is taken
 pub set_bytes : (type : BufferType) (bytes : List ℕ) (xs : List SecurityBuffer) (b b2 : SecurityBuffer) → first_unflagged type xs ≡ Some b →
     b2 ≡ record b { buffer = bytes } → slice_set xs (position_or_len (is_unflagged type) xs) b2 ≡ with_bytes type bytes xs
 set_bytes type bytes [] b b2 found e = cc
@@ -75,7 +75,7 @@ module _ (f s : BufferType) (d : buffer_type_number f ≢ buffer_type_number s) 
       by true rest = refl
       by false rest = ap (λ n. cond (not (is_unflagged s x)) (1 + n) 0) rest
 
-  -- both buffers are left otherwise, or only one of them
+  -- both buffers are changed, or only one of them
   module _ (xs : List SecurityBuffer) (a b : SecurityBuffer) (has_first : first_unflagged f xs ≡ Some a)
       (has_second : first_unflagged s xs ≡ Some b) where
     pub pair_left : (a2 b2 : SecurityBuffer) (x y : List ℕ) → a2 ≡ record a { buffer = x } → b2 ≡ record b { buffer = y } →

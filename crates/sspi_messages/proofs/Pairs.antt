@@ -18,7 +18,7 @@ module _ {X : Type 0} where
   set_behind (x ∷ xs) zero y = refl
   set_behind (x ∷ xs) (suc j) y = ap (λ l. x ∷ l) (set_behind xs j y)
 
-  -- the prefix one first
+  -- the earlier one is set first
   pub set_parts : (xs : List X) (i j : ℕ) (x y : X) → i < j →
       slice_set (take j xs) i x ++ slice_set (drop j xs) 0 y ≡ slice_set (slice_set xs i x) j y
   set_parts xs i zero x y lt = absurd (omega arith)
@@ -27,7 +27,7 @@ module _ {X : Type 0} where
   set_parts (z ∷ zs) zero (suc j) x y lt = ap (λ l. x ∷ l) (set_behind zs j y)
   set_parts (z ∷ zs) (suc i) (suc j) x y lt = ap (λ l. z ∷ l) (set_parts zs i j x y (omega arith))
 
-  -- the prefix one last
+  -- the earlier one is set last
   pub set_parts_back : (xs : List X) (i j : ℕ) (x y : X) → i < j →
       slice_set (take j xs) i x ++ slice_set (drop j xs) 0 y ≡ slice_set (slice_set xs j y) i x
   set_parts_back xs i zero x y lt = absurd (omega arith)
@@ -36,7 +36,7 @@ module _ {X : Type 0} where
   set_parts_back (z ∷ zs) zero (suc j) x y lt = ap (λ l. x ∷ l) (set_behind zs j y)
   set_parts_back (z ∷ zs) (suc i) (suc j) x y lt = ap (λ l. z ∷ l) (set_parts_back zs i j x y (omega arith))
 
--- buffers of two types stand at two places
+-- buffers of two types are at two places
 pub places_differ : (f s : BufferType) → buffer_type_number f ≢ buffer_type_number s → (xs : List SecurityBuffer) →
     position_or_len (is_unflagged f) xs < length xs → position_or_len (is_unflagged f) xs ≢ position_or_len (is_unflagged s) xs
 places_differ f s d [] inside = absurd (omega arith)

@@ -1,4 +1,4 @@
--- Which buffers a call takes: of each type that it names the first one without flags. It neither
+-- Which buffers a call takes: the first one without flags of each type that it names. It neither
 -- reads nor changes the others.
 use Rattle.std.specs.Prelude.{ℕ, List, [], ◌∷◌, Bool, ◌==◌, ◌&&◌, cond, Option, None, Some}
 use Rattle.std.specs.Prelude.{option_map, find}
@@ -24,7 +24,7 @@ with_bytes type bytes (buffer ∷ rest) =
     cond (is_unflagged type buffer) (record buffer { buffer = bytes } ∷ rest)
     (buffer ∷ with_bytes type bytes rest)
 
--- two things, where both are there
+-- two things, if both are there
 abbrev pub pair_of : {A B : Type 0} → Option A → Option B → Option (A × B)
 pair_of None b = None
 pair_of (Some a) None = None

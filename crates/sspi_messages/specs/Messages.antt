@@ -13,8 +13,8 @@ use Rattle.sspi_mech.specs.Answered.{IsRefusedAs}
 use Rattle.sspi_messages.specs.Buffers.{bytes_in, with_bytes, pair_of}
 use Rattle.sspi_messages.specs.Protecting.{Protecting}
 
--- What a call asks of the context, where the buffers serve. The text is in Data, and Token takes
--- the tag or has the MIC.
+-- What a call asks of the context, if the buffers are suitable. The text is in Data, and Token
+-- takes the tag or has the MIC.
 abbrev pub to_encrypt : List SecurityBuffer → Option Call
 to_encrypt message = option_map (λ pair. ToSeal pair.1)
     (pair_of (bytes_in Token message) (bytes_in Data message))
@@ -50,23 +50,23 @@ abbrev pub to_decrypt : List SecurityBuffer → Option Call
 to_decrypt message = to_open (blob_in message)
 
 module _ {C : Type 0} (c : Protecting C) where
-  -- a kind of refusal: InvalidToken where the buffers do not serve, else the context's own
+  -- the kind of a refusal: InvalidToken if the buffers are unsuitable, otherwise the context's own
   abbrev pub IsRefusal : C → Option Call → ErrorKind → Type 0
   IsRefusal m None kind = kind ≡ InvalidToken
   IsRefusal m (Some call) kind = c.refuses m call kind
 
-  -- the same where a call takes memory, which it does only once the buffers serve
+  -- the same if a call allocates, which it does only if the buffers are suitable
   abbrev pub IsCause : C → Option Call → ErrorKind → Type 0
   IsCause m None kind = kind ≡ InvalidToken
   IsCause m (Some call) kind = kind ≢ InsufficientMemory → c.refuses m call kind
 
-  -- the same of a blob that lies in one buffer, for which no memory is taken before the context
-  -- judged it
+  -- the same for a blob in one buffer, for which nothing is allocated before the context has judged
+  -- it
   abbrev pub IsJudged : C → Option Call → ErrorKind → Type 0
   IsJudged m None kind = kind ≡ InvalidToken
   IsJudged m (Some call) kind = IsRefusedAs (c.permits m call) (c.refuses m call) kind
 
-  -- a refused call leaves the context
+  -- a refused call leaves the context as it was
   pub record Refuses (asked : Option Call) (m : C) (error : Error) (m2 : C) : Type 0 where
     pub context : m2 ≡ m
     pub codeless : error.nstatus ≡ None

@@ -13,8 +13,7 @@ pub record Protecting (C : Type 0) : Type 1 where
   pub opens : C → ℕ → List ℕ → List ℕ → Type 0
   pub signs : C → ℕ → List ℕ → List ℕ → Type 0
   pub verifies : C → ℕ → List ℕ → List ℕ → Type 0
-  -- what holds where a call answers Ok; the kinds with which it may refuse, other than out of
-  -- memory
+  -- what holds if a call answers Ok; the kinds with which it may refuse, other than out of memory
   pub permits : C → Call → Type 0
   pub refuses : C → Call → ErrorKind → Type 0
 

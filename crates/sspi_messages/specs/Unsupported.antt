@@ -4,6 +4,6 @@ use Rattle.sspi_types.specs.declared.error.Error.{Error}
 use Rattle.sspi_types.specs.declared.error_kind.ErrorKind.TheVariants.{UnsupportedFunction}
 use Rattle.sspi_types.specs.declared.reason.Reason.TheVariants.{Unsupported}
 
--- what a query answers that a package does not have
+-- the answer to a query that a package does not have
 abbrev pub unsupported : Error
 unsupported = record { error_type = UnsupportedFunction; description = Unsupported; nstatus = None }

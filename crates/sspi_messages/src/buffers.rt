@@ -35,8 +35,7 @@ pub fn bytes_in(message: &[SecurityBuffer], buffer_type: BufferType) -> Option<&
     }
 }
 
-/// The first buffers of these two types without flags, to be changed in their places, where both
-/// are there.
+/// The first buffers of these two types without flags, to be changed in place, if both are there.
 pub fn pair_mut(
     message: &mut [SecurityBuffer],
     first_type: BufferType,

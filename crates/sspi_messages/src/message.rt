@@ -19,15 +19,15 @@ use sspi_types::{
     BufferType, Bytes, DecryptionFlags, Error, ErrorKind, Reason, SecurityBuffer, SecurityStatus,
 };
 
-// A blob begins with a tag of so many bytes.
+// The length in bytes of the tag with which a blob begins.
 const TAG_LENGTH: usize = 16;
 
-/// Seals the text in Data as the next message. The first 16 bytes of the blob go to Token, the rest
-/// stays in Data.
+/// Seals the text in Data as the next message. The first 16 bytes of the blob go to Token, and the
+/// rest stays in Data.
 ///
-/// `InvalidToken` where Data or Token is missing, before the context is asked; else as the context
-/// refuses to seal. Refused, the context and all buffers are as they were; so is the number of the
-/// next message, also when out of memory.
+/// `InvalidToken` if Data or Token is missing, before the context is asked; otherwise as the
+/// context refuses to seal. After a refusal the context, the number of its next message and all
+/// buffers are as they were, even when out of memory.
 pub fn encrypt_message<P: Protects>(
     context: &mut P,
     message: &mut [SecurityBuffer],
@@ -47,8 +47,8 @@ pub fn encrypt_message<P: Protects>(
     Ok(SecurityStatus::Ok)
 }
 
-// Seals a text, once `token` has room for the tag: nothing may be wanting when the number of a
-// message was used.
+// Seals a text once `token` has room for the tag: memory must not run out after the number of a
+// message is used.
 fn seal_with_room<P: Protects>(
     context: &mut P,
     token: &mut Bytes,
@@ -72,8 +72,7 @@ fn seal_with_room<P: Protects>(
     }
 }
 
-// Leaves the tag of a blob in `token`, which has room for it, and what stands behind the tag in
-// `rest`.
+// Leaves the tag of a blob in `token`, which has room for it, and what follows the tag in `rest`.
 fn leave(blob: Vec<u8>, token: &mut Bytes, rest: &mut Bytes)
     requires tagged { 16 ≤ length blob.items }
     requires room { 16 ≤ length token.old }
@@ -86,13 +85,13 @@ fn leave(blob: Vec<u8>, token: &mut Bytes, rest: &mut Bytes)
     *rest = Bytes::from_vec(behind_tag(blob));
 }
 
-/// Opens the peer's next message and leaves its text in Data. The blob is the bytes of Stream, or
-/// without one those of Token followed by those of Data. Answers no flags.
+/// Opens the peer's next message and leaves its text in Data. The blob is the bytes of Stream, or,
+/// without one, those of Token followed by those of Data. Answers no flags.
 ///
-/// `InvalidToken` where Data is missing, where there is neither Stream nor Token, and for a blob of
-/// under 16 bytes, before the context is asked; else as the context refuses to open. Out of memory
-/// never stands for the refusal of a blob in Stream; Token and Data are joined first, which takes
-/// memory. Refused, the context and all buffers are as they were.
+/// `InvalidToken`, before the context is asked, if Data or both Stream and Token are missing, or if
+/// the blob has fewer than 16 bytes; otherwise as the context refuses to open. Out of memory never
+/// takes the place of the refusal of a blob in Stream; Token and Data are joined first, which
+/// allocates. After a refusal the context and all buffers are as they were.
 pub fn decrypt_message<P: Protects>(
     context: &mut P,
     message: &mut [SecurityBuffer],
@@ -133,8 +132,8 @@ fn open_stream<P: Protects>(context: &mut P, blob: &[u8]) -> Result<Vec<u8>, Err
     context.unseal(blob)
 }
 
-// Opens what the two parts joined are. They are joined in the memory of the first, which is then as
-// it was.
+// Opens the two parts joined together. They are joined in the memory of the first, which is then
+// restored.
 fn open_parts<P: Protects>(
     context: &mut P,
     first: &mut Bytes,
@@ -156,10 +155,10 @@ fn open_parts<P: Protects>(
     opened
 }
 
-/// Leaves the MIC of the text in Data, as the next of the context's MICs, in Token.
+/// Leaves in Token the MIC of the text in Data, as the next of the context's MICs.
 ///
-/// `InvalidToken` where Data or Token is missing, before the context is asked; else as the context
-/// refuses to sign. Refused, the context and all buffers are as they were.
+/// `InvalidToken` if Data or Token is missing, before the context is asked; otherwise as the
+/// context refuses to sign. After a refusal the context and all buffers are as they were.
 pub fn make_signature<P: Protects>(
     context: &mut P,
     message: &mut [SecurityBuffer],
@@ -178,11 +177,11 @@ pub fn make_signature<P: Protects>(
     Ok(())
 }
 
-/// Checks that Token is the MIC that the peer made of the text in Data as the next of its MICs. No
+/// Checks that Token is the MIC that the peer made of the text in Data, as the next of its MICs. No
 /// buffer is changed.
 ///
-/// `InvalidToken` where Data or Token is missing, before the context is asked; else as the context
-/// refuses to verify. Takes no memory. Refused, the context is as it was.
+/// `InvalidToken` if Data or Token is missing, before the context is asked; otherwise as the
+/// context refuses to verify. It allocates nothing. After a refusal the context is as it was.
 pub fn verify_signature<P: Protects>(
     context: &mut P,
     message: &[SecurityBuffer],
@@ -203,7 +202,7 @@ pub fn verify_signature<P: Protects>(
     }
 }
 
-// What stands behind the tag, in the memory of the blob.
+// What follows the tag, in the memory of the blob.
 fn behind_tag(blob: Vec<u8>) -> Vec<u8>
     requires { 16 ≤ length blob.items }
     ensures { result.items ≡ drop 16 blob.items }

@@ -10,9 +10,9 @@ use sspi_types::{Error, ErrorKind};
 
 /// A context that protects messages once it has a key.
 ///
-/// A refusal leaves it as it was and has no NTSTATUS code. Out of memory may come at any time, but
-/// for `unseal` only where nothing else refuses it; every other kind comes only where `refuses`
-/// says so. On `Ok` the call's own count has moved by one, and nothing else.
+/// A refusal leaves it as it was and has no NTSTATUS code. Only `seal`, `sign` and `unseal` may run
+/// out of memory, `unseal` only if nothing else refuses it. Every other kind comes only where
+/// `refuses` says so. `Ok` raises the call's own count by one and changes nothing else.
 pub trait Protects {
     ghost protecting: { Protecting Self };
 
@@ -66,7 +66,7 @@ pub trait Protects {
         ensures cause { IfErr result (λ error. error.error_type ≢ ErrorKind.InsufficientMemory →
             protecting.refuses self.old (ToSign text.now) error.error_type) };
 
-    /// Checks the MIC that the peer made of a text as the next of its MICs. Takes no memory.
+    /// Checks the MIC that the peer made of a text, as the next of its MICs. It allocates nothing.
     fn verify(&mut self, mic: &[u8], text: &[u8]) -> Result<(), Error>
         // What `Ok` holds.
         ensures mic { OnOk result (protecting.verifies self.new

@@ -5,7 +5,7 @@ ghost use Rattle.sspi_messages.specs.Unsupported.{unsupported};
 
 use sspi_types::{Error, ErrorKind, Reason};
 
-/// What a query answers that a package does not have: `UnsupportedFunction`.
+/// The answer to a query that a package does not have: `UnsupportedFunction`.
 pub fn unsupported() -> Error
     ensures { result ≡ unsupported }
 {

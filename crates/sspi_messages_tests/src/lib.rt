@@ -1,4 +1,4 @@
-//! Tests of the calls on messages and of the queries, at a context of plain NTLM and at a
+//! Tests of the calls on messages and of the queries, on a context of plain NTLM and on a
 //! negotiation of it.
 #![tactic(auto)]
 

@@ -1,4 +1,4 @@
-//! One script a test: its lines go through one driver, over two ends that are made once.
+//! One script per test: its lines go through one driver, over two ends that are made once.
 
 mod ends;
 mod lines;

@@ -1,4 +1,4 @@
-//! What several crates of tests share: a mechanism that a script tells its steps.
+//! What several test crates share: a mechanism whose steps a script decides.
 //!
 //! Nothing here ends a test, since only tests may abort.
 #![tactic(auto)]

@@ -1,4 +1,4 @@
-//! A mechanism whose steps a script tells, and which protects nothing.
+//! A mechanism whose steps a script decides, and which protects nothing.
 
 ghost use Rattle.std.specs.Prelude.{◌≡◌, ◌<◌, ◌≤◌, ◌-◌, None, false, true, refl, length, drop};
 ghost use Rattle.std.specs.Prelude.{IfOk, IfErr, OnOk, OnErr};
@@ -19,7 +19,7 @@ use sspi_types::{
 use std::alloc::Global;
 use std::marker::PhantomData;
 
-/// What a script tells of a step.
+/// What a script says about a step.
 pub enum Told<'a> {
     /// It is made, with this status and this token.
     Made(SecurityStatus, &'a [u8]),
@@ -28,19 +28,19 @@ pub enum Told<'a> {
 
 /// The steps of a mechanism.
 pub trait Script: Drop {
-    /// A client's step; none where it asks a KDC, which it may `left` times yet.
+    /// A client's step; none if it asks a KDC, which it may do `left` more times.
     fn initialize<'a>(left: u32, has_credentials: bool, token: &'a [u8]) -> Option<Told<'a>>;
 
-    /// The same step once the KDC replied.
+    /// The same step once the KDC has replied.
     fn resume<'a>(left: u32, reply: &'a [u8]) -> Option<Told<'a>>;
 
     /// A server's step.
     fn accept<'a>(token: &'a [u8]) -> Told<'a>;
 }
 
-/// A mechanism that does as its script tells. A client asks a KDC `TIMES` times at most, and a
+/// A mechanism that does what its script says. A client asks a KDC at most `TIMES` times, and a
 /// server's peer is `DOM\ann`. It protects nothing: a blob is sixteen zeros and the text, and the
-/// MIC of a text is the text, so that a token shows what was signed.
+/// MIC of a text is the text, so a token shows what was signed.
 #[derive(Drop)]
 pub struct Scripted<S, const TIMES: u32> {
     script: PhantomData<S>,
@@ -84,7 +84,7 @@ fn step_of(alloc: Global, told: Told<'_>) -> Result<Step, Error>
     }
 }
 
-/// What stands behind the sixteen zeros of a blob.
+/// What follows the sixteen zeros of a blob.
 fn text_in(alloc: Global, blob: &[u8]) -> Result<Vec<u8>, Error>
     ensures text { IfOk result (λ text. text.items ≡ drop 16 blob.now) }
     ensures codeless { IfErr result (λ error. error.nstatus ≡ None) }

@@ -25,7 +25,7 @@ pub fn holds(rt: &impl Abort, fact: bool, what: &str) {
     assert!(rt; fact, "{what}");
 }
 
-/// The value of a call that is not to be refused.
+/// The value of a call that must not be refused.
 pub fn given<T, E: Drop>(rt: &impl Abort, answer: Result<T, E>) -> T {
     match answer {
         Ok(value) => value,
@@ -42,7 +42,7 @@ pub struct Ends {
     pub server: Context,
 }
 
-/// Ends that have plain NTLM alone.
+/// Ends that have only plain NTLM.
 pub fn by_ntlm(rt: &impl Test) -> Ends {
     Ends {
         client: SspiContext::Ntlm(ntlm(rt)),
@@ -50,7 +50,7 @@ pub fn by_ntlm(rt: &impl Test) -> Ends {
     }
 }
 
-/// Ends that negotiate, and come to plain NTLM.
+/// Ends that negotiate, and agree on plain NTLM.
 pub fn negotiating(rt: &impl Test) -> Ends {
     Ends {
         client: SspiContext::Negotiate(given(rt, Negotiate::new_client(rt.alloc(), &config(rt)))),
@@ -104,7 +104,7 @@ fn handle(rt: &impl Test) -> CredentialsBuffers {
     })
 }
 
-/// The client's token for what came from the server.
+/// The client's token in answer to the server's.
 fn initializes(rt: &impl Test, client: &mut Context, input: Vec<u8>) -> Vec<u8> {
     let handle = handle(rt);
     match client.initialize_security_context(&InitializeSecurityContext {
@@ -119,7 +119,7 @@ fn initializes(rt: &impl Test, client: &mut Context, input: Vec<u8>) -> Vec<u8> 
     }
 }
 
-/// The server's token for what came from the client.
+/// The server's token in answer to the client's.
 fn accepts(rt: &impl Test, server: &mut Context, input: Vec<u8>) -> Vec<u8> {
     let step = given(
         rt,

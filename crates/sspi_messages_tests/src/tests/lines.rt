@@ -1,11 +1,11 @@
-//! Calls told by lines of text, as `client seal tokn:,data:41 -> tokn:00,data:41`, `server ask name
-//! -> DOM\ann` or `server do complete -> Ok`.
+//! Calls described by lines of text, such as `client seal tokn:,data:41 -> tokn:00,data:41`,
+//! `server ask name -> DOM\ann` or `server do complete -> Ok`.
 //!
-//! A buffer is its type, `!` where it may only be read or `?` where a checksum covers it too, `:`
-//! and its bytes: hex, or `text` for those of `Devolutions/sspi-rs`, joined by `+`. Behind the
-//! arrow stands what the buffers are afterwards, `same` where that is what they were, or the text
-//! of a refusal, after which they are to be as before. The line `authenticate` has both ends
-//! authenticate, and `negotiation` tries the calls of the negotiations that they have selected.
+//! A buffer is its type, `!` if it may only be read or `?` if a checksum covers it too, `:` and its
+//! bytes: hex, or `text` for those of `Devolutions/sspi-rs`, joined by `+`. After the arrow come
+//! the buffers afterwards, `same` if they are unchanged, or the text of a refusal, after which they
+//! must be as before. The line `authenticate` has both ends authenticate, and `negotiation` tries
+//! the calls of the negotiations that they have selected.
 
 use crate::tests::ends::{Context, Ends, Test, authenticate, given, holds};
 use crate::tests::negotiation::negotiated;
@@ -65,7 +65,7 @@ fn buffer(rt: &impl Test, text: &str) -> SecurityBuffer {
     }
 }
 
-/// The buffers of a text, which `-` has none of.
+/// The buffers of a text; `-` has none.
 pub fn message(rt: &impl Test, text: &str) -> Vec<SecurityBuffer> {
     let mut buffers = Vec::new(rt.alloc());
     if text == "-" {
@@ -89,8 +89,8 @@ pub fn shows(error: &Error, text: &str) -> bool {
     }
 }
 
-/// A call, by its word, and whether its answer is the only one that there is. Flags and numbers are
-/// not read.
+/// A call, by its word, and whether its answer is the only possible one. Flags and numbers are
+/// ignored.
 fn calls(end: &mut Context, call: &str, message: &mut [SecurityBuffer]) -> Result<bool, Error> {
     match call {
         "seal" => {
@@ -142,7 +142,7 @@ fn goes(rt: &impl Test, ends: &mut Ends, line: &str) {
     }
 }
 
-/// Each line of the script comes true.
+/// Checks each line of the script.
 pub fn go(rt: &impl Test, ends: &mut Ends, script: &str) {
     for line in script.lines() {
         match line {

@@ -1,4 +1,4 @@
-//! The calls of a negotiation itself, where no context stands before it.
+//! The calls of a negotiation itself, without the context around it.
 
 use crate::tests::ends::{Ends, Test, holds};
 use crate::tests::lines::{message, shows};

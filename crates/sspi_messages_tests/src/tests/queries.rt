@@ -1,4 +1,4 @@
-//! Queries told by a word, and what they answer by a text: a name, a key in hex, the package of an
+//! Queries given by a word, and what they answer by a text: a name, a key in hex, the package of an
 //! entry, or a refusal.
 
 use crate::tests::ends::{Context, Test, given, holds, identity};
@@ -20,7 +20,7 @@ fn password(rt: &impl Test) -> Credentials {
     Credentials::AuthIdentity(identity(rt))
 }
 
-/// It is refused, or it answers nothing, which `-` stands for.
+/// Checks that it is refused, or that it answers nothing, written as `-`.
 fn done(rt: &impl Test, answer: Result<(), Error>, told: &str) {
     match answer {
         Ok(()) => holds(rt, told == "-", told),
@@ -49,7 +49,7 @@ pub fn keyed(rt: &impl Test, answer: Result<SessionKeys, Error>, told: &str) {
     }
 }
 
-/// An entry is all that the package's own is.
+/// Checks that an entry is equal to the package's own.
 pub fn entered(rt: &impl Test, answer: Result<PackageInfo, Error>, told: &str) {
     match answer {
         Ok(info) => {
@@ -96,7 +96,7 @@ pub fn ask(rt: &impl Test, context: &Context, what: &str, told: &str) {
     }
 }
 
-/// What no package here has, and the name of the package selected.
+/// Queries that no package here has, and the name of the selected package.
 fn lacks(rt: &impl Test, context: &Context, what: &str, told: &str) {
     match what {
         "streams" => refused(rt, context.query_context_stream_sizes().err(), told),
@@ -110,7 +110,7 @@ fn lacks(rt: &impl Test, context: &Context, what: &str, told: &str) {
     }
 }
 
-/// What changes a context, and does not protect a message.
+/// Calls that change a context and do not protect a message.
 pub fn act(rt: &impl Test, context: &mut Context, what: &str, told: &str) {
     match what {
         "complete" => completed(rt, context.complete_auth_token(), told),

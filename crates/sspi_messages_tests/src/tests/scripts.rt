@@ -7,7 +7,7 @@ use crate::tests::lines::go;
 // number and its text; the key is that over its label, eight zero bytes, the name and the password.
 // The text is `Devolutions/sspi-rs`.
 
-/// A missing buffer, also one that there is with flags alone, is told before the mechanism is
+/// A missing buffer, even one that is there only with flags, is reported before the mechanism is
 /// asked; so is a short blob.
 const LACKING: &str = "
 client seal - -> InvalidToken: no buffer was provided with that type
@@ -31,7 +31,7 @@ client verify data:41 -> InvalidToken: no buffer was provided with that type
 client verify tokn:41,data?: -> InvalidToken: no buffer was provided with that type
 ";
 
-/// Where the buffers serve, an end without a key is out of sequence.
+/// If the buffers are suitable, an end without a key is out of sequence.
 const KEYLESS: &str = "
 client seal tokn:01,data:02 -> OutOfSequence: call out of sequence
 client open tokn:0011223344556677,data:8899aabbccddeeff -> OutOfSequence: call out of sequence
@@ -58,7 +58,7 @@ client open data:,strm:2136948bef9d7683b1473389af3b010a+text -> data:text,strm:2
 client open data:,strm:2136948bef9d7683b1473389af3b010a+text -> MessageAltered: a tag does not match
 ";
 
-/// Empty texts, as the second messages; what a token had before is no matter.
+/// Empty texts, as the second messages; what a token had before does not matter.
 const EMPTY: &str = "
 client seal tokn:00112233445566778899aabbccddeeff0011,data: -> tokn:ad80a644e098f3f0577f1531092be880,data:
 server open data:,tokn:ad80a644e098f3f0577f1531092be880 -> same
@@ -76,7 +76,7 @@ server sign data:,tokn:00 -> data:,tokn:390011cfca66d770580ce9391e4ccf3d
 client verify data:,tokn:390011cfca66d770580ce9391e4ccf3d -> same
 ";
 
-/// In a negotiation each end made a MIC over the list of mechanisms before.
+/// In a negotiation each end has already made a MIC over the list of mechanisms.
 const SIGNED_NEXT: &str = "
 client sign tokn:,data:text -> tokn:39bf1559df3584a50c8634a2d96294c9,data:text
 server verify tokn:39bf1559df3584a50c8634a2d96294c9,data:text -> same
@@ -101,7 +101,7 @@ client seal tokn:,data: -> tokn:c7ee43ddac41f0a4ea60da8cea8db73f,data:
 server open strm?:00,data:,tokn:c7ee43ddac41f0a4ea60da8cea8db73f -> same
 ";
 
-/// Refusals use no number up.
+/// Refusals use up no number.
 const AFTER: &str = "
 client seal tokn:,data: -> tokn:16d54a854f24b6fcec6f8eb4c2d7b40d,data:
 server open tokn:16d54a854f24b6fcec6f8eb4c2d7b40d,data:00 -> MessageAltered: a tag does not match
@@ -109,7 +109,7 @@ server open strm:16d54a854f24b6fcec6f8eb4c2d7b40c,data:00 -> MessageAltered: a t
 server open strm:16d54a854f24b6fcec6f8eb4c2d7b40d,data:00 -> strm:16d54a854f24b6fcec6f8eb4c2d7b40d,data:
 ";
 
-/// What both ends of plain NTLM tell once they have the key.
+/// What both ends of plain NTLM answer once they have the key.
 const TOLD: &str = "
 client ask key -> a30f440ea5d4fad9989e2e7dab3de7e0cf9ed7c3e4506b346e382439f6b556a8
 server ask key -> a30f440ea5d4fad9989e2e7dab3de7e0cf9ed7c3e4506b346e382439f6b556a8
@@ -138,7 +138,7 @@ client ask negotiated -> NTLM
 
 const REFUSALS: [&str; 5] = [LACKING, KEYLESS, "authenticate", LACKING, AFTER];
 
-/// What scripts run on. A test hands it on and owns none, so that no test drops it.
+/// What scripts run on. A test passes it on and owns none, so no test drops it.
 trait Stage: Drop {
     fn play(&mut self, rt: &impl Test, script: &str);
 }
