@@ -15,7 +15,7 @@ use Rattle.sspi_framing.specs.Taking.{IsBad, IsWhole, TakesToFault, TakesWanted,
 use Rattle.sspi_framing.specs.Parts.{IsHeaderOf, TakesBytes, TakesBody, TakesCut, TakesPart}
 use Rattle.sspi_framing.proofs.Wanted.{part_wanted}
 
--- so much of the content was taken, and so many bytes are missing
+-- part of the content was taken, and `missing` bytes of it are still missing
 pub record BodySoFar (size missing : ℕ) (before now : Option (List ℕ)) (old new : List ℕ) : Type 0 where
   pub body : List ℕ
   pub sized : length body + missing ≡ size

@@ -1,4 +1,4 @@
--- Requests one behind the other, and the bytes that they take.
+-- Requests one after the other, and the bytes that they take.
 use Rattle.std.proofs.Common.{◌≡◌, ℕ, ◌≤◌, List, [], ◌∷◌, ◌++◌, length, take, drop, refl, sym, ap, ◌∙◌, subst, append_assoc, arith}
 use Rattle.std.proofs.lemmas.List.{drop_at, length-append, length-take-le, take-append-drop}
 use Rattle.sspi_tsreq.specs.declared.request.TsRequest.{TsRequest}

@@ -1,4 +1,4 @@
--- The header of a request, as the bytes of a stream come.
+-- The header of a request, as the bytes of a stream arrive.
 use Rattle.std.proofs.Common.{◌≡◌, ℕ, ◌-◌, ◌≤◌, true, false, cond, eqb, ltb, leb, List, [], ◌∷◌, ◌++◌, length, take}
 use Rattle.std.proofs.Common.{drop, Option, None, Some, Ok, Err, refl, sym, ap, ◌∙◌, subst, inl, inr, arith}
 use Rattle.std.proofs.lemmas.Bool.{le-ltb}
@@ -19,7 +19,7 @@ use Rattle.sspi_framing.proofs.Wanted.{header_shown, header_unfinished, pushed_w
 
 -- ---- when a header is whole
 
--- the header is a prefix of the bytes, and no byte stands behind it that was not there before the last
+-- the header is a prefix of the bytes, and no byte follows it that was not there before the last
 within : (p : List ℕ) (b n : ℕ) (text : List ℕ) (x : ℕ) (r : List ℕ) → header_at 0x30 p ≡ Err Ended → IsHeader 0x30 text n →
     p ++ b ∷ [] ≡ text ++ x ∷ r → ⊥
 within p b n text x r h t e =
@@ -93,7 +93,7 @@ five_decide (t ∷ f ∷ a ∷ b ∷ c ∷ d ∷ p) l e = omega (arith, l)
 
 -- ---- bytes that have no header
 
--- each fault of the header is the end of the request
+-- each fault of the header counts as an early end of the request
 pub header_fault : (bytes : List ℕ) (kind : Fault) → header_at 0x30 bytes ≡ Err kind → fault bytes ≡ Some Ended
 unfolding request_at
 header_fault bytes kind e = rw e refl
@@ -134,7 +134,7 @@ bad_is_bad (Some bytes) None p c h n = absurd c
 bad_is_bad (Some bytes) (Some left) p c h n =
     (λ e. some_byte p left n (sym c ∙ e), ap fault c ∙ header_fault (p ++ left) Invalid ((header_steady 0x30).stays p left h))
 
--- the header is at fault
+-- the header is invalid
 bad_header : (before after : Option (List ℕ)) (p : List ℕ) → Consumes before after p → header_at 0x30 p ≡ Err Invalid → (p ≡ [] → ⊥) →
     AreWanted p → IsBad before UnexpectedEof × TakesToFault UnexpectedEof before after
 bad_header before after p c h n w = (

@@ -1,4 +1,4 @@
--- Which bytes of a request are taken: none behind its content, and none behind a fault of its header.
+-- Which bytes of a request are taken: none after its content, and none after a fault of its header.
 use Rattle.std.proofs.Common.{◌≡◌, ℕ, ◌-◌, ◌≤◌, List, [], ◌∷◌, ◌++◌, length, take, drop}
 use Rattle.std.proofs.Common.{Ok, Err, refl, sym, ap, ◌∙◌, subst, append_assoc, arith}
 use Rattle.std.proofs.lemmas.List.{append-nil, length-append, length-replicate, take-append-drop, take-append-le, take_at}
@@ -12,7 +12,7 @@ use Rattle.sspi_framing.specs.Parts.{IsHeaderOf}
 
 -- ---- bytes that are unfinished
 
--- they are so at each prefix
+-- their prefixes are unfinished too
 front_unfinished : (front more : List ℕ) (z : Read (List ℕ)) → element_at 0x30 front ≡ z → IsUnfinished (front ++ more) → IsUnfinished front
 front_unfinished front more (Ok x) e u = let f = (element_steady 0x30).goes front x.0 x.1 more e in absurd cc
 front_unfinished front more (Err Ended) e u = e

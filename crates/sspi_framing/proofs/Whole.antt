@@ -43,7 +43,7 @@ is_text bytes r count w t =
 
 -- ---- no request
 
--- the fault is told by these bytes alone
+-- these bytes alone determine the fault
 same_fault : (bytes more : List ℕ) → IsWhole bytes → fault (bytes ++ more) ≡ fault bytes
 same_fault bytes more w =
     let longer : bytes ++ more ≡ (0x30 ∷ w.len) ++ (w.body ++ more) =
@@ -84,7 +84,7 @@ pub to_fault : (before after : Option (List ℕ)) (bytes : List ℕ) (kind : Wir
 to_fault before after bytes kind c w f =
     record { taken = record { text = bytes; taken = c; wanted = whole_wanted bytes w }; shows = shows bytes after kind w f }
 
--- a request that was taken whole, and what comes of reading it
+-- a request that was taken whole, but could not be read
 pub taken_not_read : (before after : Option (List ℕ)) (bytes seen : List ℕ) (kind : WireKind) → Consumes before after bytes →
     IsWhole bytes → seen ≡ bytes → IsReadAs seen (Err kind) → GivesNext before after (Err kind)
 taken_not_read before after bytes seen kinds.UnexpectedEof c w e f =

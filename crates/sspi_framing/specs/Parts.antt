@@ -31,7 +31,7 @@ pub record IsHeaderOf (size : ℕ) (bytes : List ℕ) : Type 0 where
 
 -- ---- what is taken, by the answer
 
--- the header, and nothing behind it
+-- the header, and nothing after it
 abbrev pub TakesHeader : Option (List ℕ) → Option (List ℕ) → List ℕ → Result (Option ℕ) WireKind →
     Type 0
 TakesHeader before after header (Ok (Some size)) = Consumes before after header ×
@@ -44,20 +44,20 @@ TakesHeader before after header (Err ReadFault) = TakesWanted before after
 TakesHeader before after header (Err WriteFault) = ⊥
 TakesHeader before after header (Err InsufficientMemory) = TakesWanted before after
 
--- so many bytes were taken and put behind those that were there
+-- `size` bytes were taken and appended to those that were there
 pub record TakesBytes (size : ℕ) (before after : Option (List ℕ)) (old new : List ℕ) : Type 0 where
   pub body : List ℕ
   pub sized : length body ≡ size
   pub taken : Consumes before after body
   pub put : new ≡ old ++ body
 
--- at most so many bytes were taken
+-- at most `size` bytes were taken
 pub record TakesPart (size : ℕ) (before after : Option (List ℕ)) : Type 0 where
   pub body : List ℕ
   pub sized : length body ≤ size
   pub taken : Consumes before after body
 
--- all that were left were taken, and they are fewer
+-- all remaining bytes were taken, and they are fewer than `size`
 pub record TakesCut (size : ℕ) (before after : Option (List ℕ)) : Type 0 where
   pub body : List ℕ
   pub sized : length body < size
@@ -76,7 +76,7 @@ TakesBody size before after old new (Err InsufficientMemory) = TakesPart size be
 
 -- ---- what the bytes of a request are read as
 
--- the bytes begin with no request, for this reason
+-- the bytes do not begin with a request, for this reason
 abbrev pub HasFault : List ℕ → WireKind → Type 0
 HasFault bytes UnexpectedEof = fault bytes ≡ Some Ended
 HasFault bytes InvalidData = fault bytes ≡ Some Invalid
@@ -84,7 +84,7 @@ HasFault bytes ReadFault = ⊥
 HasFault bytes WriteFault = ⊥
 HasFault bytes InsufficientMemory = ⊥
 
--- bytes that a header bounds are all of a request, or begin with none
+-- bytes that a header bounds are exactly one request, or do not begin with one
 abbrev pub IsReadAs : List ℕ → Result TsRequest WireKind → Type 0
 IsReadAs bytes (Ok r) = IsText bytes r
 IsReadAs bytes (Err UnexpectedEof) = HasFault bytes UnexpectedEof

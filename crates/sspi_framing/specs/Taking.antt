@@ -10,7 +10,7 @@ use Rattle.sspi_tsreq.specs.declared.request.TsRequest.{TsRequest}
 use Rattle.sspi_tsreq.specs.Reading.{fault}
 use Rattle.sspi_framing.specs.Front.{IsText}
 
--- bytes are left, and they begin with no request
+-- bytes are left, and they do not begin with a request
 abbrev pub IsBad : Option (List ℕ) → WireKind → Type 0
 IsBad left kinds.UnexpectedEof = IfSome left (λ bytes. (bytes ≡ [] → ⊥) ×
     (fault bytes ≡ Some Ended))
@@ -30,23 +30,23 @@ pub record IsWhole (bytes : List ℕ) : Type 0 where
   pub measured : IsLength len (length body)
 
 -- bytes of a header, or of the content that it announces, are missing, and so far the header is not
--- at fault
+-- invalid
 abbrev pub IsUnfinished : List ℕ → Type 0
 IsUnfinished bytes = element_at 0x30 bytes ≡ Err Ended
 
--- what stands in front of any of the bytes is unfinished: each was missing when it came
+-- the bytes before each of these bytes are unfinished: each was still missing when it was taken
 abbrev pub AreWanted : List ℕ → Type 0
 AreWanted bytes = (front rest : List ℕ) (byte : ℕ) → bytes ≡ front ++ byte ∷ rest →
     IsUnfinished front
 
--- Bytes of one request were taken: none behind its content, and none behind the byte that puts its
--- header at fault.
+-- Bytes of one request were taken: none after its content, and none after the byte that makes its
+-- header invalid.
 pub record TakesWanted (before after : Option (List ℕ)) : Type 0 where
   pub text : List ℕ
   pub taken : Consumes before after text
   pub wanted : AreWanted text
 
--- The bytes show the fault: they are unfinished only where the source is at its end, and at
+-- The bytes show the fault: they are unfinished only if the source is at its end, and at
 -- `InvalidData` they are whole.
 abbrev pub ShowsFault : List ℕ → Option (List ℕ) → WireKind → Type 0
 ShowsFault text after kinds.UnexpectedEof = IsUnfinished text → IsAtEnd after

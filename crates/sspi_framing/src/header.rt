@@ -7,11 +7,11 @@ ghost use Rattle.sspi_framing.specs.Parts.{Announces, TakesHeader};
 use sspi_ber::{MAX_LENGTH_OCTETS, SliceSource, Source, WireKind, read_sequence_tag};
 
 /// The most bytes that a header has: its identifier octet, the first octet of its length, and those
-/// behind it.
+/// that follow it.
 const MAX_HEADER: u32 = 2 + MAX_LENGTH_OCTETS;
 
-/// The length that a header announces; `None` while bytes of it are missing. `UnexpectedEof` where
-/// it is none.
+/// The length that a header announces; `None` while bytes of it are missing. `UnexpectedEof` if it
+/// is not a valid header.
 fn announced(header: &[u8]) -> Result<Option<u32>, WireKind>
     ensures { Announces header.now result }
 {
@@ -22,8 +22,8 @@ fn announced(header: &[u8]) -> Result<Option<u32>, WireKind>
     }
 }
 
-/// The header of the next request, byte by byte, so that no byte behind it is taken, and the length
-/// that it announces. `None` where the source is at its end.
+/// The header of the next request, byte by byte, so that no byte after it is taken, and the length
+/// that it announces. `None` if the source is at its end.
 pub(crate) fn take_header<S: Source>(
     source: &mut S,
     header: &mut Vec<u8>,

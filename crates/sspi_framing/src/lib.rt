@@ -1,10 +1,10 @@
 //! The framing of CredSSP's messages (MS-CSSP 2.2.1): one request is taken from a stream, and no
-//! byte behind it.
+//! byte after it.
 //!
 //! - `take_request`: the bytes of the next request, as its header bounds them.
 //! - `next_request`: the next request itself.
 //!
-//! `specs/Front.antt` has the requests that stand at the front of a stream, and `specs/Taking.antt`
+//! `specs/Front.antt` defines the requests at the beginning of a stream, and `specs/Taking.antt`
 //! what each answer takes.
 #![tactic(auto)]
 

@@ -9,7 +9,7 @@ use sspi_ber::{Source, WireKind};
 use sspi_tsreq::TsRequest;
 use std::alloc::Global;
 
-/// The request that these bytes are, which its header bounds.
+/// The request that these bytes encode, as its header bounds them.
 fn read_whole(alloc: Global, bytes: &[u8]) -> Result<TsRequest, WireKind>
     requires { IsWhole bytes.now }
     ensures { IsReadAs bytes.now result }
@@ -17,17 +17,17 @@ fn read_whole(alloc: Global, bytes: &[u8]) -> Result<TsRequest, WireKind>
     TsRequest::from_buffer(alloc, bytes)
 }
 
-/// The next request of the stream, and no byte behind it; `None` where the source is at its end.
-/// What no clause says: memory is taken only for bytes that came.
+/// The next request of the stream, and no byte after it; `None` if the source is at its end. No
+/// clause says this: memory is allocated only for bytes that have arrived.
 ///
-/// - `UnexpectedEof`: what is next begins with no request, as it ends too early or its header is at
-///   fault. Header and content were taken; or the header up to the byte at fault; or all there was,
-///   if it ended sooner.
-/// - `InvalidData`: it is no request for another reason. Header and content were taken.
-/// - `ReadFault`: the source failed. Bytes of one request may have been taken, none behind it.
-/// - `InsufficientMemory`: the same of out of memory; the whole request may have been taken.
+/// - `UnexpectedEof`: the next bytes do not begin with a request, as they end too early or the
+///   header is invalid. Header and content were taken; or the header up to the faulty byte; or all
+///   there was, if it ended sooner.
+/// - `InvalidData`: they are not a request for another reason. Header and content were taken.
+/// - `ReadFault`: the source failed. Bytes of one request may have been taken, none after it.
+/// - `InsufficientMemory`: the same when out of memory; the whole request may have been taken.
 ///
-/// No failed call hides behind another answer: the source's count of faults is as it was, but at
+/// No other answer hides a failed call: the source's count of faults is unchanged except at
 /// `ReadFault`.
 pub fn next_request<S: Source>(alloc: Global, source: &mut S) -> Result<Option<TsRequest>, WireKind>
     ensures takes { GivesNext (S.left source.old) (S.left source.new) result }

@@ -1,4 +1,4 @@
-//! The bytes of the next request of a stream, and no byte behind them.
+//! The bytes of the next request of a stream, and no byte after them.
 
 ghost use Rattle.sspi_ber.specs.Outside.{CopyCause};
 ghost use Rattle.sspi_framing.specs.Parts.{TakesBody};
@@ -10,7 +10,7 @@ use std::alloc::Global;
 
 const PIECE_LENGTH: usize = 2048;
 
-/// So many bytes more, in pieces, so that memory is taken only for what came.
+/// Takes `size` more bytes, in pieces, so that memory is allocated only for what arrives.
 fn take_body<S: Source>(source: &mut S, bytes: &mut Vec<u8>, size: usize) -> Result<(), WireKind>
     ensures takes { TakesBody size (S.left source.old) (S.left source.new) bytes.old.items
         bytes.new.items result }
@@ -30,9 +30,8 @@ fn take_body<S: Source>(source: &mut S, bytes: &mut Vec<u8>, size: usize) -> Res
     Ok(())
 }
 
-/// The bytes of the next request, as its header bounds them, and no byte behind them; `None` where
-/// the source is at its end. `UnexpectedEof` where the header is at fault or the source ends too
-/// early.
+/// The bytes of the next request, as its header bounds them, and no byte after them; `None` if the
+/// source is at its end. `UnexpectedEof` if the header is invalid or the source ends too early.
 pub fn take_request<S: Source>(alloc: Global, source: &mut S) -> Result<Option<Vec<u8>>, WireKind>
     ensures takes { TakesRequest (λ bytes. bytes.items) (S.left source.old) (S.left source.new)
         result }
