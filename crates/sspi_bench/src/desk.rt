@@ -13,8 +13,8 @@ type PlainServer = CredSspServer<Ntlm, Kerberos, TableProxy>;
 
 type PlainDesk = Desk<Ntlm, Kerberos, TableProxy>;
 
-/// A desk of so many sessions of plain NTLM is served these bytes so many times, one session after
-/// the other.
+/// Has a desk of this many sessions of plain NTLM serve these bytes `times` times, one session
+/// after the other.
 pub(crate) fn repeat(
     alloc: Global,
     sessions: u32,
@@ -28,7 +28,7 @@ pub(crate) fn repeat(
     sum_of_calls(desk, filled, sessions, bytes, times)
 }
 
-/// Admits so many servers.
+/// Admits one server for each session.
 fn fill(alloc: Global, sessions: u32, desk: &mut PlainDesk) -> Result<(), AllocError> {
     for _ in 0..sessions {
         admit(desk, server(alloc)?)?;
@@ -36,7 +36,7 @@ fn fill(alloc: Global, sessions: u32, desk: &mut PlainDesk) -> Result<(), AllocE
     Ok(())
 }
 
-/// A server of the key 010203 and a challenge of zeros, which knows nobody.
+/// A server with the key 010203 and a challenge of zeros, which knows nobody.
 fn server(alloc: Global) -> Result<PlainServer, AllocError> {
     let key = Vec::from_slice(alloc, &[1, 2, 3])?;
     let config = NtlmConfig::new(Text::from_text(alloc, "SERVER")?);
@@ -48,7 +48,7 @@ fn server(alloc: Global) -> Result<PlainServer, AllocError> {
     ))
 }
 
-/// Generic, as what follows is, since to drop a server of type parameters is one step.
+/// Generic, like the next function: dropping a server of type parameters is one step of a proof.
 fn admit<N: Mechanism, K: Mechanism, C: CredentialsProxy>(
     desk: &mut Desk<N, K, C>,
     server: CredSspServer<N, K, C>,
@@ -81,7 +81,7 @@ fn sum_of_calls<N: Mechanism, K: Mechanism, C: CredentialsProxy>(
     Ok(sum)
 }
 
-/// The sum of the bytes that are answered, or of those that tell a refusal.
+/// The sum of the bytes that are answered, or of those that report a refusal.
 fn sum_of(answer: &Result<Served, DeskError>) -> u64 {
     match answer {
         Ok(Served::Answer(text)) => sum_of_text(text.as_slice()),

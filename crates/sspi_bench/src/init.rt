@@ -27,13 +27,13 @@ fn encode(alloc: Global, token: &NegTokenInit) -> Result<u64, Error> {
     Ok(sum_of_text(&text))
 }
 
-/// The work so many times on the NegTokenInit that the bytes begin with.
+/// Does the work `times` times on the NegTokenInit that the bytes begin with.
 pub(crate) fn repeat(alloc: Global, work: Work, bytes: &[u8], times: u32) -> Result<u64, Error> {
     let token = NegTokenInit::decode(alloc, bytes)?;
     repeat_with(alloc, work, bytes, &token, times)
 }
 
-/// The same with what was decoded, which is lent, so that leaving the loop drops nothing.
+/// The same with the decoded token, which is borrowed, so that leaving the loop drops nothing.
 fn repeat_with(
     alloc: Global,
     work: Work,

@@ -1,13 +1,13 @@
-//! Decodes or encodes one message many times, so that a counter of instructions can say what one
-//! costs.
+//! Decodes or encodes one message many times, so that an instruction counter can tell the cost of
+//! one.
 //!
 //! Words: `decode`, `encode` or `both`, how many times, and any of `request` (a TSRequest), `init`
-//! and `targ` (the tokens of SPNEGO); without such a word, `request`. For each of these a line of
-//! hex comes on standard input. Or `feed`, how many times, and a size: one line, a TSRequest, is
+//! and `targ` (the tokens of SPNEGO); without such a word, `request`. Each of these takes one line
+//! of hex from standard input. Or `feed`, how many times, and a size: one line, a TSRequest, is
 //! decoded from pieces of that many bytes. Or `desk`, how many times, and a number of sessions: a
-//! desk of so many serves them one line, one session after the other. Each line is parsed before
-//! its loop, and one checksum is printed, so that no result goes unused. docs/PERFORMANCE.md says
-//! how it is measured. Or `show` and how many lines: of each, what is read of the request that it
+//! desk of that many serves one line, one session after the other. Each line is parsed before its
+//! loop, and one checksum is printed, so that no result goes unused. docs/PERFORMANCE.md says how
+//! it is measured. Or `show` and how many lines: for each, what is read of the request that it
 //! begins with.
 #![tactic(auto)]
 
@@ -48,7 +48,7 @@ fn words_of<R: Env + Alloc<A = Global>>(rt: &R) -> Result<Vec<String>> {
     Ok(words)
 }
 
-/// What is done, and how many times.
+/// The job, and how many times it is done.
 fn job_of(alloc: Global, words: &[String]) -> Result<(Job, u32)> {
     let [verb, times, rest @ ..] = words else {
         bail!("a word and a number are wanted");
@@ -79,7 +79,7 @@ fn sessions_of(words: &[String]) -> Result<u32> {
     Ok(word.as_str().parse::<u32>()?)
 }
 
-/// The messages of these words; a request where there is none.
+/// The messages of these words; a request if there are none.
 fn messages_of(alloc: Global, words: &[String]) -> Result<Vec<Message>> {
     let mut messages = Vec::new(alloc);
     if words.is_empty() {
@@ -101,7 +101,7 @@ fn next_message(rt: &HostRuntime) -> Result<Vec<u8>> {
     Ok(hex::decode(rt.alloc(), line.as_str().trim())?)
 }
 
-/// One line with this checksum, where there is one.
+/// Prints one line with this checksum, or fails if there is none.
 fn tell(rt: &HostRuntime, sum: Option<u64>, otherwise: &'static str) -> Result<()> {
     let sum = sum.context(otherwise)?;
     println!(rt; "{sum}")?;

@@ -33,13 +33,13 @@ fn encode(alloc: Global, request: &TsRequest) -> Result<u64, WireKind> {
     Ok(sum_of_text(&text))
 }
 
-/// The work so many times on the TSRequest that the bytes begin with.
+/// Does the work `times` times on the TSRequest that the bytes begin with.
 pub(crate) fn repeat(alloc: Global, work: Work, bytes: &[u8], times: u32) -> Result<u64, WireKind> {
     let request = TsRequest::from_buffer(alloc, bytes)?;
     repeat_with(alloc, work, bytes, &request, times)
 }
 
-/// The same with what was decoded, which is lent, so that leaving the loop drops nothing.
+/// The same with the decoded request, which is borrowed, so that leaving the loop drops nothing.
 fn repeat_with(
     alloc: Global,
     work: Work,
@@ -78,7 +78,7 @@ fn feed(alloc: Global, bytes: &[u8], size: usize) -> Result<u64, WireKind>
     }
 }
 
-/// So many times the TSRequest that the bytes begin with, from pieces of `size` bytes.
+/// Reads `times` times, from pieces of `size` bytes, the TSRequest that the bytes begin with.
 pub(crate) fn repeat_fed(
     alloc: Global,
     size: usize,

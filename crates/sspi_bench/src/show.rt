@@ -5,7 +5,7 @@ use sspi_ber::{VecSink, WireKind};
 use sspi_tsreq::TsRequest;
 use sspi_types::Bytes;
 
-/// The octets in hex behind `=`, or `-` where there are none.
+/// The octets in hex after `=`, or `-` if there are none.
 fn shown(rt: &HostRuntime, octets: Option<&[u8]>) -> Result<()> {
     match octets {
         None => print!(rt; " -")?,
@@ -32,7 +32,7 @@ fn show_code(rt: &HostRuntime, request: &TsRequest) -> Result<()> {
     Ok(())
 }
 
-/// The request written again, or `-` where it is too long.
+/// The request written again, or `-` if it cannot be encoded.
 fn show_written(rt: &HostRuntime, request: &TsRequest) -> Result<()> {
     let mut sink = VecSink::new(rt.alloc());
     match request.encode_ts_request(&mut sink) {
@@ -64,7 +64,7 @@ fn name_of(kind: WireKind) -> &'static str {
     }
 }
 
-/// A line of these bytes: version, `negoTokens`, `authInfo`, `pubKeyAuth`, code, nonce and the
+/// One line for these bytes: version, `negoTokens`, `authInfo`, `pubKeyAuth`, code, nonce and the
 /// shortest encoding of the request that they begin with, or the fault.
 pub(crate) fn show(rt: &HostRuntime, bytes: &[u8]) -> Result<()> {
     match TsRequest::from_buffer(rt.alloc(), bytes) {

@@ -4,7 +4,7 @@ ghost use Rattle.std.specs.Prelude.{◌≡◌, None, IfSome, length};
 
 use sspi_types::Bytes;
 
-/// The length of a field, or 0 where it is absent.
+/// The length of a field, or 0 if it is absent.
 pub(crate) fn len_of(field: &Option<Bytes>) -> u64
     ensures there { IfSome field.now (λ octets. result ≡ length octets) }
     ensures absent { field.now ≡ None → result ≡ 0 }
@@ -15,13 +15,13 @@ pub(crate) fn len_of(field: &Option<Bytes>) -> u64
     }
 }
 
-/// The length and the last byte of what was written.
+/// The sum of the length and the last byte of what was written.
 pub(crate) fn sum_of_text(text: &[u8]) -> u64 {
     let last = text.last().copied().unwrap_or(0);
     (text.len() as u64).wrapping_add(u64::from(last))
 }
 
-/// Gives up a value. Generic, since to drop a value of a type parameter is one step of a proof.
+/// Gives up a value. Generic, since dropping a value of a type parameter is one step of a proof.
 pub(crate) fn given_up<T: Drop, R, E>(_value: T, error: E) -> Result<R, E> {
     Err(error)
 }

@@ -1,6 +1,6 @@
 //! What the benchmark is asked to do: the work, the message and how often.
 
-/// What is done so many times.
+/// The work that is repeated.
 #[derive(Clone, Copy)]
 pub enum Work {
     Decode,
@@ -8,7 +8,7 @@ pub enum Work {
     Both,
 }
 
-/// What it is done with.
+/// The message that the work is done on.
 #[derive(Clone, Copy)]
 pub enum Message {
     Request,
@@ -16,7 +16,7 @@ pub enum Message {
     Targ,
 }
 
-/// What the program does so many times.
+/// What the program repeats.
 #[derive(Drop)]
 pub enum Job {
     /// This work with a line for each of these messages.
@@ -25,7 +25,7 @@ pub enum Job {
     Feed(usize),
     /// A desk of this many sessions is served.
     Desk(u32),
-    /// So many requests are shown.
+    /// Requests are shown, one for each line.
     Show,
 }
 
