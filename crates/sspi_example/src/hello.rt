@@ -53,7 +53,7 @@ impl Hello {
     }
 }
 
-/// The name that a client told.
+/// The name that a client sent.
 fn name_in(alloc: Global, token: &[u8]) -> Result<Username, Error>
     ensures codeless { IfErr result (λ error. error.nstatus ≡ None) }
 {

@@ -11,8 +11,8 @@ use sspi_tsreq::TsRequest;
 use sspi_types::{Bytes, Error, ErrorKind, Reason};
 use std::alloc::Global;
 
-/// The host's context on one end: two steps, and then a key that both ends have. An NTLM or a
-/// Kerberos stands here.
+/// The host's context on one end: two steps, and then a key that both ends have. A real NTLM or
+/// Kerberos would be here.
 #[derive(Drop)]
 pub(crate) struct Context {
     pub(crate) alloc: Global,
@@ -31,7 +31,7 @@ impl Context {
         }
     }
 
-    /// One that authenticates user-to-user, as a Kerberos may.
+    /// One that authenticates user-to-user, as Kerberos may.
     pub(crate) fn user_to_user(alloc: Global) -> Context {
         Context {
             alloc,
@@ -51,14 +51,14 @@ impl Context {
         }
     }
 
-    /// A step, as the envelope says it: whether the context has ended, and the token for the peer.
+    /// The envelope of a step: whether the context has ended, and the token for the peer.
     pub(crate) fn step(&mut self) -> Result<Vec<u8>, Error> {
         let status = self.status();
         self.steps = self.steps.saturating_add(1);
         Ok(Vec::from_slice(self.alloc, &[status, b't'])?)
     }
 
-    /// The same on a server, with the name of the peer before it once the context has ended.
+    /// The same on a server, preceded by the peer's name once the context has ended.
     pub(crate) fn step_named(&mut self, name: &str) -> Result<Vec<u8>, Error> {
         let named = self.steps > 0;
         let step = self.step()?;
@@ -74,7 +74,7 @@ impl Context {
         Ok(envelope)
     }
 
-    /// Whether a second step was made, which is the last.
+    /// Whether the second step, which is the last, was made.
     pub(crate) fn has_ended(&self) -> bool {
         self.steps > 1
     }
@@ -96,7 +96,7 @@ impl Context {
         Ok(mic)
     }
 
-    /// The text of a blob; none where the peer did not seal it.
+    /// The text of a blob; none if the peer did not seal it.
     pub(crate) fn open(&self, blob: &Option<Bytes>) -> Result<Option<Vec<u8>>, Error> {
         let Some(blob) = blob else {
             return Ok(None);
@@ -191,7 +191,7 @@ fn client(alloc: Global) -> Result<ClientEnd<Outside, Outside>, Error> {
     )))
 }
 
-/// A server that takes whoever the host's mechanism names.
+/// A server that accepts whoever the host's mechanism names.
 fn server(alloc: Global) -> Result<ServerEnd<Outside, Outside, Peers>, Error> {
     let key = key(alloc)?;
     let config = ntlm_config(alloc)?;

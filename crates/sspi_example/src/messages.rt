@@ -45,7 +45,7 @@ fn initialize<'a>(
     }
 }
 
-/// The server's token for that of the client.
+/// The server's token in answer to the client's.
 fn accept(server: &mut Context, input: &Bytes) -> Result<Bytes, Error> {
     let step = server.accept_security_context(&AcceptSecurityContext {
         credentials_handle: None,

@@ -63,7 +63,7 @@ impl Host {
         }
     }
 
-    /// A client's first step, which is no token of SPNEGO yet.
+    /// A client's first step, which is not a SPNEGO token yet.
     fn first(&mut self) -> Result<Vec<u8>, Error> {
         self.course.address();
         let mechanism = self.course.hand;
@@ -95,7 +95,7 @@ impl Host {
         handed_response(self.alloc, response, step, verified)?.encode(self.alloc)
     }
 
-    /// A later token that a client reads, whose choice is taken.
+    /// A later token that a client reads, with its choice of mechanism, which is taken.
     fn answer(&mut self, token: &Bytes) -> Result<Vec<u8>, Error> {
         let response = NegTokenTarg::decode(self.alloc, token.as_slice())?;
         if !self.course.take_choice(&response) {
@@ -118,7 +118,7 @@ impl Host {
         self.response(response, &step)
     }
 
-    /// What is known once the end was called.
+    /// Records what is known once the end has been called.
     fn go_on(&mut self, acts: Acts, offered: bool) -> Result<(), Error> {
         if offered {
             self.course.make_offer(self.alloc)?;
@@ -129,7 +129,7 @@ impl Host {
         Ok(())
     }
 
-    /// The token that is sent in the place of the end's: with the host's MIC where the end signed.
+    /// The token that is sent in place of the end's: with the host's MIC if the end signed.
     fn sent_token(&self, token: Bytes) -> Result<Bytes, Error> {
         let Ok(response) = NegTokenTarg::decode(self.alloc, token.as_slice()) else {
             return Ok(token);
@@ -142,7 +142,7 @@ impl Host {
         Ok(Bytes::from_vec(sent.encode(self.alloc)?))
     }
 
-    /// What is sent of the call that was made.
+    /// The message to send for the call that was made.
     fn sent(&self, last: &Last, acts: Acts) -> Result<TsRequest, Error> {
         let mut message = crate::host::sealed(self.selected(), last, acts)?;
         if let Some(token) = message.nego_tokens.take() {
@@ -236,7 +236,7 @@ fn client(
     )))
 }
 
-/// A server of one listed user: MICs are taken of a peer that the list has.
+/// A server with one listed user: MICs are accepted from a peer in the list.
 fn server(
     alloc: Global,
     packages: PackageListConfig,
@@ -279,19 +279,19 @@ pub(crate) fn both(alloc: Global) -> Result<Ends, Error> {
     made(alloc, NTLM, NTLM, false)
 }
 
-/// The same where the client likes Kerberos best, and the server has NTLM alone: another context
-/// of the host steps once that was picked.
+/// The same with a client that prefers Kerberos and a server that has only NTLM: another context of
+/// the host takes the steps once NTLM is picked.
 pub(crate) fn picked(alloc: Global) -> Result<Ends, Error> {
     made(alloc, BOTH, NTLM, false)
 }
 
-/// The same where both like Kerberos best, whose context is user-to-user: the server needs MICs of
+/// The same with both preferring Kerberos, whose context is user-to-user: the server needs MICs for
 /// it too.
 pub(crate) fn preferred(alloc: Global) -> Result<Ends, Error> {
     made(alloc, BOTH, BOTH, false)
 }
 
-/// The same with another MIC in the place of each that is sent.
+/// The same with each MIC that is sent replaced by another.
 pub(crate) fn changed(alloc: Global) -> Result<Ends, Error> {
     made(alloc, NTLM, NTLM, true)
 }

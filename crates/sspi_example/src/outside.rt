@@ -1,4 +1,4 @@
-//! What a delegation asks of the outside: a KDC and a proxy of one's own, handed to `delegate`.
+//! What a delegation needs from outside: a KDC and a proxy of one's own, passed to `delegate`.
 ghost use Rattle.std.specs.Prelude.{None};
 
 use crate::delegation::{ann, key};
@@ -124,7 +124,7 @@ fn negotiation(alloc: Global, begins_with: ProtocolConfig) -> Result<NegotiateCo
     ))
 }
 
-/// A client that negotiates, and begins with Kerberos.
+/// A client that negotiates, beginning with Kerberos.
 pub(crate) fn client(alloc: Global) -> Result<CredSspClient<Ntlm, Kerberos>, Error> {
     let key = key(alloc)?;
     let target = String::from_str(alloc, "TERMSRV/host")?;
@@ -142,7 +142,7 @@ pub(crate) fn client(alloc: Global) -> Result<CredSspClient<Ntlm, Kerberos>, Err
     ))
 }
 
-/// A server that negotiates, and authenticates user-to-user by its ticket.
+/// A server that negotiates, and authenticates user-to-user with its ticket.
 pub(crate) fn server(alloc: Global) -> Result<CredSspServer<Ntlm, Kerberos, Directory>, Error> {
     let ticket = KerberosServerConfig {
         ticket: Some([9; 32]),

@@ -1,11 +1,11 @@
-//! A part of the guide: two ends that are made, and what they are run for.
+//! A part of the guide: two ends, and a run that shows what they do.
 
 use sspi_types::Error;
 use std::alloc::Global;
 use std::io;
 
 pub trait Part: Drop {
-    /// What there is to tell of the run.
+    /// Runs the part, and describes the result.
     fn run(&mut self, alloc: Global) -> Result<String, Error>;
 }
 
@@ -17,7 +17,7 @@ pub(crate) fn pair<A: Drop, B: Drop>(
     Ok((client?, server?))
 }
 
-/// Runs a part, and says its name and what there is to tell.
+/// Runs a part, and prints its name and the result.
 pub(crate) fn say<P: Part>(
     rt: &impl Print,
     alloc: Global,

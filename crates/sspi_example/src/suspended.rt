@@ -1,4 +1,4 @@
-//! A delegation carried by hand whose client asks a KDC: turns that are suspended, and go on.
+//! A delegation carried by hand, whose client asks a KDC: turns are suspended and resumed.
 
 use crate::delegation::carried;
 use crate::outside::{self, Directory, RemoteKdc};
