@@ -1,11 +1,11 @@
-//! `sspi_run WORD`: reads a scenario from standard input, has its two ends do what the word says,
-//! and writes what they sent and what came of it to standard output; `sspi_run explain` writes what
-//! the messages of a text say. `sspi_run serve FILE` and `sspi_run connect FILE` are one end of the
-//! scenario of a file, whose channel to its peer is standard input and output.
+//! `sspi_run WORD`: reads a scenario from standard input, runs its two ends as the word says, and
+//! writes what they sent and the result to standard output; `sspi_run explain` describes the
+//! messages of a text. `sspi_run serve FILE` and `sspi_run connect FILE` run one end of the
+//! scenario in a file, over standard input and output as its channel.
 //!
 //! `ended` of `sspi_program` and `end_of_file` of `sspi_channel` do all the work, over any source
-//! and sink; their contracts say which exit status comes and what was written. Standard error is
-//! told the reason of a status above 1, and what one end came to.
+//! and sink; their contracts say what the exit status is and what was written. Standard error gets
+//! the reason for a status above 1, and the result of a single end.
 #![tactic(auto)]
 
 use sspi_ber::{StdSink, StdSource};
@@ -35,8 +35,8 @@ fn main(rt: HostRuntime) -> ExitCode {
     ExitCode::from(status)
 }
 
-/// One end of the scenario of a file, over standard input and output; a line on standard error says
-/// what it came to.
+/// Runs one end of the scenario in a file over standard input and output; a line on standard error
+/// gives its result.
 fn over_channel(rt: &HostRuntime, end: End, file: &str) -> u8 {
     let alloc = rt.alloc();
     let mut told = StdSink::new(rt.stderr());
