@@ -1,6 +1,6 @@
-//! The program of `sspi_run`, whose stored run here is the server of a scenario over standard input
-//! and output: it is fed the messages of a recorded client and must write those of the recorded
-//! server. A crate stores one run.
+//! The program of `sspi_run`, with a stored run of the server of a scenario over standard input and
+//! output: it reads the messages of a recorded client and must write those of the recorded server.
+//! A crate stores one run.
 #![tactic(auto)]
 
 use sspi_ber::{StdSink, StdSource};
@@ -30,8 +30,8 @@ fn main(rt: HostRuntime) -> ExitCode {
     ExitCode::from(status)
 }
 
-/// One end of the scenario of a file, over standard input and output; a line on standard error says
-/// what it came to.
+/// Runs one end of the scenario in a file over standard input and output; a line on standard error
+/// gives its result.
 fn over_channel(rt: &HostRuntime, end: End, file: &str) -> u8 {
     let alloc = rt.alloc();
     let mut told = StdSink::new(rt.stderr());
