@@ -1,6 +1,6 @@
-//! The program of `sspi_run`, whose stored run here is refused: on the way the version of a message
-//! was changed, so the server refuses it as `MessageAltered`, and the process ends with 1. A crate
-//! stores one run.
+//! The program of `sspi_run`, with a stored run that is refused: the version of a message was
+//! changed in transit, so the server refuses it as `MessageAltered`, and the process exits with 1.
+//! A crate stores one run.
 #![tactic(auto)]
 
 use sspi_ber::{StdSink, StdSource};
