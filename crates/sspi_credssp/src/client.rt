@@ -237,8 +237,8 @@ impl<N: Mechanism, K: Mechanism> CredSspClient<N, K> {
     /// `InvalidToken` if it is absent or has under 16 bytes; the kinds of opening it;
     /// `MessageAltered` if it is not the right one; the kinds of the credentials' text and of
     /// sealing it. `OutOfSequence` once the last message was made. Out of memory may replace any
-    /// refusal after the version, except that last one, and that of a proof that is absent, short,
-    /// not opened or wrong.
+    /// refusal after the version. It never replaces that last one, nor that of a proof that is
+    /// absent, short, not opened or wrong.
     ///
     /// A call that is refused for a suspended turn, the code or the version only forgets what the
     /// last call did. Any other refusal leaves the state, the mode and what was acquired before
