@@ -22,7 +22,7 @@ calm_risen : (told : Option (ℕ → NetworkRequest → Reply)) (before now : �
 calm_risen None before now h = h
 calm_risen (Some told) before now h = omega (arith, h)
 
--- what is told of an answer is told of the reply that it becomes
+-- what is exposed about an answer is exposed about the reply that it becomes
 told_answer : {A : Type 0} (told : Option (ℕ → NetworkRequest → Reply)) (call : ℕ) (question : NetworkRequest) (before now : ℕ)
     (bytes : Vec ℕ A) →
     IsTold told call question before now (Ok bytes) → RepliesAsTold told call question (Answered bytes.items) before now

@@ -44,7 +44,7 @@ on_context (Some m) P Q step h = step m h
 module _ {C : Type 0} (c : Meaning ContextSetting C) where
   -- ---- the client
 
-  -- a step looks at no more of the client than this
+  -- a step depends on nothing else of the client
   walked_at : (a b : ClientView C) → b.context ≡ a.context → b.handle ≡ a.handle → b.settings ≡ a.settings →
       (handle : Option CredentialsBuffers) (token : Option (List ℕ)) (tries : ℕ) (log : List Asked) (answer : Answer) (m : C) →
       Walked c a handle token tries log answer m → Walked c b handle token tries log answer m
@@ -198,7 +198,7 @@ module _ {C : Type 0} (c : Meaning ContextSetting C) where
   -- ---- the server
 
   module _ {P : Type 0} (p : ProxyMeaning P) where
-    -- a step looks at no more of the server than this
+    -- a step depends on nothing else of the server
     accepted_at : (a b : ServerView C P) → b.context ≡ a.context → b.handle ≡ a.handle → b.settings ≡ a.settings →
         p.told b.proxy ≡ p.told a.proxy →
         (handle : Option CredentialsBuffers) (token : Option (List ℕ)) (known : accept.Knowing) (answer : Result Step Error) (m : C) →
@@ -247,7 +247,7 @@ module _ {C : Type 0} (c : Meaning ContextSetting C) where
         accepted_at a b context had same entries handle token accept.Unknown answer m step
 
     module _ (first : ServerView C P) where
-      -- a context that was made in the turn was made with what the proxy tells
+      -- a context that was made in the turn was made with what the proxy exposes
       rested_context : (old mid : ServerView C P) (x y : Option C) → old.settings ≡ first.settings → p.told first.proxy ≡ p.told old.proxy →
           old.context ≡ x → mid.context ≡ y →
           UnlessMade c x y (IsNew c old mid) → (old.context ≡ None →

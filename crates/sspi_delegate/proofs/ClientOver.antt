@@ -1,5 +1,5 @@
--- A client's turn stays a turn where its context is exchanged for one that is equal but for the counts, or for any other
--- where the turn says nothing of the context.
+-- A client's turn stays a turn if its context is replaced by one that is equal except for the
+-- counts; or by any other, if the turn says nothing about the context.
 use Rattle.std.proofs.Common.{◌≡◌, ℕ, Bool, true, List, sym, ◌∙◌, ap, subst, Option, None, Some, Result, Ok, Err}
 use Rattle.sspi_mech.specs.Context.{IsContext}
 use Rattle.sspi_mech.specs.Meaning.{Meaning}
@@ -19,7 +19,7 @@ use Rattle.sspi_credssp.specs.declared.turn.Outcome.{Outcome}
 use Rattle.sspi_credssp.specs.declared.turn.Outcome.TheVariants as outcome
 use Rattle.sspi_credssp.specs.declared.turn.Turn.{Turn}
 
--- a frame as another turn over the same end sees it, as far as the turn speaks of it
+-- two frames of one end that agree on all that the turn refers to
 pub record SameFrame {C : Type 0} (c : Meaning ContextSetting C) (f g : ClientFrame C) (t : Turn) : Type 0 where
   pub settings : g.settings ≡ f.settings
   pub state : g.state ≡ f.state
@@ -30,7 +30,7 @@ pub record SameFrame {C : Type 0} (c : Meaning ContextSetting C) (f g : ClientFr
   pub sealed : t.acts.sealed ≡ true → g.made ≡ f.made
 
 module _ {C : Type 0} (c : Meaning ContextSetting C) (law : IsContext c) where
-  -- what differs in counts alone is the same object with other counts
+  -- what differs only in its counts is the same object with other counts
   recounted : (m m2 : C) → cleared c m2 ≡ cleared c m → m ≡ c.counted m2 (c.counts m)
   recounted m m2 same =
       sym (law.counted_counts m)
@@ -112,7 +112,7 @@ module _ {C : Type 0} (c : Meaning ContextSetting C) (law : IsContext c) where
   fits_over looks noted noted2 version outcome.Finished same h = rw same h
   fits_over looks noted noted2 version (outcome.Refused kind reply) same h = h
 
-  -- ---- what stands behind them
+  -- ---- what the recorded bytes rest on
 
   proof_over : (f g : ClientFrame C) (t : Turn) (answered : Option SecurityStatus) (reply : TsRequest) → SameFrame c f g t →
       ShowsNego (client_shown f) t answered reply → HoldsNego c f answered reply → HoldsNego c g answered reply

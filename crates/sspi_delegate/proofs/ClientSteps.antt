@@ -125,7 +125,7 @@ module _ {C : Type 0} (c : Meaning ContextSetting C) where
         all_quiet e past each.1 went.1 p.1 q.1,
       )
 
-  -- nothing was sealed or opened in the authentication, so the acts come on top of what was counted
+  -- nothing was sealed or opened in the authentication, so the effects add to what was counted
   counts_on : (first old : ClientView C) (past : List Turn) (acts : Acts) (now : Option C) → ClientFollows c first old past →
       CountsEachAct c old.state old.context acts now → AddsActs c old.context acts now
   counts_on first old past acts now follows counts = counted_by c old.state old.context acts now
@@ -266,7 +266,7 @@ module _ {C : Type 0} (c : Meaning ContextSetting C) where
   idle_in law start d log (Some status) now f t reply h step =
       idle_context law start now.handle d.nego_tokens log (record { status = status; output = now.output }) now.context step
 
-  -- a context that differs in its counts alone waits where the other does
+  -- a context that differs only in its counts waits if the other does
   waits_same : (law : IsContext c) (x y : Option C) → SameBut c x y → is_waiting_in c y ≡ is_waiting_in c x
   waits_same law None None same = refl
   waits_same law None (Some m2) same = absurd same

@@ -1,4 +1,4 @@
--- What stands before an edit that gives a text of its own comes to nothing, where no edit fails.
+-- Edits before one that gives a text of its own have no effect, if no edit fails.
 use Rattle.std.proofs.Common.{◌≡◌, refl, sym, ◌∙◌, ap, subst, inl, inr, ℕ, zero, suc, ◌==◌, ◌&&◌, if◌then◌else◌, Bool, true, false}
 use Rattle.std.proofs.Common.{List, [], ◌∷◌, ◌++◌, length, take, drop, slice_get, slice_set, Option, None, Some, option_and_then}
 use Rattle.std.proofs.lemmas.Bool.{or_parts, or_cases}
@@ -46,7 +46,7 @@ skipped (e ∷ edits) (suc n) edit earlier text text2 got whole none =
     skipped edits n edit earlier next.0 text2 got whole parts.1 ∙
     ap (λ (o : Option (List ℕ)). option_and_then (edited edits earlier) o) (sym next.1)
 
--- of edits none of which fails, none does that is left, and none at any place
+-- if no edit fails, none of the edits left does, and none at any place
 pub none_left : (entry place : ℕ) (edits : List Edit) → fails entry edits ≡ false → fails entry (drop place edits) ≡ false
 none_left entry zero edits none = none
 none_left entry (suc n) [] none = none

@@ -1,4 +1,4 @@
--- What the runs of both ends are proved by.
+-- What the runs of both ends are proved from.
 use Rattle.std.proofs.Common.{◌≡◌, ℕ, ◌+◌, ◌-◌, Bool, true, false, ◌||◌, List, [], ◌∷◌, refl, arith, Option, None, Some}
 use Rattle.sspi_mech.specs.Meaning.{Meaning}
 use Rattle.sspi_credssp.specs.declared.acts.Acts.{Acts}
@@ -35,7 +35,7 @@ pub is_false : (b : Bool) → (b ≡ true → ⊥) → b ≡ false
 is_false true refuted = absurd (refuted refl)
 is_false false refuted = refl
 
--- the acts of a turn that sealed and opened nothing
+-- the effects of a turn that sealed and opened nothing
 pub record IsQuiet (acts : Acts) : Type 0 where
   pub proved : acts.proved ≡ false
   pub checked : acts.checked ≡ false
@@ -52,7 +52,7 @@ quiet_made (t ∷ past) quiet =
     let rest = quiet_made past quiet.1 in
     (rw (rest.0, quiet.0.proved, quiet.0.sealed) refl, rw (rest.1, quiet.0.checked, quiet.0.opened) refl)
 
--- where one of these turns proved or checked, P holds
+-- if one of these turns proved or checked, P holds
 abbrev pub Touched : Type 0 → List Turn → Type 0
 Touched P [] = Unit {0}
 Touched P (t ∷ past) = (t.acts.proved ≡ true → P) × (t.acts.checked ≡ true → P) × Touched P past

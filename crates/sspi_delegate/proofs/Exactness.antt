@@ -1,4 +1,4 @@
--- The turns and the log of an exchange leave one answer.
+-- The turns and the log of an exchange allow only one answer.
 use Rattle.std.proofs.Common.{◌≡◌, ℕ, ◌+◌, inl, inr, true, false, List, [], ◌∷◌, length, sym, ◌∙◌, ap, refl, arith, Option, None, Some}
 use Rattle.std.proofs.Common.{Result, Ok, Err, IsOk}
 use Rattle.sspi_types.specs.declared.error_kind.ErrorKind.{ErrorKind}
@@ -22,7 +22,7 @@ use Rattle.sspi_delegate.specs.Log.{is_taken, Logged, LoggedButLast, OpenFor, Un
 use Rattle.sspi_delegate.specs.Turns.{other, next_end, GoesOn, AllGoOn}
 use Rattle.sspi_credssp.specs.Turn.{message_of}
 
--- ---- the log has an entry of each turn, or of each but the newest
+-- ---- the log has an entry for each turn, or for each but the newest
 
 logged_length : (base : List Carried) (turns : List Turn) (log : List Carried) → Logged base turns log →
     length log ≡ length turns + length base

@@ -1,4 +1,4 @@
--- What half a round makes of the histories of both ends, whatever the error.
+-- What half a round does to the histories of both ends, whatever the error.
 use Rattle.std.proofs.Common.{inl, inr, List}
 use Rattle.sspi_types.specs.declared.error.Error.{Error}
 use Rattle.sspi_mech.specs.Meaning.{Meaning}
@@ -43,7 +43,7 @@ module _ {C D : Type 0} (c : Meaning ContextSetting C) (k : KdcCalls D) (due : T
   client_half_past first now kdc kdc2 turns errors.InsufficientMemory h = h
 
   module _ {P : Type 0} (p : ProxyMeaning P) where
-    -- the other end of a half that was ended by an error
+    -- the other end of a half that an error ended
     pub server_beside : (first now : ClientView C) (kdc kdc2 : D) (turns : List Turn) (error : DelegateError)
         (server server2 : ServerView C P)
         (servers : List Turn) → ClientHalfStops c k due first kdc error turns now kdc2 → ServerHistory c p server servers server2 →

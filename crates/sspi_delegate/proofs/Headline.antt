@@ -104,7 +104,7 @@ module _ {C : Type 0} (c : Meaning ContextSetting C) where
   client_once e (t ∷ past) each went =
       sealed_last e t past t.acts.sealed refl each went (client_once e past each.1 (others_go past went))
 
-  -- the same of the turns of a client alone
+  -- the same for the turns of a client alone
   pub client_sealed_once : (e : ClientEnd C) (past : List Turn) → EachClientTurn c e past → OthersGoOn past → sealed_turns past ≤ 1
   client_sealed_once e past each went = rw (sealed_same past) (client_once e past each went)
 

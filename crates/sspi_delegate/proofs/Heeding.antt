@@ -1,4 +1,4 @@
--- Each turn of a run is refused for the age of its peer's version exactly where it finds one.
+-- Each turn of a run is refused for the age of its peer's version exactly if it finds an old one.
 use Rattle.std.proofs.Common.{◌≡◌, ℕ, ◌<◌, List, [], ◌∷◌, length, Bool, true, false, not, Option, None, Some, IsSome, Result, Err}
 use Rattle.std.proofs.Common.{refl, sym, ◌∙◌, ap, subst, nat_lt, if◌then◌else◌, arith}
 use Rattle.std.proofs.lemmas.Bool.{eq-eqb, ltb-true, lt-ltb, true≢false}
@@ -101,7 +101,7 @@ altered_in (Some m) noted version begun altered = altered
 module _ {C : Type 0} (c : Meaning ContextSetting C) where
   -- ---- a client's turns
 
-  -- a turn that went on was told no error, and no other version than the pinned one
+  -- a turn that went on was sent no error, and no version other than the pinned one
   went_untold : (e : ClientEnd C) (t : Turn) (past : List Turn) → EachClientTurn c e (t ∷ past) → GoesOn t.outcome →
       is_code t.delivered.error_code ≡ true → ⊥
   went_untold e t past each went told = true≢false (sym told ∙ went_fact t.outcome _ went each.0.shown.code)

@@ -52,7 +52,7 @@ module _ {C D : Type 0} (c : Meaning ContextSetting C) (k : KdcCalls D) where
     rest = rest;
   }
 
-  -- the same of the newest turn alone
+  -- the same for the newest turn alone
   pub client_alone : (old mid new : ClientView C) (kdc kdc2 : D) (d : TsRequest) (out : Outcome) (turns turns2 : List Turn) →
       ClientMakes c k old kdc d out mid kdc2 → new ≡ record mid { output = [] } →
       turns2 ≡ recorded Client d mid.acts mid.output out ∷ turns →
@@ -67,7 +67,7 @@ module _ {C D : Type 0} (c : Meaning ContextSetting C) (k : KdcCalls D) where
   client_stopped_alone old mid new kdc kdc2 d error turns turns2 takes rest is =
       client_stopped old old mid new kdc kdc kdc2 d error [] (newest_alone turns2) (refl, refl) takes rest (ap newest_alone is)
 
-  -- a turn for which there was no memory, behind turns that all went on
+  -- a turn for which memory ran out, after turns that all went on
   pub left_lost : (request : TsRequest) (first now : ClientView C) (kdc kdc2 : D) (turns : List Turn) → AllGoOn turns →
       ClientLost c k request first kdc turns now kdc2 → ClientLeft c k (λ d. d ≡ request) first kdc turns now kdc2
   left_lost request first now kdc kdc2 turns going (unmoved history) = between history
@@ -83,13 +83,13 @@ module _ {C D : Type 0} (c : Meaning ContextSetting C) (k : KdcCalls D) where
     record { mid = s.mid; turn = refl; makes = (error, refl, s.takes); rest = s.rest },
   )
 
-  -- it was left on what was due by a weaker saying too
+  -- the condition on what was due may be weakened
   pub left_due : (due due2 : TsRequest → Type 0) (first now : ClientView C) (kdc kdc2 : D) (turns : List Turn) →
       ((d : TsRequest) → due d → due2 d) → ClientLeft c k due first kdc turns now kdc2 → ClientLeft c k due2 first kdc turns now kdc2
   left_due due due2 first now kdc kdc2 turns weaker (between h) = between h
   left_due due due2 first now kdc kdc2 turns weaker (waiting old kdc1 d is went h way) = waiting old kdc1 d (weaker d is) went h way
 
-  -- whatever the answer, its turns are a history, but for a turn in which it may wait
+  -- whatever the answer, its turns are a history, except for a turn in which it may wait
   pub client_past_left : (due : TsRequest → Type 0) (first now : ClientView C) (kdc kdc2 : D) (turns : List Turn)
       (result : Result Delegation DelegateError) → ClientPast c k due first kdc result turns now kdc2 →
       ClientLeft c k due first kdc turns now kdc2
@@ -105,7 +105,7 @@ module _ {C D : Type 0} (c : Meaning ContextSetting C) (k : KdcCalls D) where
 
 module _ {C : Type 0} (c : Meaning ContextSetting C) where
   module _ {P : Type 0} (p : ProxyMeaning P) where
-    -- how often the turn asked the proxy, and exactly so often, of no call that it tells it fails, where it was not refused
+    -- how often the turn asked the proxy: if unrefused, just that often, in calls not said to fail
     pub server_asks : (old mid : ServerView C P) (d : TsRequest) (out : Outcome) → ServerMakes c p old d out mid →
         IsAsked p (calls_in old mid.acts.status) old.proxy mid.proxy
     server_asks old mid d (outcome.Reply reply) makes = makes.proxy.at_most
@@ -158,7 +158,7 @@ module _ {C : Type 0} (c : Meaning ContextSetting C) where
       rest = rest;
     }
 
-    -- the same of the newest turn alone
+    -- the same for the newest turn alone
     pub server_alone : (old mid new : ServerView C P) (d : TsRequest) (out : Outcome) (turns turns2 : List Turn) →
         ServerMakes c p old d out mid →
         new ≡ record mid { output = [] } → turns2 ≡ recorded Server d mid.acts mid.output out ∷ turns →

@@ -1,4 +1,4 @@
--- What the history of a fresh end tells of its run, and of what it gave.
+-- What the history of a fresh end says about its run, and about what it gave.
 use Rattle.std.proofs.Common.{sym, refl, subst, arith, List, [], ◌∷◌, None, Some, Result, Ok, Err, IfOk}
 use Rattle.sspi_types.specs.declared.error_kind.ErrorKind.{ErrorKind}
 use Rattle.sspi_mech.specs.Context.{IsContext}

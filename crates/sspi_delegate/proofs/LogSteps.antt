@@ -1,4 +1,4 @@
--- One more turn, and what it makes of the log of an exchange.
+-- One more turn, and what it does to the log of an exchange.
 use Rattle.std.proofs.Common.{◌≡◌, ℕ, ◌≤◌, ◌<◌, inl, inr, List, [], ◌∷◌, length, sym, ◌∙◌, ap, subst, refl, None, Some, IsSome}
 use Rattle.std.proofs.Common.{Ok, Err, slice_get}
 use Rattle.sspi_types.specs.declared.error.Error.{Error}
@@ -35,7 +35,7 @@ pub newest_such : (end : End) (d : TsRequest) (P : Outcome → Type 0) (old new 
 newest_such end d P old [] pushed = absurd pushed
 newest_such end d P old (t ∷ past) pushed = (pushed.1, pushed.3)
 
--- a newest turn that was refused with a kind was refused with one that is equal to it
+-- a newest turn that was refused with a kind was refused with any kind equal to it
 pub refused_as : (end : End) (P : ErrorKind → Outcome → Type 0) (kind other : ErrorKind) (turns : List Turn) → kind ≡ other →
     NewestIs end (P kind) turns → NewestIs end (P other) turns
 refused_as end P kind other turns same newest = subst (λ (k : ErrorKind). NewestIs end (P k) turns) same newest
@@ -53,7 +53,7 @@ pub refusal_has_message : (d : TsRequest) (kind : ErrorKind) (old new : List Tur
 refusal_has_message d kind old [] pushed = absurd pushed
 refusal_has_message d kind old (t ∷ past) pushed = refusal_message kind t.outcome pushed.3
 
--- reading changes no more of an entry than what was delivered
+-- reading changes only what was delivered of an entry
 fed_logged : (base : List Carried) (t : Turn) (past : List Turn) (log log2 : List Carried) → Fed log log2 → Logged base (t ∷ past) log →
     Logged base (t ∷ past) log2
 fed_logged base t past [] log2 fed entries = absurd entries
@@ -177,11 +177,11 @@ module _ (base : List Carried) (start : ℕ) where
     cause = (refusal.0, newest_such Server d (IsServerRefusal error.error_type) old new pushed, sent);
   })
 
--- a turn is left to a client that has made fewer, and to each server
+-- a client that has made fewer turns has one left, and so has any server
 pub server_left : (limit : ℕ) (turns : List Turn) → next_end turns ≡ Server → TurnLeft limit turns
 server_left limit turns next client = absurd (cc (next, client))
 
--- the client's next turn, once it has made so many and all were answered
+-- the client's next turn, once it has made `turn` turns and all were answered
 pub record IsAtTurn (base : List Carried) (start : ℕ) (turns : List Turn) (log : List Carried) (now turn : ℕ) : Type 0 where
   pub between : Between base start turns log now
   pub next : next_end turns ≡ Client
@@ -208,7 +208,7 @@ spent base start turns log now turn limit at all = record {
   cause = (at.between.going, at.next, at.made ∙ all, at.between.entries, at.between.unread, at.between.calm);
 }
 
--- the request that was read of the newest delivery
+-- the request that was read from the newest delivery
 pub read_asked : (base : List Carried) (start : ℕ) (turns : List Turn) (log log2 : List Carried) (now now2 : ℕ) (reader : TsReader)
     (request : TsRequest) (newest : Turn) →
     Some newest ≡ slice_get turns 0 → Between base start turns log now → (IsUnread log → TakesIn log log2 (Ok reader)) → now2 ≡ now →
@@ -224,7 +224,7 @@ read_asked base start (t ∷ past) log log2 now now2 reader request newest there
       calm = later ∙ between.calm;
     }
 
--- a reader tells no out of memory, so what it tells is the fault of the bytes
+-- a reader never reports out of memory, so what it reports is the fault of the bytes
 told_fault : (bytes : List ℕ) (kind : WireKind) → IsAnswer bytes (Err kind) → NeedsNoMemory {X = TsRequest} (Err kind) → IsFault bytes kind
 told_fault bytes UnexpectedEof answer memory = answer
 told_fault bytes InvalidData answer memory = answer
@@ -244,7 +244,7 @@ head_within : (log : List Carried) (text : List ℕ) → HeadTaken log text → 
 head_within [] text head = head
 head_within (e ∷ log) text head = subst (λ (bytes : List ℕ). length bytes ≤ delivery_limit) (sym head.1) head.2
 
--- the newest delivery is no request
+-- the newest delivery is not a request
 pub read_fails : (base : List Carried) (start limit : ℕ) (turns : List Turn) (log log2 : List Carried) (now now2 : ℕ) (reader : TsReader)
     (to : End) (kind : WireKind) (newest : Turn) →
     Some newest ≡ slice_get turns 0 → next_end turns ≡ to → TurnLeft limit turns → Between base start turns log now →

@@ -47,7 +47,7 @@ pub received_newest : {R : Type 0} (receives : R → ℕ → List ℕ → R → 
     IfOk r (λ count. IsReceived receives old before count into now)
 received_newest receives before now old xs n e into r is size there received = rw (← is, reverse-last xs n e size there) received
 
--- what a carrier did, and that it was not asked
+-- that a carrier did this, and that it was not asked
 pub did : (error : LinkError) (Did Kept : Type 0) → Did → DidOrKept error Did Kept
 did Failed Did Kept h = h
 did InsufficientMemory Did Kept h = inl h
@@ -59,7 +59,7 @@ pub newest_delivers : (text : List ℕ) (xs : List Carried) (n : ℕ) (e : Carri
     NewestDelivers text (e ∷ reverse (take n xs)) → NewestDelivers text (reverse (set xs n e))
 newest_delivers text xs n e size h = rw (reverse-set_last xs n e size) h
 
--- entries of which one is the newest are some
+-- entries with a newest one are not empty
 pub newest_there : {P : Type 0} (old xs : List Carried) (n : ℕ) → reverse xs ≡ old → length xs ≡ n + 1 → old ≡ [] → P
 newest_there old xs n is size empty =
     let none : length xs ≡ 0 = sym (length-reverse xs) ∙ ap length (is ∙ empty) in absurd (omega (arith, none, size))

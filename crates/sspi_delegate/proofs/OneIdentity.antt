@@ -1,4 +1,4 @@
--- The turns of a server give one identity at most.
+-- The turns of a server give at most one identity.
 use Rattle.std.proofs.Common.{◌≡◌, List, [], ◌∷◌}
 use Rattle.sspi_names.specs.declared.identity.AuthIdentity.{AuthIdentity}
 use Rattle.sspi_mech.specs.Context.{IsContext}

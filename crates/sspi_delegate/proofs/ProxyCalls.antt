@@ -28,7 +28,7 @@ use Rattle.sspi_delegate.specs.History.{ServerMakes, ServerHistory, ServerMade, 
 use Rattle.sspi_delegate.proofs.Alternating.{went_unrefused}
 use Rattle.sspi_delegate.proofs.Histories.{server_asks, server_asked, server_past_history}
 
--- by how far the server has come
+-- by how far the server has got
 abbrev calls_made : {C : Type 0} → Option C → ServerMode → CredSspState → ℕ
 calls_made None mode state = 0
 calls_made (Some m) mode NegoToken = list_calls mode

@@ -20,19 +20,19 @@ use Rattle.sspi_tsreq.specs.declared.reader.TsReader.{TsReader}
 use Rattle.sspi_tsreq.specs.declared.request.TsRequest.{TsRequest}
 use Rattle.sspi_tsreq.specs.Feeding.{Stands}
 
--- so much was read of the newest delivery, and it has not ended
+-- this text was read of the newest delivery, which has not ended
 abbrev pub IsSoFar : List Carried → List Carried → List ℕ → Type 0
 IsSoFar [] now text = ⊥
 IsSoFar (e ∷ log) now text = now ≡ record e { delivered = text; ended = false } ∷ log
 
--- so many bytes were read of the newest delivery, which has not ended, and the reader was fed with them
+-- `taken` bytes were read of the newest delivery, which has not ended, and fed to the reader
 pub record IsFedSoFar (old now : List Carried) (reader : TsReader) (taken : ℕ) : Type 0 where
   pub text : List ℕ
   pub so_far : IsSoFar old now text
   pub stands : Stands reader text
   pub counted : length text ≡ taken
 
--- where the edits are told, no fault was counted
+-- if the edits are exposed, no fault was counted
 abbrev pub IsStill : Option (List Edit) → ℕ → ℕ → Type 0
 IsStill None before now = Unit {0}
 IsStill (Some edits) before now = now ≡ before

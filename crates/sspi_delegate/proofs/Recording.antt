@@ -14,7 +14,7 @@ use Rattle.sspi_delegate.specs.Log.{IsServerRefusal}
 use Rattle.sspi_delegate.specs.LogKeeping.{recorded}
 use Rattle.sspi_delegate.specs.Recorded.{PushedSuch}
 
--- a refused turn of the server is recorded with the message that tells the client
+-- a refused turn of the server is recorded with the message that informs the client
 refusal_told : {C : Type 0} (c : Meaning ContextSetting C) (f : ServerFrame C) (t : Turn) (kind : ErrorKind) (reply : Option TsRequest) →
     ShowsAnswer (server_shown f) t (outcome.Refused kind reply) → IsServerRefusal kind (outcome.Refused kind reply)
 refusal_told c f t kind None h = absurd h

@@ -1,4 +1,4 @@
--- What the history of a fresh end tells of its refusal.
+-- What the history of a fresh end says about its refusal.
 use Rattle.std.proofs.Common.{subst, List, Result, Ok, Err}
 use Rattle.sspi_types.specs.declared.error.Error.{Error}
 use Rattle.sspi_mech.specs.Context.{IsContext}

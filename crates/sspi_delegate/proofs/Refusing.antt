@@ -1,4 +1,4 @@
--- A client's turn as one call and its resumes; and what calls on a proxy leave.
+-- A client's turn as one call and its resumes; and what calls leave of a proxy.
 use Rattle.std.proofs.Common.{◌≡◌, ℕ, Bool, true, false, not, List, [], ◌∷◌, Option, None, Some, Result, Ok, Err, sym, ◌∙◌, ap, subst}
 use Rattle.std.proofs.Common.{refl, arith}
 use Rattle.std.proofs.lemmas.Bool.{true≢false}
@@ -89,7 +89,7 @@ module _ {C : Type 0} (c : Meaning ContextSetting C) where
       (state_exact start.state d new error.error_type (sym way.ready.state ∙ way.state))))))
 
   module _ {D : Type 0} (k : KdcCalls D) where
-    -- a call that its context suspended nowhere, or at its first question
+    -- a call that its context did not suspend, or suspended at its first question
     pub called_takes : (old new : ClientView C) (kdc : D) (d : TsRequest) (result : Result Progress Error) → k.replies kdc [] kdc →
         ClientCall c old d result new → ClientTakes c k old kdc d result new kdc
     called_takes old new kdc d result none call = record {
@@ -127,7 +127,7 @@ module _ {C : Type 0} (c : Meaning ContextSetting C) where
     resumed_begun start d new log (Err error) goes step negotiated none =
         some_context new.context _ (on_step new.acts.negotiated _ negotiated step) none
 
-    -- what a turn keeps that went on past its first question: it began as one that was idle, and looked at its request
+    -- what a turn that went on past its first question keeps: it began idle, and read its request
     resumed_kept : (start : ClientView C) (d : TsRequest) (mid new : ClientView C) (log : List Asked) (result : Result Progress Error) →
         IsUnderway c start d mid → ClientGoes c start d result new → HasStepped c start d 0 log result new →
         new.acts.negotiated ≡ true → ClientKeeps c start d result new

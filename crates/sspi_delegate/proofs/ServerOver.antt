@@ -1,5 +1,5 @@
--- A server's turn stays a turn where its context is exchanged for one that is equal but for the counts, or for any other
--- where the turn says nothing of the context.
+-- A server's turn stays a turn if its context is replaced by one that is equal except for the
+-- counts; or by any other, if the turn says nothing about the context.
 use Rattle.std.proofs.Common.{◌≡◌, ◌⊎◌, ℕ, true, List, sym, ◌∙◌, ap, subst, refl, Option, None, Some, IsSome}
 use Rattle.sspi_mech.specs.Context.{IsContext}
 use Rattle.sspi_mech.specs.Meaning.{Meaning}
@@ -29,7 +29,7 @@ OnceRefused (outcome.Final reply) P = Unit {0}
 OnceRefused outcome.Finished P = Unit {0}
 OnceRefused (outcome.Refused kind reply) P = P
 
--- a frame as another turn over the same end sees it, as far as the turn speaks of it
+-- two frames of one end that agree on all that the turn refers to
 pub record SameFrame {C : Type 0} (c : Meaning ContextSetting C) (f g : ServerFrame C) (t : Turn) : Type 0 where
   pub settings : g.settings ≡ f.settings
   pub state : g.state ≡ f.state
@@ -118,7 +118,7 @@ module _ {C : Type 0} (c : Meaning ContextSetting C) (law : IsContext c) where
   fits_over noted noted2 version outcome.Finished same h = rw same h
   fits_over noted noted2 version (outcome.Refused kind reply) same h = h
 
-  -- ---- what stands behind them
+  -- ---- what the recorded bytes rest on
 
   back_over : (context : Option C) (noted noted2 : Option ℕ) (delivered own : ℕ) → (IsSome context → noted2 ≡ noted) →
       version_back context noted2 delivered own ≡ version_back context noted delivered own

@@ -72,7 +72,7 @@ module _ {C : Type 0} (c : Meaning ContextSetting C) where
 
   -- ---- turns that came before the end of the authentication
 
-  -- while tokens are exchanged nothing is checked, proved or opened
+  -- while tokens are exchanged, nothing is checked, proved or opened
   quiet_token : (f : ServerFrame C) (t : Turn) → ShowsServerActs (server_shown f) t → f.state ≡ NegoToken → (IsOver t.acts.status → ⊥) →
       t.acts.proved ≡ false → IsQuiet t.acts
   quiet_token f t acts nego going unproved = record {
@@ -215,7 +215,7 @@ module _ {C : Type 0} (c : Meaning ContextSetting C) where
   touched_by e Final past Q is each went bare = touched Q past bare
 
   module _ {P : Type 0} where
-    -- nothing was sealed or opened in the authentication, so the acts come on top of what was counted
+    -- nothing was sealed or opened in the authentication, so the effects add to what was counted
     counts_on : (first old : ServerView C P) (past : List Turn) (acts : Acts) (now : Option C) → ServerFollows c first old past →
         CountsEachAct c old.state old.context acts now → AddsActs c old.context acts now
     counts_on first old past acts now follows counts = counted_by c old.state old.context acts now

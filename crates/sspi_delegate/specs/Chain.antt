@@ -31,13 +31,13 @@ use Rattle.sspi_delegate.specs.Turns.{made_in, opened_in, AllGoOn}
 
 -- ---- What a KDC was asked in an exchange, and what it replied.
 
--- how calls move a KDC: those with these questions and replies, the newest first; and one that had
--- no memory for its reply
+-- how calls change a KDC: those with these questions and replies, newest first; and one that ran
+-- out of memory for its reply
 pub record KdcCalls (D : Type 0) : Type 1 where
   pub replies : D → List Asked → D → Type 0
   pub lost : D → D → Type 0
 
--- where the replies are told, this is the one told of the question as that call, and the count of
+-- if the replies are exposed, this is the one for this question in this call, and the count of
 -- faults rises only with a failure
 abbrev pub RepliesAsTold : Option (ℕ → NetworkRequest → Reply) → ℕ → NetworkRequest → Reply → ℕ →
     ℕ → Type 0
@@ -46,12 +46,12 @@ RepliesAsTold (Some told) call question (Answered bytes) before now =
     (told call question ≡ Answered bytes) × (now ≡ before)
 RepliesAsTold (Some told) call question Failed before now = told call question ≡ Failed
 
--- a failure is counted, or finds the count at its last value; the count never falls
+-- a failure is counted, or finds the count at its maximum; the count never falls
 abbrev pub CountsReply : Reply → ℕ → ℕ → Type 0
 CountsReply (Answered bytes) before now = before ≤ now
 CountsReply Failed before now = (before ≤ now) × (counted_on before ≤ now)
 
--- where the replies are told, no fault is counted
+-- if the replies are exposed, no fault is counted
 abbrev pub IsCalmWhereTold : Option (ℕ → NetworkRequest → Reply) → ℕ → ℕ → Type 0
 IsCalmWhereTold None before now = before ≤ now
 IsCalmWhereTold (Some told) before now = now ≡ before
@@ -66,14 +66,14 @@ module _ {D : Type 0} (told : D → Option (ℕ → NetworkRequest → Reply)) (
           (faults now)
       pub counted : CountsReply reply (faults before) (faults now)
 
-  -- one call that had no memory for its reply
+  -- one call that ran out of memory for its reply
   pub record HasNoReply (before now : D) : Type 0 where
     pub told_same : told now ≡ told before
     pub called : calls now ≡ counted_on (calls before)
     pub calm : IsCalmWhereTold (told before) (faults before) (faults now)
 
-  -- from a KDC that was `first` these calls, the newest first, lead to one that is `now`; nothing
-  -- else moves it
+  -- these calls, newest first, lead from a KDC that was `first` to one that is `now`; nothing else
+  -- changes it
   abbrev pub HasAnswered : D → List Asked → D → Type 0
   HasAnswered first [] now = now ≡ first
   HasAnswered first (asked ∷ log) now = (before : D) × HasAnswered first log before ×
@@ -82,9 +82,9 @@ module _ {D : Type 0} (told : D → Option (ℕ → NetworkRequest → Reply)) (
   abbrev pub kdc_calls : KdcCalls D
   kdc_calls = record { replies = HasAnswered; lost = HasNoReply }
 
--- ---- The contexts of an end's turns, as a chain: each negotiating turn is one step of the context that the turns before have left, on
--- the token that was delivered in that turn, and nothing else moves a context but sealing and opening. A chain speaks of the end as it was
--- made, of its turns, of what its KDC replied and its proxy told, and of no state of the end in between.
+-- ---- The contexts of an end's turns, as a chain. Each negotiating turn is one step of the context
+-- that the turns before left, on its token; only sealing and opening change a context besides. A
+-- chain names the end as it was made, its turns, its KDC's and proxy's replies, and no other state.
 
 -- what a client has between two of its turns: its context, the credentials that it acquired, and
 -- its KDC
@@ -109,7 +109,7 @@ module _ {C D : Type 0} (c : Meaning ContextSetting C) (k : KdcCalls D) (first :
   abbrev pub client_at : ClientStage C D → ClientView C
   client_at stage = record first { context = stage.context; handle = stage.handle }
 
-  -- One step, of the context that is there or is made first, took this token and came to this
+  -- One step of the context, which is made first if there is none, took this token and came to this
   -- answer; the KDC replied to its questions.
   pub record ClientStepped (stage : ClientStage C D) (token : Option (List ℕ)) (answer : Answer)
       (next : ClientStage C D) : Type 0 where
@@ -124,8 +124,8 @@ module _ {C D : Type 0} (c : Meaning ContextSetting C) (k : KdcCalls D) (first :
     pub handle : IsSome stage.context → next.handle ≡ stage.handle
     pub unasked : k.replies stage.kdc [] next.kdc
 
-  -- A status and the turn's output are the answer of its step, also where the turn was refused
-  -- after it; with none the step was refused.
+  -- A status and the turn's output are the answer of its step, even if the turn was refused after
+  -- it; without a status the step was refused.
   abbrev pub ClientMovedBy : Bool → Option SecurityStatus → Outcome → Option (List ℕ) → List ℕ →
       ClientStage C D → ClientStage C D → Type 0
   ClientMovedBy false status came token output stage next = ClientRested stage next
@@ -149,8 +149,8 @@ module _ {C D : Type 0} (c : Meaning ContextSetting C) (k : KdcCalls D) (first :
   ClientChain kdc (t ∷ past) next = (stage : ClientStage C D) × ClientChain kdc past stage ×
       ClientLink past t stage next
 
-  -- where there was no memory: the stage of all turns, or in one further turn, without a record, a
-  -- step that waits for its KDC, on the token of the request that was due
+  -- if memory ran out: the stage of all turns; or, in one further turn without a record, that of a
+  -- step that waits for its KDC, on the token of the due request
   pub data ClientChainLeft (due : TsRequest → Type 0) (kdc : D) (turns : List Turn)
       (now : ClientStage C D) : Type 0 where
     at_rest : ClientChain kdc turns now → ClientChainLeft due kdc turns now
@@ -168,29 +168,29 @@ module _ {C D : Type 0} (c : Meaning ContextSetting C) (k : KdcCalls D) (first :
       ClientChainLeft due kdc turns now
   ClientChained due kdc (Err error) turns now = ClientChain kdc turns now
 
--- `first` is the server as it was made; its proxy may tell its entries, and what a look-up of a
+-- `first` is the server as it was made; its proxy may expose its entries, and what a look-up of a
 -- name finds
 module _ {C P : Type 0} (c : Meaning ContextSetting C) (p : ProxyMeaning P) (first : ServerView C P)
   where
     abbrev pub server_at : ServerStage C → ServerView C P
     server_at stage = record first { context = stage.context; handle = stage.handle }
 
-    -- One step, of the context that is there or is made first, took this token and came to this
-    -- answer; then the peer is known so far.
+    -- One step of the context, which is made first if there is none, took this token and came to
+    -- this answer; then the peer is known to this degree.
     abbrev pub ServerStepped : Knowing → ServerStage C → Option (List ℕ) → Result Step Error →
         ServerStage C → Type 0
     ServerStepped known stage token answer next =
         IfContext next.context (Accepted c p (server_at stage) next.handle token known answer)
 
-    -- no step: the context may have sealed and opened, or was but made, in a turn that was refused
+    -- no step: the context may have sealed and opened, or was only made, in a turn that was refused
     -- before its step
     pub record ServerRested (stage next : ServerStage C) : Type 0 where
       pub context : UnlessMade c stage.context next.context
           (Begun c stage.context stage.handle (server_setting p first) Inbound None next.handle)
       pub handle : IsSome stage.context → next.handle ≡ stage.handle
 
-    -- As on a client. At the end of the authentication a turn that is not refused knows its peer; a
-    -- refused one may have come less far.
+    -- As for a client. At the end of the authentication, a turn that is not refused knows its peer;
+    -- a refused one may have got less far.
     abbrev pub ServerMovedBy : Bool → Option SecurityStatus → Outcome → Option (List ℕ) → List ℕ →
         ServerStage C → ServerStage C → Type 0
     ServerMovedBy false status came token output stage next = ServerRested stage next

@@ -1,5 +1,5 @@
--- Which edits of an entry fail its carry, and which give it a text of their own, whatever stood
--- there before.
+-- Which edits of an entry fail its carry, and which give it a text of their own, whatever it was
+-- before.
 use Rattle.std.specs.Prelude.{ℕ, ◌==◌, ◌&&◌, List, Bool, true, false}
 use Rattle.std.specs.List.{list_any}
 use Rattle.sspi_delegate.specs.declared.edit.Edit.{Edit}

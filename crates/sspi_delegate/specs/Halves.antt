@@ -58,7 +58,7 @@ module _ (base : List Carried) (start : ℕ) where
     pub entries : LoggedButLast base turns log
     pub calm : now ≡ start
 
-  -- what half a round comes to
+  -- the result of half a round
   abbrev pub ClientHalf : ℕ → Result (Unit {0}) DelegateError → List Turn → List Carried → ℕ →
       Type 0
   ClientHalf limit (Ok done) turns log now = Between base start turns log now
@@ -70,13 +70,13 @@ module _ (base : List Carried) (start : ℕ) where
   ServerHalf limit (Ok (Some identity)) turns log now = Finishes base start turns log now
   ServerHalf limit (Err error) turns log now = Stopped base start limit error turns log now
 
--- an end's refusal as an answer: out of memory is no refusal
+-- an end's refusal as an answer: out of memory is not a refusal
 abbrev pub IsAnswerTo : ErrorKind → DelegateError → DelegateError → Type 0
 IsAnswerTo kind refusal answer = ((kind ≡ kinds.InsufficientMemory) ×
     (answer ≡ errors.InsufficientMemory)) ⊎
     ((kind ≢ kinds.InsufficientMemory) × (answer ≡ refusal))
 
--- an answer that is no end's refusal
+-- an answer that is not an end's refusal
 abbrev pub IsNoRefusal : DelegateError → Type 0
 IsNoRefusal (errors.Client error) = ⊥
 IsNoRefusal (errors.Server error) = ⊥
@@ -87,7 +87,7 @@ IsNoRefusal errors.TurnsSpent = Unit {0}
 IsNoRefusal errors.InsufficientMemory = Unit {0}
 
 module _ {C D : Type 0} (c : Meaning ContextSetting C) (k : KdcCalls D) where
-  -- what came of a client's call and of all that its KDC was asked
+  -- the result of a client's call and of all that its KDC was asked
   abbrev pub ClientConcludes : ClientView C → D → TsRequest → Round ClientState → ClientView C → D →
       Type 0
   ClientConcludes old kdc d (round.Answered state) new kdc2 =
@@ -96,7 +96,7 @@ module _ {C D : Type 0} (c : Meaning ContextSetting C) (k : KdcCalls D) where
       ClientTakes c k old kdc d (Err error) new kdc2
   ClientConcludes old kdc d round.Lost new kdc2 = IsWaiting c k old kdc d new kdc2
 
-  -- what half a round makes of it
+  -- what half a round does to the history
   abbrev pub ClientHalfStops : (TsRequest → Type 0) → ClientView C → D → DelegateError → List Turn →
       ClientView C → D → Type 0
   ClientHalfStops due first kdc (errors.Server error) turns now kdc2 = ⊥

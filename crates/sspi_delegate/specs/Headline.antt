@@ -35,22 +35,22 @@ use Rattle.sspi_delegate.specs.Chain.{server_stage, ServerChain}
 use Rattle.sspi_delegate.specs.History.{ClientPast, ServerPast, RefusedBy, KdcStays, ProxyStays}
 use Rattle.sspi_delegate.specs.Link.{StaysTold, AnswerTold}
 
--- ---- Where a turn is refused for the age of its peer's version: in the turn that would note it, which is a client's second, since
--- it makes its first request itself, and a server's first. A context may itself refuse with that kind; the plain ones never do.
+-- ---- A turn is refused for its peer's old version where it would pin that: a client's second, as
+-- its first request is its own, or a server's first. A context may refuse so; a plain one never.
 
 abbrev pub IsDowngrade : Outcome → Type 0
 IsDowngrade (outcome.Refused kind reply) = kind ≡ DowngradeDetected
 IsDowngrade other = ⊥
 
--- a client's turn after these finds its server below the least version, and looks so far: the
--- server reports no error
+-- a client's turn after these finds its server below the least version, and gets as far as looking:
+-- the server reports no error
 pub record FindsOldServer (least : ℕ) (past : List Turn) (t : Turn) : Type 0 where
   pub second : length past ≡ 1
   pub code : is_code t.delivered.error_code ≡ false
   pub old : t.delivered.version < least
 
--- a server's turn after these finds its client below the least version, and looks so far: it has
--- made its context
+-- a server's turn after these finds its client below the least version, and gets as far as looking:
+-- it has made its context
 pub record FindsOldClient {C : Type 0} (context : Option C) (least : ℕ) (past : List Turn)
     (t : Turn) : Type 0 where
   pub first : length past ≡ 0
@@ -58,8 +58,8 @@ pub record FindsOldClient {C : Type 0} (context : Option C) (least : ℕ) (past 
   pub old : t.delivered.version < least
 
 module _ {C : Type 0} (c : Meaning ContextSetting C) where
-  -- exactly there it is refused so; and a client that is told an error, or another version than the
-  -- pinned one, does nothing
+  -- exactly then it is refused for that; and a client that is sent an error, or a version that is
+  -- not the pinned one, does nothing
   pub record HeedsServer (least : ℕ) (past : List Turn) (t : Turn) : Type 0 where
     pub refuses : FindsOldServer least past t → IsDowngrade t.outcome
     pub only : NeverRefuses c DowngradeDetected → IsDowngrade t.outcome →
@@ -74,12 +74,12 @@ module _ {C : Type 0} (c : Meaning ContextSetting C) where
           FindsOldClient context least past t
       pub altered : differs (server_noted least past) t.delivered.version ≡ true → t.acts ≡ no_acts
 
-  -- each of these turns of a client, whose least version it is
+  -- each of these turns of a client with this least version
   abbrev pub EachHeedsServer : ℕ → List Turn → Type 0
   EachHeedsServer least [] = Unit {0}
   EachHeedsServer least (t ∷ past) = HeedsServer least past t × EachHeedsServer least past
 
-  -- each of these turns of a server, whose least version and context they are
+  -- each of these turns of a server with this least version and context
   abbrev pub EachHeedsClient : Option C → ℕ → List Turn → Type 0
   EachHeedsClient context least [] = Unit {0}
   EachHeedsClient context least (t ∷ past) = HeedsClient context least past t ×
@@ -92,7 +92,7 @@ pub record IsFresh {C P : Type 0} (client : ClientView C) (server : ServerView C
   pub client_is : IsFreshClient client
   pub server_is : IsFreshServer server
 
--- in how many turns credentials were sealed, refused turns among them
+-- the number of turns in which credentials were sealed, refused turns included
 abbrev pub sealed_turns : List Turn → ℕ
 sealed_turns [] = 0
 sealed_turns (t ∷ past) = sealed_turns past + count_of t.acts.sealed
@@ -108,8 +108,8 @@ HasExchanged [] = ⊥
 HasExchanged (t ∷ past) = any_exchange past ≡ true
 
 module _ {C : Type 0} (c : Meaning ContextSetting C) where
-  -- the client sealed only once authenticated, told no error, and delivered a pubKeyAuth that opens
-  -- to the proof that the server owes
+  -- the client sealed only once authenticated, sent no error, and given a pubKeyAuth that opens to
+  -- the proof that the server must give
   abbrev pub SealsAfterProof : ClientEnd C → List Turn → Type 0
   SealsAfterProof e [] = Unit {0}
   SealsAfterProof e (t ∷ past) =
@@ -122,7 +122,7 @@ module _ {C : Type 0} (c : Meaning ContextSetting C) where
 
   module _ {P : Type 0} where
     -- the turns alternate, each is one of its end that heeds its peer, and each has its entry in
-    -- the log, but perhaps the newest
+    -- the log, except perhaps the newest
     pub record IsRun (client client2 : ClientView C) (server server2 : ServerView C P)
         (base log : List Carried)
         (turns : List Turn) : Type 0 where
@@ -134,7 +134,7 @@ module _ {C : Type 0} (c : Meaning ContextSetting C) where
       pub server_heeds : EachHeedsClient c server2.context server2.settings.least
           (server_turns turns)
 
--- what is told by the three round the ends: the proxy, the link and the KDC
+-- what the three around the ends expose: the proxy, the link and the KDC
 pub record Around (P L D : Type 0) : Type 0 where
   pub proxy : ProxyMeaning P
   pub log : L → List Carried
@@ -183,7 +183,7 @@ module _ {P L D : Type 0} (around : Around P L D) where
   abbrev pub calls_of_kdc : KdcCalls D
   calls_of_kdc = kdc_calls around.replies around.asked around.kdc_faults
 
-  -- what stays of the three round the ends, in every exchange
+  -- what stays the same of the three around the ends, in every exchange
   pub record Stays {C : Type 0} (old : Parties C P L D) (limit : ℕ)
       (result : Result Delegation DelegateError)
       (new : Parties C P L D) : Type 0 where
@@ -207,8 +207,8 @@ module _ {C P L D : Type 0} (c : Meaning ContextSetting C) (around : Around P L 
         (around.log new.link) (around.link_faults new.link)
     pub no_other_answer_fits : Exactly (around.log old.link) limit result new.turns
         (around.log new.link)
-    -- each turn of an end was one of its calls, and nothing moved it in between; the last one
-    -- refused so, or gave the identity
+    -- each turn of an end was one of its calls, and nothing changed it in between; the last one
+    -- refused with the error, or gave the identity
     pub client_turns_are_its_calls : ClientPast c (calls_of_kdc around)
         (IsDue (around.log old.link) Client new.turns (around.log new.link)) old.client old.kdc
         result
@@ -228,7 +228,7 @@ module _ {C P L D : Type 0} (c : Meaning ContextSetting C) (around : Around P L 
     pub the_identity_is_what_was_opened_last : IfOk result (λ delegation.
         GivesNewest c (server_end new.server) (server_turns new.turns) delegation.credentials)
     pub both_proofs_came_before_ok : OnOk result (HasExchanged (server_turns new.turns))
-    -- the list where a negotiation was made with it, and the look-up of the peer
+    -- the list, if a negotiation was made with it, and the look-up of the peer
     pub no_call_of_the_proxy_before_ok_was_to_fail : OnOk result
         (HasAsked around.proxy (list_calls old.server.settings.mode + 1) old.server.proxy
         new.server.proxy)

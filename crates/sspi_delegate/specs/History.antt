@@ -34,25 +34,25 @@ use Rattle.sspi_delegate.specs.Turns.{AllGoOn}
 
 -- ---- Why an end refused its last turn: what it looked at, in its order, and what its context answered.
 
--- what calls on a proxy leave: what it tells stays, and its count of faults does not fall, nor rise
--- where it tells that no call fails
+-- what calls leave of a proxy: what it exposes stays the same; its count of faults does not fall,
+-- and does not rise if it says that no call fails
 pub record ProxyStays {P : Type 0} (p : ProxyMeaning P) (old new : P) : Type 0 where
   pub told_same : p.told new ≡ p.told old
   pub counted : p.faults old ≤ p.faults new
   pub calm : (p.told old).failing ≡ Some [] → p.faults new ≡ p.faults old
 
--- what calls on a KDC leave
+-- what calls leave of a KDC
 pub record KdcStays {D : Type 0} (told : D → Option (ℕ → NetworkRequest → Reply)) (faults : D →
     ℕ) (old new : D) : Type 0 where
   pub told_same : told new ≡ told old
   pub counted : faults old ≤ faults new
 
--- ---- The calls by which an end made its turns, one after another. Nothing moves an end, or the client's KDC, between two of them.
+-- ---- The calls by which an end made its turns. Nothing changes it, or the client's KDC, between.
 
 module _ {C D : Type 0} (c : Meaning ContextSetting C) (k : KdcCalls D) where
-  -- The client took d and came to this, by one call and a resume with each reply of its KDC: all
-  -- that `ClientCall` says, but that something may have been asked, the newest first. No refused
-  -- resume was tried again.
+  -- The client took d and came to this, by one call and a resume with each reply of its KDC. This
+  -- says what `ClientCall` does, but something may have been asked, newest first. No refused resume
+  -- was tried again.
   pub record ClientTakes (old : ClientView C) (kdc : D) (d : TsRequest)
       (result : Result Progress Error) (new : ClientView C)
       (kdc2 : D) : Type 0 where
@@ -83,15 +83,15 @@ module _ {C D : Type 0} (c : Meaning ContextSetting C) (k : KdcCalls D) where
     pub makes : ClientMakes old kdc t.delivered t.outcome mid kdc2
     pub rest : now ≡ record mid { output = [] }
 
-  -- from a client that was `first` these turns, the newest first, lead to one that is `now`; and
-  -- its KDC from `kdc` to `kdc2`
+  -- these turns, newest first, lead from a client that was `first` to one that is `now`, and its
+  -- KDC from `kdc` to `kdc2`
   abbrev pub ClientHistory : ClientView C → D → List Turn → ClientView C → D → Type 0
   ClientHistory first kdc [] now kdc2 = (now ≡ first) × (kdc2 ≡ kdc)
   ClientHistory first kdc (t ∷ past) now kdc2 = (old : ClientView C) × (kdc1 : D) ×
       ClientHistory first kdc past old kdc1 ×
       ClientMade old kdc1 t now kdc2
 
-  -- the turn on d is suspended at a question for which the KDC had no memory
+  -- the turn on d is suspended at a question for which the KDC ran out of memory
   pub record IsWaiting (old : ClientView C) (kdc : D) (d : TsRequest) (now : ClientView C)
       (kdc2 : D) : Type 0 where
     pub question : NetworkRequest
@@ -114,7 +114,7 @@ module _ {C D : Type 0} (c : Meaning ContextSetting C) (k : KdcCalls D) where
     pub takes : ClientTakes old kdc1 d (Err error) mid kdc2
     pub rest : now ≡ record mid { output = [] }
 
-  -- the same of a client that was fresh: before that turn it was where its turns left it, with the
+  -- the same for a client that was fresh: before that turn it was as its turns left it, with the
   -- context that their chain leads to
   pub record ClientRefused (first : ClientView C) (kdc : D) (error : Error) (now : ClientView C)
       (kdc2 : D)
@@ -123,8 +123,8 @@ module _ {C D : Type 0} (c : Meaning ContextSetting C) (k : KdcCalls D) where
     pub follows : ClientFollows c first stopped.old stopped.past
     pub chain : ClientChain c k first kdc stopped.past (client_stage stopped.old stopped.kdc1)
 
-  -- where there was no memory the client may have been left waiting for its KDC, in a turn on what
-  -- was due, which is not recorded
+  -- if memory ran out, the client may be waiting for its KDC, in a turn on the request that was
+  -- due, which is not recorded
   pub data ClientLeft (due : TsRequest → Type 0) (first : ClientView C) (kdc : D)
       (turns : List Turn) (now : ClientView C)
       (kdc2 : D) : Type 0 where
@@ -169,7 +169,7 @@ module _ {C P : Type 0} (c : Meaning ContextSetting C) (p : ProxyMeaning P) wher
     pub makes : ServerMakes old t.delivered t.outcome mid
     pub rest : now ≡ record mid { output = [] }
 
-  -- from a server that was `first` these turns, the newest first, lead to one that is `now`
+  -- these turns, newest first, lead from a server that was `first` to one that is `now`
   abbrev pub ServerHistory : ServerView C P → List Turn → ServerView C P → Type 0
   ServerHistory first [] now = now ≡ first
   ServerHistory first (t ∷ past) now = (old : ServerView C P) × ServerHistory first past old ×
@@ -194,7 +194,7 @@ module _ {C P : Type 0} (c : Meaning ContextSetting C) (p : ProxyMeaning P) wher
     pub call : ServerCall c p old d (Err (record { ts_request = reply; error = error })) mid
     pub rest : now ≡ record mid { output = [] }
 
-  -- the same of a server that was fresh: before that turn it was where its turns left it, with the
+  -- the same for a server that was fresh: before that turn it was as its turns left it, with the
   -- context that their chain leads to
   pub record ServerRefused (first : ServerView C P) (error : Error) (now : ServerView C P)
       (turns : List Turn) : Type 0 where
@@ -214,7 +214,7 @@ module _ {C P : Type 0} (c : Meaning ContextSetting C) (p : ProxyMeaning P) wher
   ServerPast first (Ok delegation) turns now = ServerGave first delegation.credentials turns now
   ServerPast first (Err error) turns now = ServerStops first error turns now
 
-  -- a refusal that an exchange answers is the one of the last turn
+  -- a refusal that an exchange answers is that of the last turn
   abbrev pub RefusedBy : {D : Type 0} → KdcCalls D → ClientView C → D → ClientView C → D →
       ServerView C P → ServerView C P →
       Result Delegation DelegateError → List Turn → List Turn → Type 0

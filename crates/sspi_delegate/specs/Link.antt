@@ -1,4 +1,4 @@
--- What the calls of a link answer, and what its edits give of what was sent, where it tells them.
+-- What the calls of a link answer, and what its edits make of what was sent, if it exposes them.
 use Rattle.std.specs.Prelude.{◌≡◌, ℕ, ◌==◌, true, if◌then◌else◌, List, [], ◌∷◌, ◌++◌, map, reverse}
 use Rattle.std.specs.Prelude.{length, take, slice_get, slice_set}
 use Rattle.std.specs.Prelude.{Option, Some, None, option_and_then, unwrap_or, ◌≤◌, Bool, false}
@@ -26,7 +26,7 @@ use Rattle.sspi_delegate.specs.Log.{Grows}
 
 -- ---- the edits
 
--- what entries sent, in their order
+-- what entries sent, in order
 abbrev pub sent_texts : List Carried → List (List ℕ)
 sent_texts entries = map (λ e. e.sent) entries
 
@@ -34,7 +34,7 @@ sent_texts entries = map (λ e. e.sent) entries
 abbrev pub text_at : List (List ℕ) → ℕ → List ℕ
 text_at texts place = unwrap_or (slice_get texts place) []
 
--- what one edit makes of a text, where the earlier entries sent these texts, the first entry first;
+-- what one edit makes of a text, if the earlier entries sent these texts, the first entry first;
 -- None: the carry fails
 abbrev pub edited_once : EditKind → List (List ℕ) → List ℕ → Option (List ℕ)
 edited_once Drop earlier text = Some []
@@ -45,15 +45,15 @@ edited_once (Give bytes) earlier text = Some bytes
 edited_once (Again entry) earlier text = Some (text_at earlier entry)
 edited_once Fail earlier text = None
 
--- what the edits of the entry after the earlier ones give of what it sent: each in its order, of
+-- what the edits of the entry after the earlier ones make of what it sent: each, in order, changes
 -- what the one before gives
 abbrev pub edited : List Edit → List (List ℕ) → List ℕ → Option (List ℕ)
 edited [] earlier text = Some text
 edited (edit ∷ edits) earlier text = option_and_then (edited edits earlier)
     (if edit.entry == length earlier then edited_once edit.kind earlier text else Some text)
 
--- the delivery is a beginning of this text, and it has ended only once it is the whole; None: there
--- is no such entry
+-- the delivery is a prefix of this text, and has ended only if it is the whole; None: there is no
+-- such entry
 abbrev pub Delivers : Option (List ℕ) → Carried → Type 0
 Delivers None e = ⊥
 Delivers (Some text) e = (e.delivered ≡ take (length e.delivered) text) ×
@@ -65,7 +65,7 @@ FollowsEdits edits [] = Unit {0}
 FollowsEdits edits (e ∷ log) = Delivers (edited edits (sent_texts (reverse log)) e.sent) e ×
     FollowsEdits edits log
 
--- this text is what the edits give of the newest entry
+-- this text is what the edits give for the newest entry
 abbrev pub IsNewestText : List Edit → List Carried → List ℕ → Type 0
 IsNewestText edits [] text = Unit {0}
 IsNewestText edits (e ∷ log) text = edited edits (sent_texts (reverse log)) e.sent ≡ Some text
@@ -93,18 +93,18 @@ LinkCause before now (Ok x) = now ≡ before
 LinkCause before now (Err Failed) = Counts before now
 LinkCause before now (Err InsufficientMemory) = now ≡ before
 
--- what `piece` does to the log: a refusal leaves it
+-- what `piece` does to the log: a refusal leaves it unchanged
 abbrev pub PieceGives : List Carried → List Carried → Result ℕ LinkError → List ℕ → Type 0
 PieceGives old new (Ok n) into = (n ≤ length into) × Grows old new n into
 PieceGives old new (Err error) into = new ≡ old
 
--- a piece has at most so many bytes, where the link tells how many
+-- a piece has at most this many bytes, if the link exposes a limit
 abbrev pub IsWithin : Option ℕ → Result ℕ LinkError → Type 0
 IsWithin None result = Unit {0}
 IsWithin (Some most) result = IfOk result (λ n. n ≤ most)
 
--- where the edits give this, `carry` fails only where they give nothing, is Ok nowhere there, and
--- counts a fault then alone: one
+-- given what the edits give: `carry` fails only if they give nothing, and is then never Ok; only a
+-- failure counts a fault, and it counts one
 abbrev pub CarriesEdited : Option (List ℕ) → ℕ → ℕ → Result (Unit {0}) LinkError → Type 0
 CarriesEdited None before now (Ok done) = ⊥
 CarriesEdited None before now (Err Failed) = Counts before now
@@ -113,26 +113,26 @@ CarriesEdited (Some text) before now (Ok done) = now ≡ before
 CarriesEdited (Some text) before now (Err Failed) = ⊥
 CarriesEdited (Some text) before now (Err InsufficientMemory) = now ≡ before
 
--- the same of a link that tells its edits; one that does not tell claims nothing
+-- the same for a link that exposes its edits; one that does not claims nothing
 abbrev pub CarryTold : Option (List Edit) → List Carried → List ℕ → ℕ → ℕ →
     Result (Unit {0}) LinkError → Type 0
 CarryTold None log sent before now result = Unit {0}
 CarryTold (Some edits) log sent before now result =
     CarriesEdited (edited edits (sent_texts (reverse log)) sent) before now result
 
--- where the edits are told, reading never fails, and no fault is counted
+-- if the edits are exposed, reading never fails, and no fault is counted
 abbrev pub NeverFails : {X : Type 0} → Option (List Edit) → ℕ → ℕ → Result X LinkError → Type 0
 NeverFails None before now result = Unit {0}
 NeverFails (Some edits) before now (Ok x) = now ≡ before
 NeverFails (Some edits) before now (Err Failed) = ⊥
 NeverFails (Some edits) before now (Err InsufficientMemory) = now ≡ before
 
--- where the edits are told, the log follows them
+-- if the edits are exposed, the log follows them
 abbrev pub FollowsTold : Option (List Edit) → List Carried → Type 0
 FollowsTold None log = Unit {0}
 FollowsTold (Some edits) log = FollowsEdits edits log
 
--- no call changes what is told, and a log that follows it goes on to
+-- no call changes the exposed edits, and a log that follows them still does
 pub record StaysTold (edits edits2 : Option (List Edit)) (log log2 : List Carried) : Type 0 where
   pub same : edits2 ≡ edits
   pub follows : FollowsTold edits log → FollowsTold edits2 log2
@@ -143,15 +143,15 @@ abbrev pub IsReceivedOf : {R : Type 0} → (R → ℕ → List ℕ → R → Typ
 IsReceivedOf receives true before count into now = now ≡ before
 IsReceivedOf receives false before count into now = receives before count into now
 
--- the same of the newest entry of a log; where there is none, nothing is asked of the carrier
+-- the same for the newest entry of a log; if there is none, nothing is asked of the carrier
 abbrev pub IsReceived : {R : Type 0} → (R → ℕ → List ℕ → R → Type 0) → List Carried → R → ℕ →
     List ℕ → R → Type 0
 IsReceived receives [] before count into now = now ≡ before
 IsReceived receives (e ∷ log) before count into now =
     IsReceivedOf receives e.ended before count into now
 
--- a carrier did this and answered so; or there was no memory before it was asked, and it is as it
--- was
+-- a carrier did this and answered this error; or memory ran out before it was asked, and it is
+-- unchanged
 abbrev pub DidOrKept : LinkError → Type 0 → Type 0 → Type 0
 DidOrKept Failed Did Kept = Did
 DidOrKept InsufficientMemory Did Kept = Did ⊎ Kept
@@ -174,13 +174,13 @@ abbrev pub HasFailed : List Edit → ℕ → ℕ → List Carried → List Turn 
 HasFailed edits before now log turns = CarryFails edits log (newest_message turns) ×
     Counts before now
 
--- that turn is a server's that was refused so, and the message was to tell its client
+-- that turn is a server's that was refused with this kind, and the message was to inform its client
 abbrev pub HasFailedToTell : ErrorKind → List Edit → ℕ → ℕ → List Carried → List Turn → Type 0
 HasFailedToTell kind edits before now log turns =
     NewestIs ends.Server (IsServerRefusal kind) turns × HasFailed edits before now log turns
 
--- where the edits are told, only a carry that they fail counts a fault: where it is that of a
--- server's refusal it changes no answer
+-- if the edits are exposed, only a carry that they fail counts a fault; if it carries a server's
+-- refusal, that fault does not change the answer
 abbrev pub AnswerTold : {X : Type 0} → Option (List Edit) → ℕ → ℕ → Result X DelegateError →
     List Carried → List Turn → Type 0
 AnswerTold None before now result log turns = Unit {0}

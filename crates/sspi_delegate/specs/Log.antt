@@ -1,6 +1,6 @@
--- The log of a link: its entries, the newest first; how the newest delivery is read; how the turns
--- of an exchange and the entries that it added belong together; and what they show of its answer,
--- and where each answer must come.
+-- The log of a link: its entries, newest first; how the newest delivery is read; how the turns of
+-- an exchange match the entries that it added; what they show about its answer; and when each
+-- answer must come.
 use Rattle.std.specs.Prelude.{◌≡◌, ℕ, ◌==◌, ◌&&◌, ◌||◌, nat_lt, Bool, true, false, List, [], ◌∷◌}
 use Rattle.std.specs.Prelude.{◌++◌, length, take, ◌+◌, ◌≤◌, nat_le, ◌⊎◌}
 use Rattle.std.specs.Prelude.{Option, None, Some, ◌≢◌, ◌<◌, Result, Ok, Err, IsOk}
@@ -31,12 +31,12 @@ use Rattle.sspi_delegate.specs.Turns.{other, next_end, AllGoOn, Alternates}
 abbrev pub begun : End → List ℕ → Carried
 begun from sent = record { from = from; sent = sent; delivered = []; ended = false }
 
--- whether a delivery has ended, once n bytes came where `asked` were asked for: none, where some
--- were asked for, is its end
+-- whether a delivery has ended, once n bytes came when `asked` were asked for: 0, if any were asked
+-- for, is its end
 abbrev pub ended_by : Bool → ℕ → ℕ → Bool
 ended_by ended n asked = ended || ((n == 0) && nat_lt 0 asked)
 
--- the entry after the first n bytes of `into`, which was asked to be filled, were handed out
+-- the entry after the first n bytes of `into`, which was to be filled, were written
 abbrev pub grown : Carried → ℕ → List ℕ → Carried
 grown e n into = record e {
   delivered = e.delivered ++ take n into;
@@ -55,11 +55,11 @@ pub record KeptLinkView (R : Type 0) : Type 0 where
 
 -- ---- How the newest delivery of a log is read.
 
--- at most so many bytes of one delivery are read: the longest message, whose header has five
+-- the most bytes of one delivery that are read: the longest message, whose header has five
 abbrev pub delivery_limit : ℕ
 delivery_limit = 5 + max_content
 
--- nothing was asked of the newest delivery
+-- nothing of the newest delivery was asked for
 abbrev pub IsUnread : List Carried → Type 0
 IsUnread [] = ⊥
 IsUnread (e ∷ log) = (e.delivered ≡ []) × (e.ended ≡ false)
@@ -73,7 +73,7 @@ abbrev pub HeadWithin : List Carried → Type 0
 HeadWithin [] = ⊥
 HeadWithin (e ∷ log) = length e.delivered ≤ delivery_limit
 
--- where there are turns, no more of the newest delivery was taken than the limit
+-- if there are turns, no more of the newest delivery was taken than the limit
 abbrev pub WithinFor : List Turn → List Carried → Type 0
 WithinFor [] log = Unit {0}
 WithinFor (t ∷ past) log = HeadWithin log
@@ -82,21 +82,21 @@ abbrev pub HeadOpen : List Carried → Type 0
 HeadOpen [] = ⊥
 HeadOpen (e ∷ log) = is_taken e ≡ false
 
--- ---- How the turns of an exchange and the entries of its log belong together. Both are lists, the newest first, and the
+-- ---- How the turns of an exchange match the entries of its log. Both are lists, newest first; the
 -- entries are those that the exchange added to the log that it found.
 
 -- the bytes begin with this request
 abbrev pub IsRead : List ℕ → TsRequest → Type 0
 IsRead bytes request = (taken : ℕ) × IsRequest bytes request taken
 
--- the bytes begin with no request, for this reason
+-- the bytes do not begin with a request, for this reason
 abbrev pub IsFault : List ℕ → WireKind → Type 0
 IsFault bytes UnexpectedEof = fault bytes ≡ Some Ended
 IsFault bytes InvalidData = fault bytes ≡ Some Invalid
 IsFault bytes other = ⊥
 
--- a turn after these is given this request: the first its own, each other what the newest entry
--- delivered, taken to its end or limit
+-- a turn after these is given this request: its own if it is the first, otherwise what the newest
+-- entry delivered, taken to its end or limit
 abbrev pub IsDelivered : List Turn → List Carried → TsRequest → Type 0
 IsDelivered [] log request = request ≡ first_request
 IsDelivered (t ∷ past) [] request = ⊥
@@ -125,16 +125,16 @@ module _ (base : List Carried) where
   IsDue end turns log request = AllGoOn turns × (next_end turns ≡ end) × Logged turns log ×
       IsDelivered turns log request
 
-  -- the same as `Logged`, but for the newest turn, which has no entry
+  -- the same as `Logged`, except for the newest turn, which has no entry
   abbrev pub LoggedButLast : List Turn → List Carried → Type 0
   LoggedButLast [] log = ⊥
   LoggedButLast (t ∷ past) log = IsDelivered past log t.delivered × Logged past log
 
-  -- as many entries as turns, or one less
+  -- an entry for each turn, or for each but the newest
   abbrev pub HasLog : List Turn → List Carried → Type 0
   HasLog turns log = Logged turns log ⊎ LoggedButLast turns log
 
--- where there are turns, nothing was asked of the newest delivery
+-- if there are turns, nothing of the newest delivery was asked for
 abbrev pub UnreadFor : List Turn → List Carried → Type 0
 UnreadFor [] log = Unit {0}
 UnreadFor (t ∷ past) log = IsUnread log
@@ -144,7 +144,7 @@ abbrev pub OpenFor : List Turn → List Carried → Type 0
 OpenFor [] log = ⊥
 OpenFor (t ∷ past) log = HeadOpen log
 
--- there are turns, and the newest delivery was taken whole and is no request, for this reason
+-- there are turns, and the newest delivery was taken whole and is not a request, for this reason
 abbrev pub IsUnreadable : List Turn → List Carried → WireKind → Type 0
 IsUnreadable (t ∷ past) (e ∷ log) kind = (is_taken e ≡ true) × IsFault e.delivered kind
 IsUnreadable turns log kind = ⊥
@@ -159,7 +159,7 @@ abbrev pub turns_of : End → List Turn → ℕ
 turns_of end [] = 0
 turns_of end (t ∷ past) = turns_of end past + one_of end t.end
 
--- the newest turn is this end's, and ended so
+-- the newest turn is this end's, and has such an outcome
 abbrev pub NewestIs : End → (Outcome → Type 0) → List Turn → Type 0
 NewestIs end P [] = ⊥
 NewestIs end P (t ∷ past) = (t.end ≡ end) × P t.outcome
@@ -169,7 +169,7 @@ abbrev pub IsClientRefusal : ErrorKind → Outcome → Type 0
 IsClientRefusal kind (Refused refused None) = refused ≡ kind
 IsClientRefusal kind outcome = ⊥
 
--- a server's refusal has the message that tells the client
+-- a server's refusal has the message that informs the client
 abbrev pub IsServerRefusal : ErrorKind → Outcome → Type 0
 IsServerRefusal kind (Refused refused (Some reply)) = refused ≡ kind
 IsServerRefusal kind outcome = ⊥
@@ -178,7 +178,7 @@ abbrev pub IsFinished : Outcome → Type 0
 IsFinished Finished = Unit {0}
 IsFinished outcome = ⊥
 
--- the newest turn has a message, of which it is so that it fits
+-- there is a message, and `fit` says whether it fits
 abbrev pub MessageFits : Option TsRequest → Bool → Type 0
 MessageFits None fit = ⊥
 MessageFits (Some message) fit = fits message ≡ fit
@@ -187,12 +187,12 @@ abbrev pub NewestFits : List Turn → Bool → Type 0
 NewestFits [] fit = ⊥
 NewestFits (t ∷ past) fit = MessageFits (message_of t.outcome) fit
 
--- a client whose turn is next has not made as many as it may
+-- a client whose turn is next has not made all the turns that it may make
 abbrev pub TurnLeft : ℕ → List Turn → Type 0
 TurnLeft limit turns = next_end turns ≡ Client → turns_of Client turns < limit
 
--- base: the log before the exchange; start: the link's count of faults then, to which a failure of
--- the link alone adds, namely one
+-- base: the log before the exchange; start: the link's count of faults then, to which only a
+-- failure of the link adds, and it adds one
 module _ (base : List Carried) (start : ℕ) where
   -- the server has the credentials
   pub record Finishes (turns : List Turn) (log : List Carried) (now : ℕ) : Type 0 where
@@ -201,8 +201,8 @@ module _ (base : List Carried) (start : ℕ) where
     pub entries : LoggedButLast base turns log
     pub calm : now ≡ start
 
-  -- What giving the newest turn's message to the link came to: an unread entry, or none. It is
-  -- measured before memory is taken.
+  -- The result of giving the newest turn's message to the link: an unread entry, or none. The
+  -- message is measured before memory is allocated.
   pub data Given (turns : List Turn) (log : List Carried) (now : ℕ) : Type 0 where
     carried : Logged base turns log → UnreadFor turns log → now ≡ start → Given turns log now
     too_long : LoggedButLast base turns log → NewestFits turns false → now ≡ start →
@@ -212,8 +212,8 @@ module _ (base : List Carried) (start : ℕ) where
     no_memory : LoggedButLast base turns log → NewestFits turns true → now ≡ start →
         Given turns log now
 
-  -- Where there was no memory. The link may have failed to carry the message of a server that was
-  -- refused for it; else it did not.
+  -- When memory ran out. The link may have failed to carry the message of a server that was refused
+  -- for that; otherwise it did not fail.
   pub data Lacks (limit : ℕ) (turns : List Turn) (log : List Carried) (now : ℕ) : Type 0 where
     for_a_turn : AllGoOn turns → TurnLeft limit turns → Logged base turns log →
         WithinFor turns log → now ≡ start →
@@ -257,23 +257,23 @@ module _ (base : List Carried) (start : ℕ) where
     pub order : Alternates turns
     pub cause : Cause limit error turns log now
 
-  -- what the exchange comes to
+  -- the result of the exchange
   abbrev pub RunEnds : ℕ → Result Delegation DelegateError → List Turn → List Carried → ℕ → Type 0
   RunEnds limit (Ok delegation) turns log now = Finishes turns log now ×
       (delegation.rounds ≡ turns_of Client turns)
   RunEnds limit (Err error) turns log now = Stopped limit error turns log now
 
--- ---- Where each answer of an exchange must come: what the turns and the log show leaves no other, but when out of memory, whose
--- place `Cause` has.
+-- ---- When each answer of an exchange must come: what the turns and the log show allows no other,
+-- except out of memory, whose place is given by `Cause`.
 
--- the answer is an error of which this holds, or there was no memory
+-- the answer is an error of which this holds, or memory ran out
 abbrev pub IsOnly : (DelegateError → Type 0) → Result Delegation DelegateError → Type 0
 IsOnly P (Ok delegation) = ⊥
 IsOnly P (Err errors.InsufficientMemory) = Unit {0}
 IsOnly P (Err error) = P error
 
--- the answer to a refusal of this kind is an error of which this holds, and out of memory only
--- where that is the kind
+-- the answer to a refusal of this kind is an error of which this holds, and out of memory only if
+-- that is the kind
 abbrev pub IsAnswerOf : ErrorKind → (DelegateError → Type 0) → Result Delegation DelegateError →
     Type 0
 IsAnswerOf kind P (Ok delegation) = ⊥

@@ -13,7 +13,7 @@ abbrev pub NewestDelivers : List ℕ → List Carried → Type 0
 NewestDelivers text [] = Unit {0}
 NewestDelivers text (e ∷ log) = Delivers (Some text) e
 
--- a log that is kept in memory: its entries, the newest first, and for how many more there is room
+-- a log that is kept in memory: its entries, newest first, and how many more it has room for
 pub record LogView : Type 0 where
   pub entries : List Carried
   pub room : ℕ

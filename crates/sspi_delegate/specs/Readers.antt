@@ -25,7 +25,7 @@ Takes old new (Ok text) = Fed old new × HeadTaken new text
 Takes old new (Err Failed) = Fed old new × HeadOpen new
 Takes old new (Err InsufficientMemory) = Fed old new × HeadWithin new
 
--- the reader stands for the text that was taken of the newest delivery, and a failure is one of
+-- the reader represents the text that was taken of the newest delivery, and a failure is one of
 -- taking it
 abbrev pub TakesIn : List Carried → List Carried → Result TsReader LinkError → Type 0
 TakesIn old new (Ok reader) = (text : List ℕ) × Takes old new (Ok text) × Stands reader text

@@ -1,4 +1,4 @@
--- What a turn, and what half a round, makes of an end and of its history.
+-- What a turn, and half a round, do to an end and to its history.
 use Rattle.std.specs.Prelude.{List, [], ◌∷◌, Option, None, Some}
 use Rattle.sspi_mech.specs.Meaning.{Meaning}
 use Rattle.sspi_names.specs.declared.identity.AuthIdentity.{AuthIdentity}
@@ -17,8 +17,7 @@ abbrev pub newest_alone : List Turn → List Turn
 newest_alone [] = []
 newest_alone (t ∷ past) = t ∷ []
 
--- the turns of this transcript that the call added which answered so: one, or none where there was
--- no memory
+-- the turns of this transcript that a call with this answer added: one, or none if memory ran out
 abbrev pub added_by_client : Round (Unit {0}) → List Turn → List Turn
 added_by_client (round.Answered done) turns = newest_alone turns
 added_by_client (round.Refused error) turns = newest_alone turns
@@ -31,8 +30,8 @@ added_by_server (round.Refused error) turns = newest_alone turns
 added_by_server round.Lost turns = []
 
 module _ {C D : Type 0} (c : Meaning ContextSetting C) (k : KdcCalls D) where
-  -- Of a turn on this request for which there was no memory: nothing moved the client, or the turn
-  -- waits for its KDC.
+  -- A turn on this request for which memory ran out: nothing changed the client, or the turn waits
+  -- for its KDC.
   pub data ClientLost (request : TsRequest) (first : ClientView C) (kdc : D) (turns : List Turn)
       (now : ClientView C) (kdc2 : D) :
       Type 0 where
@@ -42,7 +41,7 @@ module _ {C D : Type 0} (c : Meaning ContextSetting C) (k : KdcCalls D) where
         IsWaiting c k old kdc1 request now kdc2 →
         ClientLost request first kdc turns now kdc2
 
-  -- what a turn on this request makes of the client's history
+  -- what a turn on this request does to the client's history
   abbrev pub ClientRoundPast : TsRequest → ClientView C → D → Round (Unit {0}) → List Turn →
       ClientView C → D → Type 0
   ClientRoundPast request first kdc (round.Answered done) turns now kdc2 =

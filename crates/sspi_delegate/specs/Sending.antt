@@ -31,8 +31,8 @@ Sends from message old new before now (Err (Server error)) = ⊥
 Sends from message old new before now (Err (Read end kind)) = ⊥
 Sends from message old new before now (Err TurnsSpent) = ⊥
 
--- where the edits are told, the link fails exactly where they say so, then one fault is counted,
--- and no other is
+-- if the edits are exposed, the link fails only where they say so; then one fault is counted, and
+-- otherwise none is
 abbrev pub SendTold : Option (List Edit) → List Carried → TsRequest → ℕ → ℕ →
     Result (Unit {0}) DelegateError → Type 0
 SendTold None log message before now result = Unit {0}
@@ -46,13 +46,13 @@ SendTold (Some edits) log message before now (Err (Write end)) = now ≡ before
 SendTold (Some edits) log message before now (Err TurnsSpent) = now ≡ before
 SendTold (Some edits) log message before now (Err InsufficientMemory) = now ≡ before
 
--- the same of the newest turn's message, where it has one; else nothing is sent
+-- the same for the newest turn's message, if it has one; otherwise nothing is sent
 abbrev pub GiveTold : Option (List Edit) → List Carried → Option TsRequest → ℕ → ℕ →
     Result (Unit {0}) DelegateError → Type 0
 GiveTold edits log None before now result = now ≡ before
 GiveTold edits log (Some message) before now result = SendTold edits log message before now result
 
--- where the edits are told, reading a request never fails
+-- if the edits are exposed, reading a request never fails
 abbrev pub RequestTold : {X : Type 0} → Option (List Edit) → ℕ → ℕ → Result X DelegateError → Type 0
 RequestTold None before now result = Unit {0}
 RequestTold (Some edits) before now (Ok x) = now ≡ before

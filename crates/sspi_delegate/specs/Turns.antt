@@ -1,6 +1,5 @@
--- The turns of an exchange, the newest first, and what they show of each end; and the turns of
--- either end, one after another (MS-CSSP 3.1.5), whose state and pinned version are those that its
--- turns say.
+-- The turns of an exchange, newest first, and what they show about each end; and the turns of
+-- either end, one after another (MS-CSSP 3.1.5), which determine its state and pinned version.
 use Rattle.std.specs.Prelude.{◌≡◌, ℕ, List, [], ◌∷◌, ◌+◌, ◌&&◌, ◌||◌, Bool, true, false, Option}
 use Rattle.std.specs.Prelude.{None, IsSome, if◌then◌else◌, Some}
 use Rattle.sspi_credssp.specs.declared.turn.End.{End}
@@ -24,7 +23,7 @@ use Rattle.sspi_credssp.specs.Noted.{noted_with}
 use Rattle.sspi_credssp.specs.ServerTurn.{IsServerTurn, HoldsIdentity}
 use Rattle.sspi_credssp.specs.Turn.{Frame, ClientFrame, ServerFrame}
 
--- a transcript: its turns, and for how many more there is room
+-- a transcript: its turns, and how many more it has room for
 pub record TranscriptView : Type 0 where
   pub turns : List Turn
   pub room : ℕ
@@ -48,7 +47,7 @@ abbrev pub AllGoOn : List Turn → Type 0
 AllGoOn [] = Unit {0}
 AllGoOn (t ∷ past) = GoesOn t.outcome × AllGoOn past
 
--- this outcome is no refusal
+-- this outcome is not a refusal
 abbrev pub IsUnrefused : Outcome → Type 0
 IsUnrefused (Refused kind reply) = ⊥
 IsUnrefused outcome = Unit {0}
@@ -124,7 +123,7 @@ abbrev pub OthersUnrefused : List Turn → Type 0
 OthersUnrefused [] = Unit {0}
 OthersUnrefused (t ∷ past) = NoneRefused past
 
--- what an end keeps over its turns, and its context
+-- what an end keeps through its turns, and its context
 pub record Kept (S C : Type 0) : Type 0 where
   pub settings : S
   pub context : Option C
@@ -141,8 +140,8 @@ ServerEnd C = Kept ServerSettings C
 abbrev pub server_end : {C P : Type 0} → ServerView C P → ServerEnd C
 server_end server = record { settings = server.settings; context = server.context }
 
--- what an end is at the turn t after these turns, by what turns make of its state and of the
--- version that is pinned
+-- what an end is at the turn t after these turns, by what turns make of its state and its pinned
+-- version
 abbrev pub frame_at : {S C : Type 0} → (List Turn → CredSspState) → (List Turn → Option ℕ) → Bool →
     Kept S C → List Turn → Turn →
     Frame S C

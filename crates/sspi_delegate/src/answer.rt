@@ -7,7 +7,7 @@ use sspi_types::Error;
 use std::alloc::AllocError;
 use std::fmt;
 
-/// What an exchange came to: the credentials that the server opened.
+/// The result of an exchange: the credentials that the server opened.
 #[derive(Drop)]
 pub struct Delegation {
     /// The identity that the server opened.
@@ -16,22 +16,22 @@ pub struct Delegation {
     pub rounds: u32,
 }
 
-/// Why an exchange came to no end.
+/// Why an exchange did not complete.
 #[derive(Clone, Copy, Debug, PartialEq, Eq)]
 pub enum DelegateError {
     /// The client refused its last turn.
     Client(Error),
     /// The server refused its last turn.
     Server(Error),
-    /// What was delivered to this end is no request.
+    /// What was delivered to this end is not a request.
     Read(End, WireKind),
-    /// The reply of this end has a content of more than `sspi_ber::MAX_CONTENT`, 1048576 octets.
+    /// The content of this end's reply is longer than `sspi_ber::MAX_CONTENT`, 1048576 octets.
     Write(End),
     /// A call on the link failed.
     LinkFault,
-    /// The client has made as many turns as it may, and each was answered.
+    /// The client has made all the turns that it may make, and each was answered.
     TurnsSpent,
-    /// There was no memory, also for an end's own turn or for the KDC.
+    /// Memory ran out, also in an end's own turn or in the KDC.
     InsufficientMemory,
 }
 

@@ -10,7 +10,7 @@ pub struct Carried {
     pub from: End,
     /// The whole message, as its end gave it to the link.
     pub sent: Bytes,
-    /// What was handed out of the delivery so far.
+    /// The part of the delivery that was read so far.
     pub delivered: Bytes,
     /// Whether the delivery was read to its end.
     pub ended: bool,

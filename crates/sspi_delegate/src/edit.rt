@@ -22,16 +22,16 @@ pub struct Edit {
 pub enum EditKind {
     /// Nothing is delivered.
     Drop,
-    /// The first bytes, as many as this; where there are no more, all of them.
+    /// Only the first bytes are delivered, at most this many.
     Cut(usize),
-    /// The byte at this place becomes this one; past the end nothing changes.
+    /// The byte at this place becomes this one; past the end, nothing changes.
     Set(usize, u8),
-    /// These bytes follow.
+    /// These bytes are appended.
     Add(Bytes),
     /// These bytes are delivered instead.
     Give(Bytes),
-    /// What that earlier entry sent is delivered instead; nothing where that entry is not an
-    /// earlier one.
+    /// What this earlier entry sent is delivered instead; nothing if this entry is not an earlier
+    /// one.
     Again(u32),
     /// The message is not carried: `carry` fails.
     Fail,
@@ -82,7 +82,7 @@ impl EditKind {
     }
 }
 
-/// What the edits of the next entry give of `sent`; `None` where one of them fails the carry.
+/// What the edits of the next entry make of `sent`; `None` if one of them fails the carry.
 pub fn deliver_edited(
     alloc: Global,
     edits: &[Edit],
@@ -105,8 +105,8 @@ fn fails(edits: &[Edit], entry: usize) -> bool
     edits.iter().any(|edit| edit.fails(entry))
 }
 
-/// The edits from the last one that gives this entry a text of its own, or all. What stands before
-/// it comes to nothing, so no text is made for an edit that a later one replaces.
+/// The edits from the last one that gives this entry a text of its own, or all. Earlier edits
+/// have no effect, so no text is made for an edit that a later one replaces.
 fn since_whole(edits: &[Edit], entry: usize) -> &[Edit]
     ensures same { (earlier : List (List ℕ)) (sent : List ℕ) → length earlier ≡ entry →
         fails entry edits.now ≡ false →
@@ -122,7 +122,7 @@ fn since_whole(edits: &[Edit], entry: usize) -> &[Edit]
     &edits[start..]
 }
 
-/// What they give, one after another, where none fails.
+/// What the edits give, one after another, if none fails.
 fn apply_all(
     alloc: Global,
     edits: &[Edit],
@@ -141,7 +141,7 @@ fn apply_all(
     Ok(text)
 }
 
-/// The text that the edits begin with: what was sent, of which no copy is made where the first edit
+/// The text that the edits begin with: what was sent, of which no copy is made if the first edit
 /// replaces it.
 fn first_text(alloc: Global, edits: &[Edit], entry: usize, sent: &[u8]) -> Result<Bytes, AllocError>
     ensures { IfOk result (λ text. (earlier : List (List ℕ)) → length earlier ≡ entry →
@@ -153,7 +153,7 @@ fn first_text(alloc: Global, edits: &[Edit], entry: usize, sent: &[u8]) -> Resul
     }
 }
 
-/// What one edit gives, where it does not fail.
+/// What one edit gives, if it does not fail.
 fn apply(
     alloc: Global,
     kind: &EditKind,

@@ -23,19 +23,19 @@ use sspi_tsreq::TsRequest;
 use sspi_types::{Bytes, Error};
 use std::alloc::Global;
 
-/// What came of a turn of an end.
+/// The result of a turn of an end.
 #[derive(Drop)]
 pub enum Round<T> {
     /// It was answered.
     Answered(T),
     /// It was refused, with this error.
     Refused(Error),
-    /// There was no memory, and no turn was recorded. A client may then wait for a reply of its
+    /// Memory ran out, and no turn was recorded. A client may then be waiting for a reply of its
     /// KDC.
     Lost,
 }
 
-/// What comes of a question to the KDC, or nothing where it had no memory.
+/// The reply to a question to the KDC, or `None` if the KDC ran out of memory.
 fn ask<D: Kdc>(kdc: &mut D, question: &NetworkRequest) -> Option<Reply>
     ensures replied { IfSome result (λ reply. HasReplied D.told D.asked D.faults kdc.old
         question.now reply kdc.new) }
@@ -80,10 +80,10 @@ fn finish_turn<N: Mechanism, K: Mechanism, D: Kdc>(
 
 /// A turn of the client on this request, which is recorded whether or not it is refused.
 ///
-/// The KDC is asked what the client's context asks, and the turn goes on with its replies; a call
-/// of the KDC that fails goes on as `Reply::Failed`. `Lost` comes where there was no memory for the
-/// record or for a reply of the KDC: then the transcript has no further turn, and the client is as
-/// it was, or waits for that reply.
+/// The KDC is asked what the client's context asks, and the turn goes on with its replies, or with
+/// `Reply::Failed` where a call fails. The result is `Lost` if memory ran out for the record or for
+/// a reply of the KDC. Then the transcript has no further turn, and the client is as it was, or
+/// waits for that reply.
 pub fn client_round<N: Mechanism, K: Mechanism, D: Kdc>(
     alloc: Global,
     client: &mut CredSspClient<N, K>,
@@ -153,7 +153,7 @@ fn record_client<N: Mechanism, K: Mechanism>(
 
 /// A turn of the server on this request, which is recorded whether or not it is refused.
 ///
-/// `Lost` comes where there was no memory for the record: then the server is as it was, and the
+/// The result is `Lost` if memory ran out for the record: then the server is as it was, and the
 /// transcript has no further turn.
 pub fn server_round<N: Mechanism, K: Mechanism, C: CredentialsProxy>(
     alloc: Global,

@@ -33,34 +33,34 @@ use std::alloc::Global;
 /// Carries the messages of a client and a server until the server has the client's credentials
 /// (MS-CSSP 3.1.5).
 ///
-/// In each of at most `limit` rounds the client makes a turn and then the server. The first turn of
-/// the client in this call takes a default request; each other turn takes the request with which
-/// the newest delivery begins, which is read to its end or to `DELIVERY_LIMIT` bytes, whichever
-/// comes first. Where the client's context asks a KDC, `kdc` is asked and the turn goes on with its
-/// reply; a call that fails goes on as `Reply::Failed`.
+/// In each of at most `limit` rounds the client makes a turn, then the server. The first turn of
+/// the client in this call takes a default request. Every other turn takes the request with which
+/// the newest delivery begins. A delivery is read to its end or to `DELIVERY_LIMIT` bytes,
+/// whichever comes first. If the client's context asks a KDC, `kdc` is asked and the turn goes on
+/// with its reply, or with `Reply::Failed` if the call fails.
 ///
-/// Ok gives the identity that the server opened, and how many turns the client made. Refused:
+/// Ok gives the identity that the server opened, and the number of the client's turns. Errors:
 ///
-/// - `Client`, `Server`: this end refused its turn, with this error. What a refusing server tells
-///   its client is carried, unless it does not fit, the link fails or there is no memory; that
-///   changes no answer.
-/// - `Read`: what was delivered to this end is no request. The kind is `UnexpectedEof` where it
-///   ends too early or its header is at fault, and else `InvalidData`.
-/// - `Write`: the message of this end has a content past `sspi_ber::MAX_CONTENT`, 1048576 octets.
+/// - `Client`, `Server`: this end refused its turn, with this error. The message of a refusing
+///   server to its client is carried, unless it does not fit, the link fails or memory runs out.
+///   The answer is the same in each case.
+/// - `Read`: what was delivered to this end is not a request. The kind is `UnexpectedEof` if it
+///   ends too early or its header is at fault, otherwise `InvalidData`.
+/// - `Write`: the content of this end's message exceeds `sspi_ber::MAX_CONTENT`, 1048576 octets.
 /// - `LinkFault`: a call on the link failed.
 /// - `TurnsSpent`: the client made `limit` turns, each was answered, and none of them ended the
-///   exchange; at once where `limit` is 0.
-/// - `InsufficientMemory`, that of an end or of the KDC among it; never in place of an end's other
-///   refusal, of a message that is too long or of turns that are spent.
+///   exchange; immediately if `limit` is 0.
+/// - `InsufficientMemory`, also that of an end or of the KDC; never in place of another refusal of
+///   an end, of `Write` or of `TurnsSpent`.
 ///
-/// The transcript lets go of the turns that it held before. Whatever the answer, it then has each
-/// turn that was made, a refused one too, and the log of the link each message that it took. Both
-/// ends are as their last turn left them. Where there was no memory for a reply of the KDC, the
-/// client waits for it in one further turn, on the request that was due, which has no record.
+/// The transcript drops the turns that it held before. Whatever the answer, it then has every turn
+/// that was made, refused ones too, and the link's log has every message that the link took. Both
+/// ends are as their last turn left them. If memory ran out for a reply of the KDC, the client has
+/// begun one further turn, on the request that was due: it waits for that reply, and the turn is
+/// not recorded.
 ///
-/// `delegates` speaks of ends to which nothing was delivered since they were made, by whatever
-/// version and least version; `accounts` and `stays` speak of every call, and `delegates` holds
-/// both.
+/// `delegates` holds of ends, made with any version and least version, to which nothing was
+/// delivered before. `accounts` and `stays` hold of every call; `delegates` includes both.
 pub fn delegate<N: Mechanism, K: Mechanism, C: CredentialsProxy, L: Link, D: Kdc>(
     alloc: Global,
     client: &mut CredSspClient<N, K>,
@@ -87,7 +87,7 @@ pub fn delegate<N: Mechanism, K: Mechanism, C: CredentialsProxy, L: Link, D: Kdc
     rounds(alloc, client, server, link, kdc, limit, transcript)
 }
 
-/// At most so many rounds: the client's turn, and the server's.
+/// At most `limit` rounds, each the client's turn and the server's.
 fn rounds<N: Mechanism, K: Mechanism, C: CredentialsProxy, L: Link, D: Kdc>(
     alloc: Global,
     client: &mut CredSspClient<N, K>,
@@ -97,7 +97,7 @@ fn rounds<N: Mechanism, K: Mechanism, C: CredentialsProxy, L: Link, D: Kdc>(
     limit: u32,
     transcript: &mut Transcript,
 ) -> Result<Delegation, DelegateError>
-    // What the answer says of the link and the turns.
+    // What the answer says about the link and the turns.
     ensures cause { transcript.old.turns ≡ [] →
         RunEnds (L.log link.old) (L.faults link.old) limit result transcript.new.turns
         (L.log link.new) (L.faults link.new) }
@@ -141,7 +141,7 @@ fn client_half<N: Mechanism, K: Mechanism, L: Link, D: Kdc>(
     kdc: &mut D,
     transcript: &mut Transcript,
 ) -> Result<(), DelegateError>
-    // Where the exchange stands.
+    // The state of the exchange.
     ensures half { (base : List Carried) (start limit : ℕ) →
         next_end transcript.old.turns ≡ End.Client → TurnLeft limit transcript.old.turns →
         Between base start transcript.old.turns (L.log link.old) (L.faults link.old) →
@@ -150,7 +150,7 @@ fn client_half<N: Mechanism, K: Mechanism, L: Link, D: Kdc>(
     ensures next { OnOk result (next_end transcript.new.turns ≡ End.Server) }
     ensures count { OnOk result (turns_of End.Client transcript.new.turns ≡ turns_of End.Client
         transcript.old.turns + 1) }
-    // What the answer says of the link.
+    // What the answer says about the link.
     ensures told { StaysTold (L.edits link.old) (L.edits link.new) (L.log link.old)
         (L.log link.new) }
     ensures failing { AnswerTold (L.edits link.old) (L.faults link.old) (L.faults link.new) result
@@ -180,14 +180,14 @@ fn client_half<N: Mechanism, K: Mechanism, L: Link, D: Kdc>(
     }
 }
 
-/// The server's half of a round; the credentials, once it has them.
+/// The server's half of a round; answers the credentials, once it has them.
 fn server_half<N: Mechanism, K: Mechanism, C: CredentialsProxy, L: Link>(
     alloc: Global,
     server: &mut CredSspServer<N, K, C>,
     link: &mut L,
     transcript: &mut Transcript,
 ) -> Result<Option<AuthIdentity>, DelegateError>
-    // Where the exchange stands.
+    // The state of the exchange.
     ensures half { (base : List Carried) (start limit : ℕ) →
         next_end transcript.old.turns ≡ End.Server →
         Between base start transcript.old.turns (L.log link.old) (L.faults link.old) →
@@ -196,7 +196,7 @@ fn server_half<N: Mechanism, K: Mechanism, C: CredentialsProxy, L: Link>(
     ensures next { OnOk result (next_end transcript.new.turns ≡ End.Client) }
     ensures count { OnOk result (turns_of End.Client transcript.new.turns ≡ turns_of End.Client
         transcript.old.turns) }
-    // What the answer says of the link.
+    // What the answer says about the link.
     ensures told { StaysTold (L.edits link.old) (L.edits link.new) (L.log link.old)
         (L.log link.new) }
     ensures failing { AnswerTold (L.edits link.old) (L.faults link.old) (L.faults link.new) result
@@ -218,7 +218,7 @@ fn server_half<N: Mechanism, K: Mechanism, C: CredentialsProxy, L: Link>(
         }
         Round::Answered(Some(identity)) => Ok(Some(identity)),
         Round::Refused(error) => {
-            // What comes of the message that tells the client changes nothing.
+            // Whether the message that informs the client is carried changes nothing.
             let _given = give(alloc, link, transcript);
             Err(server_error(error))
         }
@@ -226,7 +226,7 @@ fn server_half<N: Mechanism, K: Mechanism, C: CredentialsProxy, L: Link>(
     }
 }
 
-/// The request of the next turn: the client's first one is its own, each other one is read from the
+/// The request of the next turn: the client's first one is its own, any other one is read from the
 /// newest delivery.
 fn next_request<L: Link>(
     alloc: Global,
@@ -234,7 +234,7 @@ fn next_request<L: Link>(
     transcript: &Transcript,
     to: End,
 ) -> Result<TsRequest, DelegateError>
-    // Where the exchange stands.
+    // The state of the exchange.
     ensures ok { IfOk result (λ request. (base : List Carried) (start : ℕ) →
         Between base start transcript.now.turns (L.log link.old) (L.faults link.old) →
         Asked base start transcript.now.turns (L.log link.new) (L.faults link.new) request) }
@@ -242,7 +242,7 @@ fn next_request<L: Link>(
         next_end transcript.now.turns ≡ to → TurnLeft limit transcript.now.turns →
         Between base start transcript.now.turns (L.log link.old) (L.faults link.old) →
         Stopped base start limit error transcript.now.turns (L.log link.new) (L.faults link.new)) }
-    // What the answer says of the link.
+    // What the answer says about the link.
     ensures told { StaysTold (L.edits link.old) (L.edits link.new) (L.log link.old)
         (L.log link.new) }
     ensures link { IfErr result IsNoRefusal }
@@ -265,7 +265,7 @@ fn next_request<L: Link>(
 
 /// Carries the message of the newest turn.
 fn give<L: Link>(alloc: Global, link: &mut L, transcript: &Transcript) -> Result<(), DelegateError>
-    // Where the exchange stands.
+    // The state of the exchange.
     ensures ok { OnOk result ((base : List Carried) (start : ℕ) →
         Turned base start transcript.now.turns (L.log link.old) (L.faults link.old) →
         Between base start transcript.now.turns (L.log link.new) (L.faults link.new)) }
@@ -277,7 +277,7 @@ fn give<L: Link>(alloc: Global, link: &mut L, transcript: &Transcript) -> Result
         LoggedButLast base transcript.now.turns (L.log link.old) →
         Given base start transcript.now.turns (L.log link.new)
         (L.faults link.new) }
-    // What the answer says of the link.
+    // What the answer says about the link.
     ensures link { IfErr result IsNoRefusal }
     ensures same { OnErr result (L.log link.new ≡ L.log link.old) }
     ensures told { StaysTold (L.edits link.old) (L.edits link.new) (L.log link.old)

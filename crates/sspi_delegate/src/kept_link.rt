@@ -1,4 +1,4 @@
-//! A link over a carrier of the caller's that keeps a log of its own.
+//! A link that keeps a log of its own, over a carrier of the caller's.
 
 ghost use Rattle.std.specs.Prelude.{◌≡◌, ◌≤◌, [], length, reverse, IfOk};
 
@@ -10,10 +10,10 @@ use sspi_types::Bytes;
 use std::alloc::Global;
 use std::marker::Model;
 
-/// What moves bytes for a `KeptLink`, and tells nothing of them.
+/// What moves bytes for a `KeptLink`, and exposes nothing about them.
 ///
-/// A call that answers `Failed` counts one fault, up to the last value of the count, and no other
-/// answer counts any.
+/// A call that answers `Failed` counts one fault, up to the maximum of the count; no other answer
+/// counts any.
 pub trait Carrier: Drop {
     ghost use Rattle.std.specs.Prelude.{ℕ, List, ◌≤◌, length, IfOk, IfErr, OnOk};
     ghost use Rattle.sspi_credssp.specs.declared.turn.End.{End};
@@ -22,24 +22,24 @@ pub trait Carrier: Drop {
 
     ghost faults: { Self → ℕ };
 
-    /// What the sending of a message from an end makes of the carrier.
+    /// What sending a message from an end does to the carrier.
     ghost sends: { Self → End → List ℕ → Self → Type 0 };
 
-    /// What receiving so many bytes, the prefix of these, makes of it.
+    /// What receiving this many bytes, a prefix of these, does to the carrier.
     ghost receives: { Self → ℕ → List ℕ → Self → Type 0 };
 
-    /// What it leaves of the carrier that sending, or receiving, is refused with this error.
+    /// What a refusal of sending or receiving, with this error, does to the carrier.
     ghost refuses: { Self → LinkError → Self → Type 0 };
 
-    /// Sends a whole message from this end. What was left of the last one is not to be received any
-    /// more.
+    /// Sends a whole message from this end. What was left of the last one must no longer be
+    /// received.
     fn send(&mut self, from: End, sent: &[u8]) -> Result<(), LinkError>
         ensures sends { OnOk result (sends self.old from sent.now self.new) }
         ensures refuses { IfErr result (λ error. refuses self.old error self.new) }
         ensures cause { LinkCause (faults self.old) (faults self.new) result };
 
-    /// Writes the next bytes of the message to the prefix of `into`, and answers how many they are;
-    /// none is its end.
+    /// Writes the next bytes of the message to the prefix of `into`, and answers their number; 0 is
+    /// the end of the message.
     fn receive(&mut self, into: &mut [u8]) -> Result<usize, LinkError>
         ensures bound { IfOk result (λ count. count ≤ length into.new) }
         ensures receives { IfOk result (λ count. receives self.old count into.new self.new) }
@@ -47,8 +47,8 @@ pub trait Carrier: Drop {
         ensures cause { LinkCause (faults self.old) (faults self.new) result };
 }
 
-/// A link over a carrier, which keeps the log. A call that is refused leaves the log, and where
-/// there is no memory for the log the carrier is not asked.
+/// A link that keeps the log over a carrier. A call that is refused leaves the log unchanged. If
+/// memory runs out for the log, the carrier is not asked.
 #[derive(Drop)]
 pub struct KeptLink<R: Carrier> {
     alloc: Global,
@@ -76,7 +76,7 @@ impl<R: Carrier> KeptLink<R> {
         }
     }
 
-    /// The log, the first entry first. Takes no memory.
+    /// The log, the first entry first. Allocates nothing.
     pub fn log(&self) -> &[Carried]
         ensures { result.now ≡ reverse self.now.log }
     {

@@ -1,4 +1,4 @@
-//! What follows of every exchange. Each law is the contract of a call that does nothing.
+//! What follows from every exchange. Each law is the contract of a call that does nothing.
 
 ghost use Rattle.std.specs.Prelude.{List, ◌≡◌};
 ghost use Rattle.sspi_names.specs.declared.identity.AuthIdentity.{AuthIdentity};
@@ -9,8 +9,8 @@ ghost use Rattle.sspi_delegate.specs.Turns.{GivesNewest, ServerEnd};
 
 use sspi_mech::Mechanism;
 
-/// The server that an exchange leaves and its turns tell the identity that it opened last: one at
-/// most.
+/// The server that an exchange leaves, together with its turns, gives the identity that it opened
+/// last: at most one.
 pub fn a_run_gives_one_identity<N: Mechanism, K: Mechanism>()
     ensures { let c = either N.REQUESTS N.meaning K.meaning in
         (server : ServerEnd (SspiContext N K)) (turns : List Turn) (identity other : AuthIdentity) →

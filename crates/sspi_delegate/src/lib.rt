@@ -2,18 +2,18 @@
 //!
 //! - `delegate`: one exchange between a client and a server. `specs/Headline.antt` has what holds
 //!   of each, whatever the link delivers; `specs/Turns.antt` the turns of either end;
-//!   `specs/Log.antt` how turns and log belong together, and when each answer comes;
+//!   `specs/Log.antt` how the turns match the log, and when each answer comes;
 //!   `specs/History.antt` the calls that made the turns, and why an end refused; `specs/Chain.antt`
 //!   the steps of an end's context, turn by turn.
-//! - `client_round`, `server_round`: one turn of an end, recorded, for those who carry the messages
-//!   otherwise.
+//! - `client_round`, `server_round`: one turn of an end, recorded, for callers who carry the
+//!   messages themselves.
 //! - `Transcript`: the turns of an exchange, each with what it was given, what the end did, and how
 //!   it ended.
 //! - `Link`: carries the messages and keeps a log of what was sent and what was delivered.
-//!   `MemoryLink` delivers what was sent, but for the edits that it was given; `KeptLink` keeps the
+//!   `MemoryLink` delivers what was sent, except for the edits it was given; `KeptLink` keeps the
 //!   log over any `Carrier`. `specs/Log.antt` has the log, and `specs/Link.antt` what an edit gives
 //!   and what the calls of a link answer.
-//! - `laws`: what an exchange leaves tells one identity at most.
+//! - `laws`: what an exchange leaves gives at most one identity.
 #![tactic(auto)]
 
 pub mod answer;

@@ -1,4 +1,4 @@
-//! The log of a link in memory.
+//! The log of a link, kept in memory.
 
 ghost use Rattle.std.specs.Prelude.{◌≡◌, ◌<◌, ◌≤◌, [], ◌∷◌, length, reverse, true, IfOk, IfErr};
 ghost use Rattle.std.specs.Prelude.{OnOk, OnErr};
@@ -14,7 +14,7 @@ use crate::room::reserve_one;
 use std::alloc::{AllocError, Global};
 use std::marker::Model;
 
-/// The log of a link in memory.
+/// The log of a link, kept in memory.
 #[derive(Drop)]
 pub struct Log {
     entries: Vec<Carried>,
@@ -52,8 +52,8 @@ impl Log {
         self.entries.push_reserved(entry);
     }
 
-    /// Hands out the next bytes of `text`, at most so many, of which the newest entry has had some
-    /// already.
+    /// Writes the next bytes of `text` to `into`, at most `most` of them, after those that the
+    /// newest entry has had already.
     pub fn hand_out(
         &mut self,
         text: &[u8],
@@ -63,11 +63,11 @@ impl Log {
         // What must hold before.
         requires newest { NewestDelivers text.now self.old.entries }
         requires some { 0 < most }
-        // What was handed out.
+        // What was written.
         ensures gives { PieceGives self.old.entries self.new.entries result into.new }
         ensures within { IfOk result (λ n. n ≤ most) }
         ensures delivers { NewestDelivers text.now self.new.entries }
-        // When nothing is.
+        // When nothing was.
         ensures memory { IfErr result (λ error. error ≡ LinkError.InsufficientMemory) }
         ensures none { self.old.entries ≡ [] → (result ≡ Ok 0) × (self.new ≡ self.old) }
     {
@@ -120,7 +120,7 @@ fn hand_out(
     // What must hold before.
     requires delivers { Delivers (Some text.now) entry.old }
     requires some { 0 < most }
-    // What was handed out.
+    // What was written.
     ensures ok { IfOk result (λ n. (n ≤ length into.new) × (entry.old.ended ≡ true → n ≡ 0) ×
         (entry.new ≡ grown entry.old n into.new)) }
     ensures err { OnErr result (entry.new ≡ entry.old) }
@@ -141,7 +141,7 @@ fn hand_out(
     Ok(count)
 }
 
-/// Memory for what may come is taken before it is asked for.
+/// Memory for the bytes that may come is allocated before they are asked for.
 #[tactic(auto, using(crate::proofs::Newest::did, crate::proofs::Newest::kept))]
 fn receive<R: Carrier>(
     entry: &mut Carried,

@@ -1,4 +1,4 @@
-//! A link in memory, which delivers what was sent but for its edits.
+//! A link in memory, which delivers what was sent, except for its edits.
 
 ghost use Rattle.std.specs.Prelude.{◌≡◌, ◌<◌, [], None, Some, IfSome, max, reverse};
 
@@ -11,21 +11,21 @@ use sspi_types::Bytes;
 use std::alloc::Global;
 use std::marker::Model;
 
-/// A link in memory: it delivers what was sent, but for its edits, and it fails only where one of
+/// A link in memory: it delivers what was sent, except for its edits, and fails only where one of
 /// them says so.
 ///
-/// Where several edits name one entry, the first changes what was sent, and each further one the
-/// result so far. What no clause says: to carry a message takes time linear in it, in the number of
-/// all edits and in the bytes that this entry's edits add or give.
+/// If several edits name one entry, the first changes what was sent, and each further one the
+/// result so far. No clause says this: carrying a message takes time linear in its length, in the
+/// number of all edits and in the bytes this entry's edits add or give.
 #[derive(Drop)]
 pub struct MemoryLink {
     alloc: Global,
     edits: Vec<Edit>,
     log: Log,
-    /// What the edits give of the newest entry.
+    /// What the edits give for the newest entry.
     text: Bytes,
     faults: u64,
-    /// A piece has at most so many bytes, or one where this is 0.
+    /// The most bytes of a piece; 0 counts as 1.
     most: Option<usize>,
 }
 
@@ -79,7 +79,7 @@ impl MemoryLink {
         }
     }
 
-    /// The log, the first entry first. Takes no memory.
+    /// The log, the first entry first. Allocates nothing.
     pub fn log(&self) -> &[Carried]
         ensures { result.now ≡ reverse self.now.log }
     {

@@ -13,13 +13,13 @@ use sspi_credssp::End;
 use sspi_tsreq::{TsReader, TsRequest};
 use std::alloc::Global;
 
-/// At most so many bytes of one delivery are read: the longest message, whose header has five.
+/// The most bytes of one delivery that are read: the longest message, whose header has five bytes.
 pub const DELIVERY_LIMIT: usize = 5 + MAX_CONTENT;
 
-// A message of an exchange is some hundred bytes, and the room is cleared for each delivery.
+// A message of an exchange has some hundred bytes, and the buffer is cleared for each delivery.
 const PIECE_LENGTH: usize = 1024;
 
-/// A reader that was fed with the newest delivery, piece by piece as the link gives it, to its end
+/// A reader that was fed the newest delivery, piece by piece as the link gives it, to its end
 /// or to the limit.
 pub(crate) fn take_delivery<L: Link>(alloc: Global, link: &mut L) -> Result<TsReader, LinkError>
     ensures takes { IsUnread (L.log link.old) → TakesIn (L.log link.old) (L.log link.new) result }
@@ -45,7 +45,7 @@ pub(crate) fn take_delivery<L: Link>(alloc: Global, link: &mut L) -> Result<TsRe
     Ok(reader)
 }
 
-/// How many bytes are asked for, once so many were taken.
+/// How many bytes to ask for, once `taken` bytes were taken.
 fn most_at(taken: usize) -> usize
     requires { taken < DELIVERY_LIMIT }
     ensures some { 0 < result }

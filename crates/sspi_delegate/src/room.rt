@@ -1,10 +1,10 @@
-//! Room for one more element, taken before anything else changes.
+//! Room for one more element, reserved before anything else changes.
 
 ghost use Rattle.std.specs.Prelude.{◌≡◌, ◌<◌, ◌-◌, vec_len, vec_capacity, OnOk};
 
 use std::alloc::AllocError;
 
-// What most exchanges come to is taken with the first entry.
+// Room for what most exchanges need is reserved with the first entry.
 const USUAL: usize = 8;
 
 // Makes room for one more entry.

@@ -11,7 +11,7 @@ use sspi_types::Bytes;
 use std::alloc::{AllocError, Global};
 use std::marker::Model;
 
-/// The turns of an exchange, in their order.
+/// The turns of an exchange, in order.
 #[derive(Drop)]
 pub struct Transcript {
     turns: Vec<Turn>,
@@ -30,7 +30,7 @@ impl Model for Transcript {
 }
 
 impl Transcript {
-    /// A transcript without turns. Takes no memory.
+    /// A transcript without turns. Allocates nothing.
     pub fn new(alloc: Global) -> Transcript
         ensures { result.turns ≡ [] }
     {
@@ -39,7 +39,7 @@ impl Transcript {
         }
     }
 
-    /// Lets go of all turns. What no clause says: their room stays.
+    /// Drops all turns. No clause says this: their room stays reserved.
     pub fn clear(&mut self)
         ensures { self.new.turns ≡ [] }
     {
@@ -76,21 +76,21 @@ impl Transcript {
         self.turns.push_reserved(turn);
     }
 
-    /// The turns, the first one first. Takes no memory.
+    /// The turns, the first one first. Allocates nothing.
     pub fn turns(&self) -> &[Turn]
         ensures { result.now ≡ reverse self.now.turns }
     {
         &self.turns
     }
 
-    /// The turns themselves, the first one first. Takes no memory.
+    /// The turns themselves, the first one first. Allocates nothing.
     pub fn into_turns(self) -> Vec<Turn>
         ensures { result.items ≡ reverse self.turns }
     {
         self.turns
     }
 
-    /// The last turn. Takes no memory.
+    /// The last turn. Allocates nothing.
     pub fn newest(&self) -> Option<&Turn>
         ensures { option_copied result ≡ slice_get self.now.turns 0 }
     {

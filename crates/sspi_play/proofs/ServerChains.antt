@@ -1,4 +1,4 @@
--- A server's context, after its turns: once it has made or verified a MIC, it keeps a list that it
+-- A server's context, after its turns: once it made or verified a MIC, it keeps a list that it
 -- was given, and has selected the mechanism that it picks from that.
 use Rattle.std.proofs.Common.{◌≡◌, ℕ, Bool, true, false, List, [], ◌∷◌, map, Option, None, Some, Result, Err}
 use Rattle.std.proofs.Common.{refl, sym, ◌∙◌, ap, subst}
