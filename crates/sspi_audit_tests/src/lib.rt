@@ -1,7 +1,7 @@
 //! Tests of the auditor on recorded exchanges that were changed in one place.
 //!
-//! `audit` stands in `sspi_audit`, which is then proved once: a crate with tests is proved with
-//! them and without.
+//! `audit` is in `sspi_audit`, which is thus proved once: a crate with tests is proved both with
+//! and without them.
 #![tactic(auto)]
 
 #[cfg(test)]

@@ -3,8 +3,8 @@
 use crate::tests::ntlm::EXCHANGE;
 use crate::tests::records::are_judged;
 
-/// A delivery is taken to its end or to 1048581 bytes and no further: at so many the rest may be
-/// anything, and below it is not taken.
+/// A delivery is taken to its end or to 1048581 bytes and no further. After its request, one of
+/// that length may have any rest; a shorter one must have ended.
 const DELIVERIES: &str = "\
 yes4 012345 abcde a.delivered=A+00*1048562
 yes4 012345 abcde a.delivered=A+00*1048562 a.ended=no

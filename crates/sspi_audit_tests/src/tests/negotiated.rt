@@ -70,7 +70,7 @@ G 301ca003020104a31504131807f95449f293cad6b71173246adcef020203
 H 3042a003020104a23b0439a5410dbaf6a0ebe3683e10cab62877af3027a003020101a120041e301ca008040644004f004d00a108040661006e006e00a2060404\
 70007700";
 
-/// What is found at either version.
+/// The verdicts at either version.
 const BOTH: &str = "\
 yes6 01234567 abcdefg
 yes- 0123 abc
@@ -93,12 +93,12 @@ no5 012345 abcde 5.outcome=InvalidToken 5.message=E;nego=-;code=c0070308
 no5 01234567 abcdefg 5.message=G;nego=00
 no4 01234 abcd 4.message=E;nonce=-";
 
-/// At version 6 alone.
+/// At version 6 only.
 const NEW: &str = "\
 no5 012345 abcd 5.given=E;nonce=- 5.message=G;nonce=-
 no4 01234 abcde 4.message=E;nonce=1";
 
-/// At version 4 alone.
+/// At version 4 only.
 const BELOW: &str = "\
 no6 012345 abcd 5.given=E;nonce=- 5.message=G;nonce=-
 no6 012345 abcd 5.given=E;nonce=1 5.message=G;nonce=1

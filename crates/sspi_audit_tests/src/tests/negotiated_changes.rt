@@ -4,7 +4,7 @@
 use crate::tests::negotiated::{EXCHANGE, OLD};
 use crate::tests::tables::{Whole, entries_are_judged, orders_are_judged, turns_are_judged};
 
-/// What is found at version 6 and at 4.
+/// The verdicts at version 6 and at 4.
 const TURNS: &str = "\
 end =client            | .  1  .  3  .  5  .  7 | .  1  .  3  .  5  .  7
 end =server            | 0  .  2  .  4  .  6  . | 0  .  2  .  4  .  6  .
@@ -60,14 +60,14 @@ both ;code=0           | 0  1  2  3  4  5  6  . | 0  2  3  4  5  6  7  .
 both ;code=c0000022    | 0  1  2  3  4  5  6  . | 0  2  2  4  4  6  6  .
 both ;nonce=1          | 0  1  2  3  4  5  6  . | 0  2  3  4  5  6  7  .";
 
-/// At version 6 alone.
+/// At version 6 only.
 const WITH_NONCES: &str = "\
 given ;nonce=-   | .  .  .  .  .  5  6  7 | .  .  .  .  .  5  6  8
 message ;nonce=- | .  .  .  .  4  5  6  . | .  .  .  .  4  5  6  .
 message ;nonce=1 | 0  1  2  3  4  5  6  . | 0  1  2  3  5  5  6  .
 both ;nonce=-    | .  .  .  .  4  5  6  . | .  .  .  .  4  5  7  .";
 
-/// At version 4 alone.
+/// At version 4 only.
 const WITHOUT_NONCES: &str = "\
 message ;nonce=- | .  .  .  .  4  .  .  . | .  .  .  .  4  .  .  .
 message ;nonce=1 | 0  1  2  3  y6 5  6  . | 0  1  2  3  5  5  6  .

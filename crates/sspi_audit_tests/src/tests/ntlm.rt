@@ -3,11 +3,12 @@
 use crate::tests::records::are_judged;
 
 /// DOM\ann with the password pw over the channel of the key 010203, both ends at version 6, nonce
-/// and challenge of zeros: the report of this exchange has its messages. `h` and `n` stand before
-/// and behind 1048525 octets of credentials in a message that is as long as one may be. `U` is `D`
-/// with the `errorCode` `[4]` behind `pubKeyAuth` (MS-CSSP 2.2.1), `V` is `D` of version 5, `W` is
-/// `C` without its nonce, `X` is `C` of version 5, and `Y` is the error request that answers `C`
-/// where it was altered.
+/// and challenge of zeros: the report of this exchange has its messages. `h` and `n` are what comes
+/// before and after 1048525 octets of credentials in a message of the greatest length. `U` is `D`
+/// with the `errorCode` `[4]` after `pubKeyAuth` (MS-CSSP 2.2.1). `V` is `D` of version 5, `W` is
+/// `C` without its nonce, and `X` is `C` of version 5. `Y` is the error request that answers an
+/// altered `C`.
+/// altered `C`.
 pub const EXCHANGE: &str = "\
 0 end=client given=F acts=step,continue output=4e31 outcome=reply message=A
 1 end=server given=A acts=step,continue output=4e320000000000000000 outcome=reply message=B
@@ -47,7 +48,7 @@ X 308192a003020105a1333031302fa02d042b4e330700444f4d5c616e6e34ddc90ba7ffb071634b
 Y 3065a003020106a3320430507e00ce75d8eebf639da627511157b3e1e0e7bbbd1efcbe459a5253b2f0839a676027203f86155c53b75ceb87f89c4ca4060204\
 c007030fa52204200000000000000000000000000000000000000000000000000000000000000000";
 
-/// As it is, its beginnings, and turns and entries that are missing, doubled or swapped.
+/// As it is, its prefixes, and turns and entries that are missing, doubled or swapped.
 const WHOLE: &str = "\
 yes4 012345 abcde
 yes- 01 a
@@ -144,7 +145,7 @@ no1 01 a 1.message=B;proof=00
 no1 01 a 1.message=B;code=c0000022
 no1 01 a 1.message=B;nonce=0";
 
-/// The client's turn that proves. Where its entry is missing, its message is not looked for there.
+/// The client's turn that proves. If its entry is missing, its message is not looked for there.
 const THIRD: &str = "\
 no2 012345 abcde 2.end=server
 no2 012345 abcde 2.given=B;version=5
@@ -239,7 +240,7 @@ yes- 01 a 1.outcome=LogonDenied 1.message=A;nego=-;code=c007030c
 yes- 01 a 1.outcome=LogonDenied 1.message=A;nego=-;code=c007030c;version=9
 no1 01 a 1.outcome=LogonDenied 1.message=A;code=c007030c";
 
-/// The turns that hand the credentials over.
+/// The turns that hand over the credentials.
 const LAST: &str = "\
 no4 012345 abcde 4.end=server
 no5 01234 abc

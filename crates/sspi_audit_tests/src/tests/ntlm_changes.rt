@@ -1,7 +1,7 @@
 //! Each field of each turn and entry of exchanges by plain NTLM, changed by itself.
 //!
-//! The verdicts were found apart from this program, by the rules of the turns that docs/WIRE.md and
-//! the definitions of an auditor state.
+//! The verdicts were found independently of this program, by the rules for turns in docs/WIRE.md
+//! and in the definitions of an auditor.
 
 use crate::tests::ntlm::EXCHANGE;
 use crate::tests::tables::{Whole, entries_are_judged, orders_are_judged, turns_are_judged};
@@ -54,7 +54,7 @@ C 306ea003020104a1333031302fa02d042b4e330700444f4d5c616e6e34ddc90ba7ffb071634b46
 D 3041a003020106a3320430507e00ce75d8eebf639da627511157b3e1e0e7bbbd1efcbe459a5253b2f0839a676027203f86155c53b75ceb87f89c4ca4060204\
 c007030f";
 
-/// What is found at version 6 and below 5.
+/// The verdicts at version 6 and below 5.
 const TURNS: &str = "\
 end =client            | .  1  .  3  .  5 | .  1  .  3  .  5
 end =server            | 0  .  2  .  4  . | 0  .  2  .  4  .
@@ -110,20 +110,20 @@ both ;code=0           | 0  1  2  3  4  . | 0  2  3  4  5  .
 both ;code=c0000022    | 0  1  2  3  4  . | 0  2  2  4  4  .
 both ;nonce=1          | 0  1  2  3  4  . | 0  2  3  4  5  .";
 
-/// At version 6 alone.
+/// At version 6 only.
 const WITH_NONCES: &str = "\
 given ;nonce=-   | .  .  .  3  4  5 | .  .  .  3  4  6
 message ;nonce=- | .  .  2  3  4  . | .  .  2  3  4  .
 message ;nonce=1 | 0  1  2  3  4  . | 0  1  3  3  4  .
 both ;nonce=-    | .  .  2  3  4  . | .  .  2  3  5  .";
 
-/// Below 5 alone.
+/// Below 5 only.
 const WITHOUT_NONCES: &str = "\
 message ;nonce=- | .  .  2  .  .  . | .  .  2  .  .  .
 message ;nonce=1 | 0  1  y4 3  4  . | 0  1  3  3  4  .
 both ;nonce=-    | .  .  2  .  .  . | .  .  2  .  .  .";
 
-/// Of the two versions that do not match.
+/// For the two versions that do not match.
 const MIXED_TURNS: &str = "\
 end =client            | .  1  .  3 | .  1  .  3
 end =server            | 0  .  2  . | 0  .  2  .

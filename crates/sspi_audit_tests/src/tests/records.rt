@@ -1,9 +1,9 @@
-//! Records told by lines of text, and what an auditor finds of them once they were changed.
+//! Records as lines of text, and what an auditor finds of them once they are changed.
 //!
 //! Each line of an exchange has a name: `A` to `H` are messages and `s` and `l` blobs, in hex; `0`
-//! to `9` are turns and `a` to `g` entries of the log. Octets are a name or hex, where `~` behind a
-//! name alters the last octet, `*` repeats so often and `+` adds what follows. A request is the
-//! name of a message, with changes of its fields behind `;`. An act behind `!` is taken away again.
+//! to `9` are turns and `a` to `g` entries of the log. Octets are a name or hex: `~` after a name
+//! alters the last octet, `*` and a number repeat it, and `+` adds what follows. A request is the
+//! name of a message, with changes of its fields after `;`. An act after `!` is taken away again.
 //!
 //! A case is the verdict, the turns and the entries by their names, and what is changed in these,
 //! as `4.acts=checked`. A case of both calls has the verdict of `audit` and then that of
@@ -36,7 +36,7 @@ pub fn told<T>(rt: &impl Abort, answer: Option<T>) -> T {
     }
 }
 
-/// What stands before and behind a mark.
+/// What precedes and what follows a mark.
 pub fn halves<'a>(rt: &impl Abort, text: &'a str, mark: &str) -> (&'a str, &'a str) {
     told(rt, text.split_once(mark))
 }
@@ -90,7 +90,7 @@ fn field<'a>(rt: &impl Abort, record: Record<'a>, name: char, key: &str) -> &'a 
     }
 }
 
-/// The hex that has this name, which else is hex itself.
+/// The hex that has this name; without one, the name is itself hex.
 fn digits<'a>(exchange: &'a str, name: &'a str) -> &'a str {
     for line in exchange.lines() {
         if let Some((found, digits)) = line.split_once(' ') {
@@ -210,7 +210,7 @@ fn act(rt: &impl Abort, acts: &mut Acts, name: &str) {
     }
 }
 
-/// The acts of these names; `-` is none.
+/// The `Acts` of these names; `-` is none.
 fn acts(rt: &impl Abort, names: &str) -> Acts {
     let mut acts = Acts {
         status: None,
@@ -319,7 +319,7 @@ fn first(line: &str) -> (&str, &str) {
     }
 }
 
-/// That each change is one of a field which its line has.
+/// Checks that each change is to a field that its line has.
 fn change_fields(rt: &impl Abort, record: Record<'_>) {
     for change in record.changes.split(' ') {
         if !change.is_empty() {
@@ -339,7 +339,7 @@ pub fn found(rt: &impl Test, record: Record<'_>, turn_names: &str, entry_names: 
     given(rt, audit(rt.alloc(), &turns, &log))
 }
 
-/// The verdicts of `audit` and of `audit_run` on the same.
+/// The verdicts of `audit` and of `audit_run` on the same record.
 fn both_found(
     rt: &impl Test,
     record: Record<'_>,

@@ -1,4 +1,4 @@
-//! What `audit_run` asks beside what `audit` does, on the exchange of `ntlm` and on those of
+//! What `audit_run` checks in addition to `audit`, on the exchange of `ntlm` and on those of
 //! `negotiated`, changed by hand.
 //!
 //! `U` to `Y` of that exchange are encoded by hand from its own messages.
@@ -7,8 +7,8 @@ use crate::tests::negotiated;
 use crate::tests::ntlm::EXCHANGE;
 use crate::tests::records::are_judged_by_both;
 
-/// Records that no exchange leaves, of which `audit` does not ask: a client that was told an error,
-/// or another version, and opened the proof and sealed its credentials all the same; one that
+/// Records that no exchange leaves, which `audit` does not check for: a client that was told an
+/// error, or another version, and still opened the proof and sealed its credentials; one that
 /// sealed them, or its own proof, and was refused; a token without a step; and a last delivery of
 /// which 1048582 bytes were taken, ended or not.
 const LEFT_BY_NONE: &str = "\
@@ -23,7 +23,7 @@ yes4 no4 012345 abcde 4.output=00
 yes4 no5 01234 abcde e.delivered=E+00*1048478
 yes4 no5 01234 abcde e.delivered=E+00*1048478 e.ended=no";
 
-/// The same where the client did nothing, or as much as it may; and deliveries of 1048581 bytes and
+/// The same if the client did nothing, or only what it may; and deliveries of 1048581 bytes and
 /// fewer.
 const NEXT_TO_THEM: &str = "\
 yes- yes- 01234 abcd 4.given=U 4.acts=- 4.outcome=InvalidToken 4.message=- d.delivered=U
@@ -39,7 +39,7 @@ yes4 yes4 01234 abcde e.delivered=E+00*1048477 e.ended=no
 yes4 yes4 01234 abcde e.delivered= e.ended=no
 yes4 yes4 01234 abcde";
 
-/// What two ends left, whole and up to each turn.
+/// What two ends leave, whole and up to each turn.
 const LEFT_BY_TWO: &str = "\
 yes4 yes4 012345 abcde
 yes4 yes4 01234 abcd
@@ -76,8 +76,8 @@ yes- yes- 012 ab 2.acts=step 2.output= 2.outcome=LogonDenied 2.message=-
 yes- yes- 012 ab 2.acts=step,ok 2.outcome=LogonDenied 2.message=-
 yes- yes- 012 ab 2.acts=step,ok 2.outcome=InsufficientMemory 2.message=-";
 
-/// A server's refusals: by its acts, its version in the error request, and what was taken of that,
-/// which no end reads.
+/// A server's refusals: by its effects, its version in the error request, and what was taken of
+/// that request, which no end reads.
 const SERVER_REFUSALS: &str = "\
 yes- yes- 0123 abc 3.acts=step,complete,checked 3.outcome=MessageAltered 3.message=C;nego=-;code=c007030f
 yes- yes- 0123 abcd 3.acts=step,complete,checked 3.outcome=MessageAltered 3.message=C;nego=-;code=c007030f d.sent=Y d.delivered= d.ended=no

@@ -1,14 +1,14 @@
 //! Tables of changes: a row is one change, a column a turn or an entry of an exchange that was
 //! recorded whole, in which that change alone is made.
 //!
-//! A row is a field and what becomes of it: `;`, `,`, `+` or `~` behind the field is added to what
-//! it has, as in `records`, and `=` stands in its place. `both` changes what a turn was given and
-//! its message, and `bare` makes the turn a refusal without one. A cell is the number of the turn
-//! at fault, `y` with the number of the turn that sealed, if there is one, or a dot where the
-//! change changes nothing or cannot be made.
+//! A row is a field and its change: what begins with `;`, `,`, `+` or `~` is added to what the
+//! field has, as in `records`, and what follows `=` replaces it. `both` changes what a turn was
+//! given and its message, and `bare` makes the turn a refusal without one. A cell is the number of
+//! the turn at fault, or `y` with the number of the turn that sealed, if there is one. A dot means
+//! that the change changes nothing or cannot be made.
 //!
-//! Turns have two groups of cells. For the first all is recorded. For the second nothing later is,
-//! nor what the turn was given and sent, so that it is judged by its own fields: where these are
+//! Turns have two groups of cells. For the first, all is recorded. For the second, nothing later
+//! is, nor what the turn was given and sent, so that it is judged by its own fields. If these are
 //! right, the number is that of the next turn, since an entry is missing.
 
 use crate::tests::records::{Record, Test, found, given, halves, told, unchanged};
@@ -22,7 +22,7 @@ pub struct Whole<'a> {
     pub entries: &'a str,
 }
 
-/// A field of a line with what is added to it or stands in its place.
+/// A field of a line with what is added to it or replaces it.
 fn change(rt: &impl Test, exchange: &str, name: char, field: &str, how: &str) -> String {
     match how.strip_prefix("=") {
         Some(value) => given(rt, format!(in rt.alloc(); "{name}.{field}={value}")),
@@ -57,7 +57,7 @@ fn verdict(rt: &impl Test, cell: &str) -> Verdict {
     }
 }
 
-/// So many names from the first on.
+/// The first `count` names.
 fn first_names(rt: &impl Test, names: &str, count: usize) -> String {
     let mut first = String::new(rt.alloc());
     for (place, name) in names.chars().enumerate() {
@@ -89,8 +89,7 @@ fn is_judged(
     );
 }
 
-/// The cells of a row, of which those that are no dot are counted; each is judged with all that was
-/// recorded.
+/// The cells of a row, each judged with all that was recorded; counts those that are not dots.
 fn row_of_all(rt: &impl Test, whole: Whole<'_>, names: &str, row: &str, cells: &str) -> u32 {
     let mut seen = 0u32;
     for (name, cell) in names.chars().zip(cells.split_whitespace()) {
@@ -110,7 +109,7 @@ fn row_of_all(rt: &impl Test, whole: Whole<'_>, names: &str, row: &str, cells: &
     seen
 }
 
-/// The same with the turns up to each, and the entries of those before the one before it.
+/// The same with the turns up to each, and the entries of the turns before the one before it.
 fn row_of_each(rt: &impl Test, whole: Whole<'_>, row: &str, cells: &str) -> u32 {
     let mut seen = 0u32;
     let named = whole.turns.chars().zip(cells.split_whitespace());
@@ -125,7 +124,7 @@ fn row_of_each(rt: &impl Test, whole: Whole<'_>, row: &str, cells: &str) -> u32 
     seen
 }
 
-/// Each row of a table of turns, which has so many cells that are no dot.
+/// Each row of a table of turns, which has `count` cells that are not dots.
 pub fn turns_are_judged(rt: &impl Test, whole: Whole<'_>, rows: &str, count: u32) {
     let mut seen = 0u32;
     for line in rows.lines() {
@@ -148,7 +147,7 @@ pub fn entries_are_judged(rt: &impl Test, whole: Whole<'_>, rows: &str, count: u
     assert_eq!(rt; seen, count);
 }
 
-/// The names without the one at this place, with it twice, or with it behind the next.
+/// The names without the one at this place, with it twice, or with it after the next.
 fn reordered(rt: &impl Test, names: &str, place: usize, how: &str) -> String {
     let mut ordered = String::new(rt.alloc());
     let mut kept = None;
@@ -194,7 +193,7 @@ fn order_is_judged(rt: &impl Test, whole: Whole<'_>, row: &str, place: usize, ce
 }
 
 /// Each row of a table whose columns are places: `turns` or `entries`, and `missing`, `doubled` or
-/// `swapped` for what is so at each of them.
+/// `swapped` for what is done at each of them.
 pub fn orders_are_judged(rt: &impl Test, whole: Whole<'_>, rows: &str, count: u32) {
     let mut seen = 0u32;
     for line in rows.lines() {

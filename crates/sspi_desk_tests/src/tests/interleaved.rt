@@ -1,4 +1,4 @@
-//! Three sessions of three calls each, in every order that keeps each session's own.
+//! Three sessions of three calls each, in every order that keeps that of each session.
 
 use crate::tests::messages::octets;
 use crate::tests::stage::{Answer, NtlmDesk, Test, given, is_answer, lend, server};

@@ -29,8 +29,8 @@ fn digits<'a>(name: &'a str) -> &'a str {
     name
 }
 
-/// The message of this name, or these hexadecimal digits. Behind `+` comes a length: a message of
-/// version 6 with these fields and an `authInfo` of so many zeros.
+/// The message of this name, or these hexadecimal digits. A length follows `+`: a message of
+/// version 6 with these fields and an `authInfo` of that many zeros.
 pub(crate) fn octets(rt: &impl Test, words: &str) -> Vec<u8> {
     match words.split_once('+') {
         Some((fields, length)) => with_zeros(rt, fields, given(rt, length.parse())),

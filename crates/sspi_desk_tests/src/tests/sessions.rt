@@ -4,7 +4,7 @@ use crate::tests::messages::octets;
 use crate::tests::stage::{NtlmDesk, Test, given, is_answer, lend, server, was_there};
 use sspi_desk::{Desk, Turned, Why};
 
-/// Numbers are handed out in order and never again, and a full desk hands a server back.
+/// Numbers are given out in order and never again, and a full desk hands a server back.
 const ADMITTED: &str = "\
 kept 0
 admitted 0
@@ -36,7 +36,7 @@ admit 4
 serve 4 A says B
 admitted 5";
 
-/// What a session is sent changes no other.
+/// What a session is sent changes no other session.
 const SERVED: &str = "\
 admit 0
 admit 1

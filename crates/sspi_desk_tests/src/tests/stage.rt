@@ -1,7 +1,7 @@
 //! Servers of plain NTLM, and what they answer, in words.
 //!
-//! An answer is `says MESSAGE`, `length BYTES`, `finished`, `none`, `eof`, `data`, `long`, or a
-//! kind of refusal with the message that tells it, where that is short enough.
+//! An answer is `says MESSAGE`, `length BYTES`, `finished`, `none`, `eof`, `data` or `long`.
+//! Otherwise it is a kind of refusal with the message that reports it, if that is short enough.
 
 use crate::tests::messages::octets;
 use sspi_ber::WireKind;
@@ -31,8 +31,8 @@ pub(crate) fn given<T, E: Drop>(rt: &impl Abort, answer: Result<T, E>) -> T {
     }
 }
 
-/// Lends a value, and drops it then. Generic, since to drop a value of a type parameter is one step
-/// of a proof, and to drop an end is many.
+/// Lends a value, and then drops it. Generic, since dropping a value of a type parameter is one
+/// step of a proof, and dropping an end is many.
 pub(crate) fn lend<A: Drop, R, F: FnOnce(&mut A) -> R>(value: A, act: F) -> R
     requires { F.IsAlwaysCallable act }
 {

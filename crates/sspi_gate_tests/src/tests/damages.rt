@@ -22,14 +22,14 @@ const EXCHANGE: &str = "\
 
 const COUNT: usize = 5;
 
-/// What stands in the place of a request.
+/// What replaces a request.
 #[derive(Clone, Copy)]
 struct Damage<'a> {
     place: usize,
     octets: &'a [u8],
     fault: &'a str,
-    /// Its header announces just the content that follows, so this end's later requests may stand
-    /// behind it.
+    /// Its header announces just the content that follows, so this end's later requests may come
+    /// after it.
     is_whole: bool,
 }
 
@@ -41,7 +41,7 @@ fn end_of(place: usize) -> End {
     }
 }
 
-/// What a relay answers: where nothing at all comes in its place, the stream is at its end.
+/// What a relay answers: if nothing at all replaces the request, the stream is at its end.
 fn answer(damage: Damage<'_>) -> Option<Answer> {
     let passed = damage.place as u64;
     let end = end_of(damage.place);
@@ -102,8 +102,8 @@ fn stream(rt: &impl Abort, alloc: Global, end: End, damage: Damage<'_>) -> Vec<u
     stream
 }
 
-/// All before the damage is handed on as it came, and nothing of it or of what follows; what
-/// follows is not taken either.
+/// All before the damage is handed on unchanged, and nothing of it or of what follows; what follows
+/// is not taken either.
 fn stops(rt: &impl Abort, alloc: Global, damage: Damage<'_>) {
     let client = stream(rt, alloc, End::Client, damage);
     let server = stream(rt, alloc, End::Server, damage);
@@ -122,7 +122,7 @@ fn stops(rt: &impl Abort, alloc: Global, damage: Damage<'_>) {
     }
 }
 
-/// The same octets in the place of each request.
+/// The same octets in place of each request.
 fn each_stops(rt: &impl Abort, alloc: Global, fault: &str, octets: &[u8], is_whole: bool) {
     for place in 0..COUNT {
         let damage = Damage {
@@ -135,7 +135,7 @@ fn each_stops(rt: &impl Abort, alloc: Global, fault: &str, octets: &[u8], is_who
     }
 }
 
-/// A content stands inside its SEQUENCE, which is whole.
+/// A content is put inside a SEQUENCE, which is whole.
 fn case(rt: &impl Abort, alloc: Global, fault: &str, octets: &[u8], is_content: bool) {
     if is_content {
         let mut request = Vec::new(alloc);
@@ -151,7 +151,7 @@ fn case(rt: &impl Abort, alloc: Global, fault: &str, octets: &[u8], is_content: 
     }
 }
 
-/// The digits stand in pairs.
+/// The digits are in pairs.
 fn pairs(rt: &impl Abort, alloc: Global, digits: &str) -> Vec<u8> {
     let mut octets = Vec::new(alloc);
     for pair in digits.split(' ') {
@@ -160,7 +160,7 @@ fn pairs(rt: &impl Abort, alloc: Global, digits: &str) -> Vec<u8> {
     octets
 }
 
-/// Each line of a text, of which there are so many.
+/// Each line of a text that has `count` cases.
 fn cases(rt: &impl Abort, alloc: Global, text: &str, count: u32, is_content: bool) {
     let mut seen = 0u32;
     for line in text.lines() {

@@ -18,8 +18,8 @@ fn front(len: usize) -> &'static [u8] {
     THREE.split_at(len.min(THREE.len())).0
 }
 
-/// The client's stream is cut: whole requests are handed on, and what is left of the next has
-/// ended.
+/// The client's stream is cut: whole requests are handed on, and what is left of the next, if
+/// anything, ends too early.
 fn client_cut(rt: &impl Abort, alloc: Global, len: usize)
     requires { len < 21 }
 {
@@ -42,7 +42,7 @@ fn client_cut(rt: &impl Abort, alloc: Global, len: usize)
     );
 }
 
-/// The same of the server's.
+/// The same for the server's.
 fn server_cut(rt: &impl Abort, alloc: Global, len: usize)
     requires { len < 21 }
 {

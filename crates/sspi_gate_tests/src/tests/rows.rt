@@ -1,4 +1,4 @@
-//! One line a relay: the client's stream, the server's, the turns, the answer, and how many bytes
+//! One line per relay: the client's stream, the server's, the turns, the answer, and how many bytes
 //! of each stream are written on.
 
 use crate::tests::words::{answer, relays, unmade};
@@ -82,7 +82,7 @@ fn case(
     }
 }
 
-/// Each line of a text, of which there are so many.
+/// Each nonempty line of a text, of which there are `count`.
 fn rows(rt: &impl Abort, alloc: Global, text: &str, count: u32) {
     let mut seen = 0u32;
     for row in text.lines() {
@@ -115,7 +115,7 @@ const CLOSED: &str = "
 ";
 
 /// Requests in longer forms than they need, with a tail, and at the edge of their fields: each is
-/// written as it came.
+/// written unchanged.
 const SPELLED: &str = "
 308105a003020106 / 3005a003020106 / 1 / 2 spent / 8 7
 3005a003020106 / 30820005a003020106 / 1 / 2 spent / 7 9
@@ -160,7 +160,7 @@ const DAMAGED: &str = "
 3005a003020106 / 300ba003020106a50404020000 / 1 / 1 bad server data / 7 0
 ";
 
-/// The exchange of an NTLM delegation, with what came in place of its answers.
+/// The exchange of an NTLM delegation, with what came instead of its answers.
 const EXCHANGES: &str = "
 3011a003020106a10a30083006a00404024e31 / 300da003020106a4060204c0070308 / 5 / 2 refused c0070308 / 19 15
 3011a003020106a10a30083006a00404024e313005a003020106 / 3019a003020106a1123010300ea00c040a4e320000000000000000 / 5 / 3 ended server / 26 27

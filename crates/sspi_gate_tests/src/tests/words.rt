@@ -16,7 +16,7 @@ pub(crate) fn stopped(passed: u64, why: GateFault) -> Answer {
     Err(GateError { passed, why })
 }
 
-/// The word or number is none.
+/// A word or number could not be read, or memory ran out.
 pub(crate) fn unmade(rt: &impl Abort) {
     assert!(rt; false);
 }
@@ -70,8 +70,8 @@ pub(crate) fn answer(words: &str) -> Option<Answer> {
     }
 }
 
-/// A relay of these two streams gives this answer, and so many bytes of each stream are written and
-/// taken at least. What is left of the streams has the lengths that this gives, the client's first.
+/// A relay of these two streams gives this answer, writes this many bytes of each, and takes at
+/// least as many. Returns the lengths of what is left of the streams, the client's first.
 pub(crate) fn relays(
     rt: &impl Abort,
     alloc: Global,
@@ -107,7 +107,7 @@ fn is_front(rt: &impl Abort, front: &[u8], stream: &[u8], len: usize) {
     assert!(rt; stream.starts_with(front));
 }
 
-/// No byte behind the requests that were handed on is taken, but of a request at fault.
+/// No byte after the requests that were handed on is taken, except of a request at fault.
 fn left_only(rt: &impl Abort, answer: Answer, rest: &[u8], stream: &[u8], taken: usize, end: End) {
     if !is_fault_of(answer, end) {
         assert_eq!(rt; rest.len(), stream.len().wrapping_sub(taken));
