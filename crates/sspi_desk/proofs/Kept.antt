@@ -1,4 +1,4 @@
--- What a change of the map makes of a desk.
+-- How a change of the map changes a desk.
 use Rattle.std.proofs.Common.{◌≡◌, ℕ, ◌+◌, ◌<◌, List, [], length, Option, None, Some, Result, refl, sym, ap, ◌∙◌, subst, arith}
 use Rattle.std.specs.Prelude.{IsSome, nat_eq, Bool, true, false, cond}
 use Rattle.std.specs.Map.{lookup}
@@ -56,7 +56,7 @@ module _ {X : Type 0} where
   }
 
 module _ {C P : Type 0} where
-  -- a session more
+  -- one more session
   pub admitted_more : (server : ServerView C P) (limit admitted : ℕ) (old new : List (ℕ × ServerView C P)) → IsOrderly limit admitted old →
       length old < limit → length new ≡ length old + 1 →
       ((q : ℕ) → lookup (nat_eq q) new ≡ cond (nat_eq admitted q) (Some server) (lookup (nat_eq q) old)) →

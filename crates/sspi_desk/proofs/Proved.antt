@@ -84,7 +84,7 @@ module _ {C P : Type 0} (c : Meaning ContextSetting C) (p : ProxyMeaning P) wher
       inl (same_early old.state new.state (ap (λ (x : ServerView C P). x.state) h.1) early)
   once_served old bytes (Err InsufficientMemory) new (inr h) early = taken old bytes h.0 new h.1 early
 
-  -- one call more at the head
+  -- one more call at the head
   one_more : (first mid now : ServerView C P) (bytes : List ℕ) (answer : Result Served DeskError) (calls : List (List ℕ))
       (answers : List (Result Served DeskError)) → IsServed c p first bytes answer mid → ProvesIn c p mid calls answers now →
       ProvesIn c p first (bytes ∷ calls) (answer ∷ answers) now
@@ -140,7 +140,7 @@ module _ {C P : Type 0} (c : Meaning ContextSetting C) (p : ProxyMeaning P) wher
         | inr proved ↦ this_one first alone.0 now bytes answer calls answers alone.1 proved alone.2
       ]
 
-  -- a session that finished waited for credentials
+  -- a session that finished had waited for credentials
   pub finished_after : (first old new : ServerView C P) (calls : List (List ℕ)) (answers : List (Result Served DeskError))
       (bytes : List ℕ) (identity : AuthIdentity) → first.state ≡ NegoToken → Alone c p first calls answers old →
       IsServed c p old bytes (Ok (served.Finished identity)) new → ProvesIn c p first calls answers old

@@ -1,4 +1,4 @@
--- What a server's answer to bytes is, by what its turn came to.
+-- What a server answers to bytes, by the result of its turn.
 use Rattle.std.proofs.Common.{◌≡◌, ◌≢◌, ℕ, inr, List, Option, Err, refl, sym, subst}
 use Rattle.sspi_types.specs.declared.error.Error.{Error}
 use Rattle.sspi_types.specs.declared.error_kind.ErrorKind.TheVariants as kinds
@@ -26,7 +26,7 @@ unread bytes wire.WriteFault other h = absurd h
 unread bytes wire.InsufficientMemory other h = absurd (other refl)
 
 module _ {C P : Type 0} (c : Meaning ContextSetting C) (p : ProxyMeaning P) where
-  -- of a turn that was refused
+  -- for a turn that was refused
   pub refusal_served : (old new : ServerView C P) (bytes : List ℕ) (request : Option TsRequest) (error : Error) (answer : DeskError) →
       Takes c p old bytes (Err (record { ts_request = request; error = error })) new → Tells request error answer →
       IsServed c p old bytes (Err answer) new

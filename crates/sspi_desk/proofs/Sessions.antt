@@ -17,7 +17,7 @@ use Rattle.sspi_desk.specs.Alone.{Alone}
 use Rattle.sspi_desk.specs.Desk.{DeskView, session, Serves, ServesAt, Counts}
 use Rattle.sspi_desk.specs.All.{bytes_for, answers_for, ServesSession, ServesAll}
 
--- what is at one more call
+-- what one more call adds
 bytes_for-more : (s : ℕ) (calls : List Call) (call : Call) → bytes_for s (calls ++ call ∷ []) ≡ bytes_for s calls ++ bytes_for s (call ∷ [])
 bytes_for-more s [] call = refl
 bytes_for-more s (first ∷ calls) call = elim (eqb first.session s) as (λ b.
@@ -63,7 +63,7 @@ module _ {C P : Type 0} (c : Meaning ContextSetting C) (p : ProxyMeaning P) wher
   ServesSession-append (Some a) (Some b) (Some d) calls calls2 answers answers2 first later =
       Alone-append a b d calls calls2 answers answers2 first later
 
-  -- no call moves no session
+  -- without a call, no session moves
   ServesSession-none : (a : Option (ServerView C P)) → ServesSession c p a [] [] a
   ServesSession-none None = All-nil (λ answer. answer ≡ Err NoSession)
   ServesSession-none (Some a) = refl
@@ -78,7 +78,7 @@ module _ {C P : Type 0} (c : Meaning ContextSetting C) (p : ProxyMeaning P) wher
   one_call (Some server) s bytes answer old new found serves =
       subst (ServesSession c p (Some server) (bytes ∷ []) (answer ∷ [])) (sym serves.changes.here) (serves.after, serves.answers, refl)
 
-  -- and of the others
+  -- and for the others
   others_stay : (at : Option (ServerView C P)) (s : ℕ) (bytes : List ℕ) (answer : Result Served DeskError) (old new : DeskView C P) →
       ServesAt c p at s bytes answer old new → (other : ℕ) → other ≢ s → session other new ≡ session other old
   others_stay None s bytes answer old new serves other apart = ap (session other) serves.1
@@ -109,7 +109,7 @@ module _ {C P : Type 0} (c : Meaning ContextSetting C) (p : ProxyMeaning P) wher
       (λ same. eqb-false call.session s own (sym same))))
       (ServesSession-none (session s old))
 
-  -- one call more
+  -- one more call
   pub ServesAll-more : (calls : List Call) (answers : List (Result Served DeskError)) (call : Call)
       (answer : Result Served DeskError) (old mid new : DeskView C P) →
       ServesAll c p calls answers old mid → Serves c p call.session call.bytes answer mid new →

@@ -1,4 +1,4 @@
--- Many calls on a desk, and what they are to each session.
+-- Many calls on a desk, and what they do to each session.
 use Rattle.std.specs.Prelude.{◌≡◌, ◌==◌, ℕ, List, [], ◌∷◌, length, Option, None, Some, All, Result}
 use Rattle.std.specs.Prelude.{Err, if◌then◌else◌}
 use Rattle.sspi_mech.specs.Meaning.{Meaning}
@@ -26,8 +26,8 @@ answers_for s (call ∷ calls) (answer ∷ answers) =
     if call.session == s then answer ∷ answers_for s calls answers else answers_for s calls answers
 
 module _ {C P : Type 0} (c : Meaning ContextSetting C) (p : ProxyMeaning P) where
-  -- A session that is kept gives what its server gives alone, and is kept; of one that is not kept
-  -- each call has the answer `NoSession`.
+  -- A session that is kept gives what its server gives alone, and stays kept; if it is not kept,
+  -- each of its calls has the answer `NoSession`.
   abbrev pub ServesSession : Option (ServerView C P) → List (List ℕ) →
       List (Result Served DeskError) → Option (ServerView C P) → Type 0
   ServesSession None calls answers None = All (λ answer. answer ≡ Err NoSession) answers

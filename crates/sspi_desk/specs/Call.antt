@@ -27,7 +27,7 @@ use Rattle.sspi_desk.specs.declared.answer.Served.TheVariants as served
 
 -- ---- reading and encoding
 
--- the bytes begin with no request, for this reason
+-- the bytes do not begin with a request, for this reason
 abbrev pub HasFault : List ℕ → WireKind → Type 0
 HasFault bytes wire.UnexpectedEof = fault bytes ≡ Some Ended
 HasFault bytes wire.InvalidData = fault bytes ≡ Some Invalid
@@ -35,21 +35,21 @@ HasFault bytes wire.ReadFault = ⊥
 HasFault bytes wire.WriteFault = ⊥
 HasFault bytes wire.InsufficientMemory = ⊥
 
--- there was no memory to copy the request that the bytes begin with, which is wanted only for its
--- OCTET STRINGs
+-- there was no memory to copy the request that the bytes begin with, needed only for its OCTET
+-- STRINGs
 pub record HasNoRoom (bytes : List ℕ) : Type 0 where
   pub request : TsRequest
   pub count : ℕ
   pub read : IsRequest bytes request count
   pub octets : HasOctets request
 
--- a message is encoded, or it is too long; there is no memory only for one that is not
+-- a message is encoded, or it is too long; memory can run out only for one that is not
 abbrev pub Spells : {E : Type 0} → TsRequest → Result (Option (List ℕ)) E → Type 0
 Spells message (Ok (Some text)) = (fits message ≡ true) × (text ≡ spelled message)
 Spells message (Ok None) = fits message ≡ false
 Spells message (Err error) = fits message ≡ true
 
--- the same of a message that may be absent
+-- the same for a message that may be absent
 abbrev pub SpellsAny : {E : Type 0} → Option TsRequest → Result (Option (List ℕ)) E → Type 0
 SpellsAny None (Ok None) = Unit {0}
 SpellsAny None (Ok (Some text)) = ⊥
@@ -59,7 +59,7 @@ SpellsAny (Some message) answer = Spells message answer
 -- ---- the turn
 
 module _ {C P : Type 0} (c : Meaning ContextSetting C) (p : ProxyMeaning P) where
-  -- the bytes begin with a request, which the server took and came to this
+  -- the bytes begin with a request, which the server took with this result
   pub record Takes (old : ServerView C P) (bytes : List ℕ) (result : Result ServerState ServerError)
       (new : ServerView C P) :
       Type 0 where
@@ -70,14 +70,14 @@ module _ {C P : Type 0} (c : Meaning ContextSetting C) (p : ProxyMeaning P) wher
 
   -- ---- the answer
 
-  -- what a server came to that took its request, and then had no memory
+  -- the result of a server that took its request, and then ran out of memory
   abbrev pub HasNoAnswer : {E : Type 0} → E → Result ServerState ServerError → Type 0
   HasNoAnswer error (Ok (ReplyNeeded reply)) = Spells reply (Err error)
   HasNoAnswer error (Ok (Finished identity)) = ⊥
   HasNoAnswer error (Err refusal) = (refusal.error.error_type ≡ kinds.InsufficientMemory) ⊎
       SpellsAny refusal.ts_request (Err error)
 
-  -- What a server that is alone answers to these bytes, and what it is then.
+  -- What a server on its own answers to these bytes, and what it is then.
   abbrev pub IsServed : ServerView C P → List ℕ → Result Served DeskError → ServerView C P → Type 0
   IsServed old bytes (Ok (served.Answer text)) new =
       (reply : TsRequest) × Takes old bytes (Ok (ReplyNeeded reply)) new × (fits reply ≡ true) ×

@@ -16,23 +16,23 @@ use Rattle.sspi_desk.specs.Call.{IsServed}
 pub record DeskView (C P : Type 0) : Type 0 where
   -- how many sessions may be kept
   pub limit : ℕ
-  -- how many were admitted so far
+  -- how many have been admitted so far
   pub admitted : ℕ
-  -- the sessions that are kept, each with its number, in no order
+  -- the sessions that are kept, each with its number, in no particular order
   pub kept : List (ℕ × ServerView C P)
 
--- of any desk: the numbers are those below, and no more are kept than may be
+-- of any desk: its numbers are below those admitted, and no more are kept than the limit allows
 pub record IsOrderly {X : Type 0} (limit admitted : ℕ) (kept : List (ℕ × X)) : Type 0 where
   pub below : (s : ℕ) → IsSome (lookup (nat_eq s) kept) → s < admitted
   pub within : length kept ≤ limit
 
 module _ {C P : Type 0} where
-  -- the server of the session of this number, where that is kept
+  -- the server of the session with this number, if that is kept
   abbrev pub session : ℕ → DeskView C P → Option (ServerView C P)
   session s desk = lookup (nat_eq s) desk.kept
 
-  -- The session of this number is now this one, or is not kept; the limit and every other session
-  -- are as they were.
+  -- The session with this number now has this server, or is not kept; the limit and every other
+  -- session are as they were.
   pub record Changes (s : ℕ) (server : Option (ServerView C P)) (old new : DeskView C P) : Type 0
     where
       pub limit : new.limit ≡ old.limit
@@ -47,7 +47,7 @@ module _ {C P : Type 0} where
   -- ---- admitting and closing
 
   -- A server is kept under the number of those admitted before, which no session has had; or it is
-  -- handed back, and nothing changed.
+  -- handed back, and nothing changes.
   abbrev pub IsRefusedFor : Why → DeskView C P → Type 0
   IsRefusedFor Full desk = length desk.kept ≡ desk.limit
   IsRefusedFor InsufficientMemory desk = length desk.kept < desk.limit
@@ -60,7 +60,7 @@ module _ {C P : Type 0} where
       pub changes : Changes number (Some server) old new
       pub counts : Counts new (old.admitted + 1) (length old.kept + 1)
 
-  -- the session was kept, and its server handed out; or it was not, and nothing changed
+  -- the session was kept, and its server returned; or it was not, and nothing changed
   abbrev pub IsClosed : ℕ → Option (ServerView C P) → DeskView C P → DeskView C P → Type 0
   IsClosed s None old new = (session s old ≡ None) × (new ≡ old)
   IsClosed s (Some server) old new = (session s old ≡ Some server) × Changes s None old new ×
@@ -84,6 +84,6 @@ module _ {C P : Type 0} where
     ServesAt None s bytes answer old new = (answer ≡ Err NoSession) × (new ≡ old)
     ServesAt (Some server) s bytes answer old new = ServesOne server s bytes answer old new
 
-    -- a call for the session of this number
+    -- a call for the session with this number
     abbrev pub Serves : ℕ → List ℕ → Result Served DeskError → DeskView C P → DeskView C P → Type 0
     Serves s bytes answer old new = ServesAt (session s old) s bytes answer old new

@@ -1,4 +1,4 @@
--- What a refused call tells.
+-- What a refused call reports.
 use Rattle.std.specs.Prelude.{◌≡◌, ◌≢◌, ◌⊎◌, Option, Ok, Err}
 use Rattle.sspi_types.specs.declared.error.Error.{Error}
 use Rattle.sspi_types.specs.declared.error_kind.ErrorKind.TheVariants as kinds
@@ -8,8 +8,8 @@ use Rattle.sspi_desk.specs.declared.answer.DeskError.TheVariants.{NoSession, Unr
 use Rattle.sspi_desk.specs.declared.answer.DeskError.TheVariants.{TooLong, InsufficientMemory}
 use Rattle.sspi_desk.specs.Call.{SpellsAny}
 
--- What is made of a server's refusal: it is told with the message for its client, or there was no
--- memory.
+-- What becomes of a server's refusal: it is reported with the message for its client, or memory ran
+-- out.
 abbrev pub Tells : Option TsRequest → Error → DeskError → Type 0
 Tells request error NoSession = ⊥
 Tells request error (Unread kind) = ⊥

@@ -12,14 +12,14 @@ use sspi_mech::Mechanism;
 use sspi_types::Error;
 use std::alloc::Global;
 
-/// Serves these calls in their order, one answer a call; a call that is not served does not stop
-/// the later ones.
+/// Serves these calls in order, one answer per call; a call that is not served does not stop the
+/// later ones.
 ///
-/// For each session the answers at its calls are those that its server gives alone, whatever calls
-/// of others stand between.
+/// For each session, the answers to its calls are those that its server gives alone, whatever other
+/// calls come between them.
 ///
 /// The only refusal is `InsufficientMemory`, without a status, which comes before the first call:
-/// the desk is then unchanged. Where there is no memory in a call, that call has the answer.
+/// the desk is then unchanged. If memory runs out in a call, that is the call's answer.
 pub fn serve_all<N: Mechanism, K: Mechanism, C: CredentialsProxy>(
     alloc: Global,
     desk: &mut Desk<N, K, C>,

@@ -39,7 +39,7 @@ pub(crate) fn answer<N: Mechanism, K: Mechanism, C: CredentialsProxy>(
     }
 }
 
-/// A server's refusal, with the bytes of the request that tells its client.
+/// A server's refusal, with the bytes of the request that reports it to the client.
 fn refused(alloc: Global, refusal: ServerError) -> DeskError
     ensures { Tells refusal.ts_request refusal.error result }
 {

@@ -16,8 +16,8 @@ use std::marker::Model;
 
 /// Server sessions under numbers. What one session is sent changes no other.
 ///
-/// Sessions share the limit, so one that is kept may leave no room for another, and the numbers,
-/// which tell how many were admitted. They share memory and time as well.
+/// Sessions share the limit, so one that is kept may leave no room for another. They share the
+/// numbers, which show how many were admitted, and memory and time as well.
 #[derive(Drop)]
 pub struct Desk<N, K, C> {
     alloc: Global,
@@ -42,7 +42,7 @@ impl<N, K, C> Model for Desk<N, K, C> {
 }
 
 impl<N, K, C> Desk<N, K, C> {
-    /// A desk that keeps at most `limit` sessions, and none yet. Takes no memory.
+    /// A desk that keeps at most `limit` sessions, and none yet. Allocates nothing.
     pub fn new(alloc: Global, limit: u32) -> Desk<N, K, C>
         ensures { result ≡ record { limit = limit; admitted = 0; kept = [] } }
     {
@@ -54,7 +54,7 @@ impl<N, K, C> Desk<N, K, C> {
         }
     }
 
-    /// Ends a session and hands out its server as its last call left it; `None` exactly where the
+    /// Ends a session and returns its server as its last call left it; `None` exactly if the
     /// session is not kept.
     pub fn close(&mut self, session: u64) -> Option<CredSspServer<N, K, C>>
         ensures { IsClosed session result self.old self.new }
@@ -70,14 +70,14 @@ impl<N, K, C> Desk<N, K, C> {
         self.sessions.len()
     }
 
-    /// Whether as many sessions are kept as may be.
+    /// Whether as many sessions are kept as the desk allows.
     pub fn is_full(&self) -> bool
         ensures { result ≡ (length self.now.kept == self.now.limit) }
     {
         self.sessions.len() == self.limit as usize
     }
 
-    /// How many sessions were admitted so far; their numbers are those below.
+    /// How many sessions have been admitted so far; all their numbers are below this.
     pub fn admitted(&self) -> u64
         ensures count { result ≡ self.now.admitted }
         ensures below { (s : ℕ) → IsSome (session s self.now) → s < result }
@@ -87,11 +87,11 @@ impl<N, K, C> Desk<N, K, C> {
 }
 
 impl<N: Mechanism, K: Mechanism, C: CredentialsProxy> Desk<N, K, C> {
-    /// Keeps a server as a session, whose number is that of the sessions admitted before. No number
-    /// is used twice, so fewer than 2^64 - 1 may have been admitted before, which `admitted` tells.
+    /// Keeps a server as a session, whose number is how many sessions were admitted before. No
+    /// number is used twice, so fewer than 2^64 - 1 may have been admitted before (see `admitted`).
     ///
-    /// It is refused as `Full` once `limit` sessions are kept, and only then. The server comes
-    /// back, and the desk is as it was.
+    /// It is refused as `Full` if `limit` sessions are kept, and only then. After a refusal the
+    /// server is handed back, and the desk is as it was.
     pub fn admit(&mut self, server: CredSspServer<N, K, C>) -> Result<u64, Turned<N, K, C>>
         requires { self.old.admitted + 1 < 2 ^ 64 }
         ensures { MatchResult result
@@ -118,15 +118,14 @@ impl<N: Mechanism, K: Mechanism, C: CredentialsProxy> Desk<N, K, C> {
         }
     }
 
-    /// Hands bytes to a session as what its client sent, and answers what its server makes of them.
+    /// Passes a session bytes as what its client sent, and answers what its server makes of them.
     ///
-    /// `NoSession` exactly where the session is not kept; then nothing changes. Else, each exactly
-    /// there, out of memory apart: `Answer` where the server has a message, with its bytes, and
-    /// `TooLong` where the content of these would pass `sspi_ber::MAX_CONTENT`, 1048576 octets;
-    /// `Finished` where the server has the client's credentials; `Unread` where the bytes begin
-    /// with no request; `Refused` where the server refused. A session stays until it is closed,
-    /// whatever it came to. What no clause says: the time does not grow with the number of
-    /// sessions.
+    /// `NoSession` exactly if the session is not kept; then nothing changes. Otherwise, out of
+    /// memory apart, each comes exactly in its case: `Answer` if the server has a message, with its
+    /// bytes; `TooLong` if the content of these would exceed `sspi_ber::MAX_CONTENT`, 1048576
+    /// octets; `Finished` if the server has the client's credentials; `Unread` if the bytes do not
+    /// begin with a request; `Refused` if the server refused. A session stays until it is closed,
+    /// whatever its outcome. Not in any clause: the time does not grow with the number of sessions.
     pub fn serve(&mut self, session: u64, bytes: &[u8]) -> Result<Served, DeskError>
         ensures { Serves (either N.REQUESTS N.meaning K.meaning)
             C.meaning session bytes.now result self.old self.new }

@@ -5,8 +5,8 @@ ghost use Rattle.std.specs.Map.{lookup};
 
 use std::collections::HashMap;
 
-/// Keeps a session under a number that none has, or hands it back. Generic, since of a type
-/// parameter dropping is one step.
+/// Keeps a session under a number that none has, or hands it back. Generic, since dropping a value
+/// of a type parameter is one step.
 pub(crate) fn keep<S: Drop>(
     sessions: &mut HashMap<u64, S>,
     number: u64,

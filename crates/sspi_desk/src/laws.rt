@@ -1,4 +1,4 @@
-//! What follows of a server that serves calls one after the other. Each law is the contract of a
+//! What follows for a server that serves calls one after another. Each law is the contract of a
 //! call that does nothing.
 
 ghost use Rattle.std.specs.Prelude.{◌≡◌, ℕ, List, Result, Ok};
@@ -17,8 +17,8 @@ ghost use Rattle.sspi_desk.specs.Proving.{ProvesIn};
 use sspi_credssp::CredentialsProxy;
 use sspi_mech::Mechanism;
 
-/// A session finishes only once its server checked the client's proof and proved its own key, in
-/// one call that came before (MS-CSSP 3.1.5.2), of a server that began in the authentication.
+/// A session whose server began in the authentication finishes only after an earlier call. In it,
+/// the server checked the client's proof and proved its own key (MS-CSSP 3.1.5.2).
 pub fn a_session_proves_before_it_finishes<N: Mechanism, K: Mechanism, C: CredentialsProxy>()
     ensures { let c = either N.REQUESTS N.meaning K.meaning in
         (first old new : ServerView (SspiContext N K) C) (calls : List (List ℕ))

@@ -2,13 +2,12 @@
 //!
 //! - `Desk`: admits servers under numbers, serves their clients' messages in any order, and hands
 //!   servers back.
-//! - `serve_all`: many calls in their order. To each session the answers are those of its server
-//!   alone.
+//! - `serve_all`: many calls in order. Each session gets the answers of its server alone.
 //! - `spell`: the bytes of a message.
 //! - `laws`: that a session proves its key before it finishes.
 //!
-//! `specs/Call.antt` has one call on one server, `specs/Alone.antt` a server's calls one after the
-//! other and `specs/Proving.antt` what they show of one that finishes, `specs/Desk.antt` what a
+//! `specs/Call.antt` has one call on one server, and `specs/Alone.antt` a server's calls one after
+//! another. `specs/Proving.antt` has what they show of one that finishes, `specs/Desk.antt` what a
 //! desk is and what its calls do, and `specs/All.antt` what many calls do to each session.
 #![tactic(auto)]
 

@@ -7,7 +7,7 @@ use sspi_tsreq::TsRequest;
 use sspi_types::Bytes;
 use std::alloc::{AllocError, Global};
 
-/// The bytes of a message; none exactly where its content passes `sspi_ber::MAX_CONTENT`, 1048576
+/// The bytes of a message; `None` exactly if its content exceeds `sspi_ber::MAX_CONTENT`, 1048576
 /// octets.
 pub fn spell(alloc: Global, message: &TsRequest) -> Result<Option<Bytes>, AllocError>
     ensures { Spells message.now result }

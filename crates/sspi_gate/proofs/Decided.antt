@@ -1,4 +1,4 @@
--- Two relays of the same streams, of which no stream fails and which have memory, come to the same answer.
+-- Two relays of the same streams come to the same answer, if no stream fails and they have memory.
 use Rattle.std.proofs.Common.{◌≡◌, inl, inr, ℕ, ◌+◌, ◌<◌, ◌≤◌, List, [], ◌∷◌, ◌++◌, length, drop, Option, None}
 use Rattle.std.proofs.Common.{Some, Result, Ok, Err, refl, sym, ap, ◌∙◌, subst, append_assoc, get_or, arith}
 use Rattle.std.proofs.lemmas.Bool.{cases_lt}
@@ -31,7 +31,7 @@ use Rattle.sspi_gate.specs.Relay.{Closes, GivesUp, GoesOn, IsRefused, IsRelay, I
 use Rattle.sspi_gate.specs.Way.{HandsOn, Way}
 use Rattle.sspi_framing.proofs.Fronts.{given_first, one_front}
 
--- ---- a relay on told streams
+-- ---- a relay on known streams
 
 -- what is next of the end whose request is due, if it is not handed on
 data Next : Type 0 where
@@ -63,7 +63,7 @@ answer_of passed (Due end Other) = Err (record { passed = passed; why = Version 
 answer_of passed Spent = Err (record { passed = passed; why = TurnsSpent })
 answer_of passed (Refusing code) = Ok (record { passed = passed; how = closes.Refused code })
 
--- a relay that stopped so, having handed these requests on
+-- a relay that stopped so, after it handed on these requests
 record Stopped (limit : ℕ) (client server : List ℕ) (answer : Result Relayed GateError) : Type 0 where
   sent : List TsRequest
   answered : List TsRequest
@@ -267,7 +267,7 @@ not_next first bytes (Faulty kind) r count is t may = unread bytes r count kind 
 not_next first bytes Other r count (q, number, u, differs) t may =
     differs (subst (λ (z : TsRequest). MaySend first z.version) (one_request bytes r q count number t u).0 may)
 
--- the version of a request behind others of one version
+-- the version of a request after others of one version
 may_follow : (before : List TsRequest) (r : TsRequest) (more : List TsRequest) → HaveOneVersion (before ++ r ∷ more) →
     MaySend (first_version before) r.version
 may_follow [] r more one = tt

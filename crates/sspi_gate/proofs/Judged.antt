@@ -1,4 +1,4 @@
--- What is made of the bytes that a header bounds.
+-- How the bytes that a header bounds are judged.
 use Rattle.std.proofs.Common.{◌≡◌, ◌≢◌, inl, ℕ, List, Option, Err, refl, subst}
 use Rattle.std.specs.Io.KnownBytes.{Consumes, Keeps}
 use Rattle.sspi_ber.specs.Outside.{CopyCause}
@@ -70,7 +70,7 @@ pub not_passed : (end : End) (first : Option ℕ) (before after : Way) (bytes se
 not_passed end first before after bytes seen why c w reading keeps writing same j =
     not_handed end first before after bytes why c w reading keeps writing (subst (λ (l : List ℕ). Judges end first l (Err why)) same j)
 
--- what was taken is no whole request
+-- what was taken is not a whole request
 pub not_whole : {X : Type 0} (view : X → List ℕ) (end : End) (first : Option ℕ) (before after : Way) (kind : WireKind) →
     TakesRequest view before.left after.left (Err kind) → CopyCause {X = Option X} before.read_faults after.read_faults (Err kind) →
     Keeps before.written after.written → after.write_faults ≡ before.write_faults → kind ≢ kinds.ReadFault →

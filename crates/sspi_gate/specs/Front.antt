@@ -1,4 +1,4 @@
--- The versions of an end's requests, and the codes by which they refuse.
+-- The versions of an end's requests, and the codes with which they refuse.
 use Rattle.std.specs.Prelude.{◌≡◌, ◌==◌, ℕ, List, [], ◌∷◌, Option, None, Some, All, if◌then◌else◌}
 use Rattle.sspi_types.specs.declared.nstatus.NStatusCode.{NStatusCode}
 use Rattle.sspi_tsreq.specs.declared.request.TsRequest.{TsRequest}
@@ -24,7 +24,7 @@ abbrev pub refusing_code : Option NStatusCode → Option NStatusCode
 refusing_code None = None
 refusing_code (Some code) = if code.0 == 0 then None else Some code
 
--- the code by which a request refuses: one other than SUCCESS
+-- the code with which a request refuses: one other than SUCCESS
 abbrev pub refusal : TsRequest → Option NStatusCode
 refusal r = refusing_code r.error_code
 

@@ -1,4 +1,4 @@
--- Why the next request of a way is not handed on, and what is taken and written then.
+-- Why the next request of a way is not handed on, and what is then taken and written.
 use Rattle.std.specs.Prelude.{◌≡◌, ◌⊎◌, ◌≤◌, ℕ, List, Option}
 use Rattle.std.specs.Io.KnownBytes.{Consumes, Keeps}
 use Rattle.sspi_ber.specs.Outside.{Rose, WroteFront}
@@ -20,13 +20,13 @@ other_end Server = Client
 
 -- ---- what is taken and written
 
--- bytes of one request were taken, none behind it, and nothing was written
+-- bytes of one request were taken, none after it, and nothing was written
 pub record TakesOnly (before after : Way) : Type 0 where
   pub taken : TakesWanted before.left after.left
   pub written : Keeps before.written after.written
   pub writing : after.write_faults ≡ before.write_faults
 
--- the same where no read failed
+-- the same if no read failed
 abbrev pub TakesWell : Way → Way → Type 0
 TakesWell before after = TakesOnly before after × (after.read_faults ≡ before.read_faults)
 

@@ -55,7 +55,7 @@ pub record IsSpent (limit : ℕ) (sent answered : List TsRequest) : Type 0 where
   pub all_answered : length answered ≡ limit
   pub calm : AreCalm answered
 
--- the last request is an answer of the server, which refuses by this code as no earlier one did
+-- the last request is an answer of the server, which refuses with this code as no earlier one did
 pub record IsRefused (limit : ℕ) (code : NStatusCode) (sent answered : List TsRequest) : Type 0
   where
     pub earlier : List TsRequest
@@ -66,7 +66,7 @@ pub record IsRefused (limit : ℕ) (code : NStatusCode) (sent answered : List Ts
     pub all_answered : length sent ≡ length answered
     pub within : length answered ≤ limit
 
--- The next request was due from an end and was not handed on; nothing came of the other way.
+-- The next request was due from an end and was not handed on; the other way did not change.
 pub record IsBroken (limit : ℕ) (sent answered : List TsRequest) (up down up_after down_after : Way)
     (why : GateFault) : Type 0 where
   pub end : End
@@ -97,7 +97,7 @@ GivesUp limit sent answered up down up_after down_after TurnsSpent =
 GivesUp limit sent answered up down up_after down_after InsufficientMemory =
     IsBroken limit sent answered up down up_after down_after InsufficientMemory
 
--- why a relay stopped that came so far, and what it had done besides
+-- why a relay that came so far stopped, and what else it had done
 abbrev pub Stops : ℕ → List TsRequest → List TsRequest → Way → Way → Way → Way →
     Result Relayed GateError → Type 0
 Stops limit sent answered up down up_after down_after (Ok relayed) =

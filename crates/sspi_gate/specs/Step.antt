@@ -1,4 +1,4 @@
--- What comes of the request that is due from an end.
+-- What happens to the request that is due from an end.
 use Rattle.std.specs.Prelude.{◌≡◌, ℕ, List, [], ◌∷◌, Option, Result, Ok, Err}
 use Rattle.std.specs.Io.KnownBytes.{IsAtEnd}
 use Rattle.sspi_tsreq.specs.declared.request.TsRequest.{TsRequest}
@@ -30,8 +30,8 @@ IsStep end first before after (Passed seen) = (r : TsRequest) × HandsOn before 
 IsStep end first before after Ended = IsAtEnd after.left × HandsOn before after []
 IsStep end first before after (Stopped why) = Fails end first before after why
 
--- What is made of the bytes of a request before they are written. Memory is wanted only where they
--- are one, for its OCTET STRINGs.
+-- How the bytes of a request are judged before they are written. Memory is needed only if they are
+-- a request, for its OCTET STRINGs.
 abbrev pub Judges : End → Option ℕ → List ℕ → Result Seen GateFault → Type 0
 Judges end first bytes (Ok seen) = (r : TsRequest) × IsText bytes r × IsSeen seen r ×
     MaySend first r.version

@@ -1,11 +1,11 @@
--- One direction of a relay: a source that requests are taken from, and a sink that their bytes are
--- written to.
+-- One direction of a relay: a source from which requests are taken, and a sink to which their bytes
+-- are written.
 use Rattle.std.specs.Prelude.{◌≡◌, ℕ, List, Option}
 use Rattle.std.specs.Io.KnownBytes.{Appends, Consumes}
 use Rattle.sspi_tsreq.specs.declared.request.TsRequest.{TsRequest}
 use Rattle.sspi_framing.specs.Front.{AreRequests}
 
--- the bytes that are left and that were written, where they are told, and the counts of faults
+-- the bytes that are left and that were written, if they are known, and the counts of faults
 pub record Way : Type 0 where
   pub left : Option (List ℕ)
   pub read_faults : ℕ
@@ -22,7 +22,7 @@ way left read_faults written write_faults source sink =
       write_faults = write_faults sink;
     }
 
--- These requests and no byte more were taken, and written as their bytes came.
+-- These requests and not a byte more were taken, and their bytes were written unchanged.
 pub record HandsOn (before after : Way) (requests : List TsRequest) : Type 0 where
   pub front : List ℕ
   pub requests_are : AreRequests front requests

@@ -4,7 +4,7 @@ use sspi_ber::WireKind;
 use sspi_credssp::End;
 use sspi_types::NStatusCode;
 
-/// What a relay did that came to an end.
+/// What a relay did that came to its end.
 #[derive(Clone, Copy, Debug, PartialEq, Eq)]
 pub struct Relayed {
     /// How many requests were handed on, those of both ends together.
@@ -31,11 +31,11 @@ pub struct GateError {
     pub why: GateFault,
 }
 
-/// Why a relay handed no further request on.
+/// Why a relay handed on no further request.
 #[derive(Clone, Copy, Debug, PartialEq, Eq)]
 pub enum GateFault {
-    /// What this end's stream has next is no request. `UnexpectedEof` where it ends too early or
-    /// its header is at fault, and else `InvalidData`.
+    /// What this end's stream has next is not a request. `UnexpectedEof` if it ends too early or
+    /// its header is at fault, otherwise `InvalidData`.
     Bad(End, WireKind),
     /// This end's next request has another version than its first one.
     Version(End),
@@ -43,7 +43,7 @@ pub enum GateFault {
     ReadFault(End),
     /// The stream to this end failed.
     WriteFault(End),
-    /// The client's requests were as many as were allowed, and each was answered.
+    /// The client sent as many requests as were allowed, and each was answered.
     TurnsSpent,
     /// There was no memory for the next request.
     InsufficientMemory,

@@ -1,4 +1,4 @@
-//! Laws about the requests at the front of a stream and about relays, each on a function that does
+//! Laws about the requests that a stream begins with and about relays, each on a function that does
 //! nothing.
 
 ghost use Rattle.std.specs.Prelude.{◌≡◌, ℕ, ◌≤◌, List, ◌++◌, length, Some, Result};
@@ -10,7 +10,7 @@ ghost use Rattle.sspi_gate.specs.Way.{Way};
 ghost use Rattle.sspi_framing.specs.Front.{AreRequests, GivesFirst};
 ghost use Rattle.sspi_tsreq.specs.declared.request.TsRequest.{TsRequest};
 
-/// Bytes that are requests are what a reader takes first, one request behind the other, of each
+/// Bytes that are requests are what a reader takes first, one request after another, from each
 /// stream that begins with them; and what it takes first are such bytes.
 pub fn a_front_is_what_is_read_first()
     ensures given { (front more : List ℕ) (requests : List TsRequest) → AreRequests front requests →
@@ -33,9 +33,9 @@ pub fn each_request_takes_bytes()
         length requests ≤ length front }
 {}
 
-/// Where both streams are told, they and the number of turns decide the answer, faults of a stream
-/// and out of memory apart: the causes of the other answers exclude each other, and each comes
-/// wherever its cause is there.
+/// If both streams are known, they and the number of turns decide the answer, stream faults and out
+/// of memory apart. The causes of the other answers exclude each other, and each answer comes
+/// whenever its cause is there.
 pub fn the_streams_decide()
     ensures { (limit : ℕ) (up down up_first down_first up_second down_second : Way)
         (client server : List ℕ)

@@ -1,9 +1,9 @@
-//! A relay between a CredSSP client and a server (MS-CSSP 3.1.5) that reads each request before it
-//! hands it on, and stops at the first one that is none, that changes its sender's version, or by
-//! which the server refuses.
+//! A relay between a CredSSP client and a server (MS-CSSP 3.1.5) that reads each request before
+//! handing it on. It stops at the first one that is malformed, that changes its sender's version,
+//! or with which the server refuses.
 //!
-//! - `relay`: the requests of two streams, handed on in turn, each as the bytes that came.
-//! - `laws.rt`: what the requests at the front of a stream are, and that the streams decide the
+//! - `relay`: the requests of two streams, handed on in turn, with their bytes unchanged.
+//! - `laws.rt`: what the requests that a stream begins with are, and that the streams decide the
 //!   answer.
 //!
 //! `specs/Front.antt` has the versions and codes of requests, `specs/Way.antt` one direction of a

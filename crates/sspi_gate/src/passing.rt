@@ -1,4 +1,4 @@
-//! What a relay asks of one request before it passes it on.
+//! What a relay checks in one request before it passes it on.
 
 ghost use Rattle.std.specs.Prelude.{◌≡◌, MatchBool};
 ghost use Rattle.sspi_gate.specs.Front.{MaySend, refusing_code};
@@ -19,7 +19,7 @@ use std::alloc::Global;
 #[derive(Clone, Copy)]
 pub(crate) struct Seen {
     pub(crate) version: u32,
-    /// The code by which it refuses.
+    /// The code with which it refuses.
     pub(crate) refusal: Option<NStatusCode>,
 }
 
@@ -43,7 +43,7 @@ fn other_end(end: End) -> End
     }
 }
 
-/// The code, where it is one other than `SUCCESS`.
+/// The code, if it is not `SUCCESS`.
 fn refusing_code(code: Option<NStatusCode>) -> Option<NStatusCode>
     ensures { result ≡ refusing_code code }
 {
@@ -63,8 +63,7 @@ fn may_send(first: Option<u32>, version: u32) -> bool
     }
 }
 
-/// Reads the request of this end that these bytes are, and compares its version with that of the
-/// first.
+/// Reads these bytes as a request of this end, and compares its version with that of the first.
 fn judge(alloc: Global, end: End, bytes: &[u8], first: Option<u32>) -> Result<Seen, GateFault>
     requires { IsWhole bytes.now }
     ensures { Judges end first bytes.now result }
@@ -83,8 +82,8 @@ fn judge(alloc: Global, end: End, bytes: &[u8], first: Option<u32>) -> Result<Se
     })
 }
 
-/// Takes the next request of this end and writes its bytes, as they came, to the other end. `first`
-/// is the version of the end's first request.
+/// Takes the next request of this end and writes its bytes, unchanged, to the other end. `first` is
+/// the version of the end's first request.
 pub(crate) fn pass_next<S: Source, W: Sink>(
     alloc: Global,
     end: End,

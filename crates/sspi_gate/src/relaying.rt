@@ -9,29 +9,29 @@ use sspi_ber::{Sink, Source};
 use sspi_credssp::End;
 use std::alloc::Global;
 
-/// Hands the requests of a client on to a server and the server's on to the client, in turn, the
-/// client's first, at most `limit` of the client.
+/// Hands a client's requests on to a server and the server's on to the client, in turn, the
+/// client's first, and at most `limit` of the client's.
 ///
-/// Each request is read before it is handed on, and is then written as its bytes came. A header is
-/// read byte by byte and then exactly its content, so no byte behind a request is taken, whatever
-/// the answer. No failed call hides behind another answer: each stream's count of faults is as it
-/// was, but for the one that `ReadFault` or `WriteFault` tells of. Of a request the order is:
-/// reading, grammar, version, writing; one that is refused is not written. What no clause says:
-/// memory is taken only for bytes that came, of one request at a time.
+/// Each request is read before it is handed on, and its bytes are then written unchanged. A header
+/// is read byte by byte and then exactly its content, so no byte after a request is taken, whatever
+/// the answer. No answer hides a failed call: each stream's count of faults is as it was, except
+/// for the one that `ReadFault` or `WriteFault` reports. The order for a request is: reading,
+/// grammar, version, writing; one that is refused is not written. Not in any clause: memory is
+/// allocated only for bytes that came, of one request at a time.
 ///
-/// Ok: `Ended` where the stream of the end whose request is due is at its end; `Refused` where the
+/// Ok: `Ended` if the stream of the end whose request is due is at its end; `Refused` if the
 /// server's last request carries a code other than `SUCCESS`, and then nothing more is read.
 /// Refused, each with the end at fault:
 ///
-/// - `Bad`: what is next begins with no request. `UnexpectedEof` where it ends too early or its
-///   header is at fault, and else `InvalidData`. Header and content were taken; or the header up to
-///   the byte at fault; or all there was, if it ended sooner.
-/// - `Version`: the request has another version than this end's first.
+/// - `Bad`: what is next does not begin with a request. `UnexpectedEof` if it ends too early or its
+///   header is at fault, otherwise `InvalidData`. Header and content were taken; or the header up
+///   to the byte at fault; or all there was, if it ended sooner.
+/// - `Version`: the request has a version other than this end's first.
 /// - `ReadFault`, `WriteFault`: the stream from this end, or to it, failed. At `WriteFault` a
 ///   prefix of the request was written, never all of it.
 /// - `TurnsSpent`: `limit` requests of the client were handed on, each was answered, and no answer
-///   refused; at once where `limit` is 0. Nothing more is then read.
-/// - `InsufficientMemory`; a prefix of the next request may have been written, if it was read,
+///   refused; at once if `limit` is 0. Nothing more is then read.
+/// - `InsufficientMemory`: a prefix of the next request may have been written, if it was read, but
 ///   never all of it.
 pub fn relay<A: Source, B: Sink, C: Source, D: Sink>(
     alloc: Global,

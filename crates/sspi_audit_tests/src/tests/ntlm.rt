@@ -8,7 +8,6 @@ use crate::tests::records::are_judged;
 /// with the `errorCode` `[4]` after `pubKeyAuth` (MS-CSSP 2.2.1). `V` is `D` of version 5, `W` is
 /// `C` without its nonce, and `X` is `C` of version 5. `Y` is the error request that answers an
 /// altered `C`.
-/// altered `C`.
 pub const EXCHANGE: &str = "\
 0 end=client given=F acts=step,continue output=4e31 outcome=reply message=A
 1 end=server given=A acts=step,continue output=4e320000000000000000 outcome=reply message=B

@@ -3,7 +3,7 @@ use Rattle.sspi_credssp.specs.Context.{either}
 use Rattle.sspi_desk.specs.All.{ServesAll}
 use Rattle.sspi_desk.proofs.all.serve_all.Given as goal
 
--- what the calls so far were to the desk, with room for an answer to each
+-- what the calls so far did to the desk, with room for an answer to each
 abbrev pub invariant-loop-call : goal.invariant-loop-call
 invariant-loop-call g l = record {
   room : length l.calls ≤ vec_capacity l.answers;
