@@ -1,4 +1,4 @@
--- The line of how the ends of a play stand, piece by piece.
+-- The line with the state of a play's ends, piece by piece.
 use Rattle.std.proofs.Common.{◌≡◌, ℕ, List, ◌++◌, codes, Result, Ok, Err, append_assoc}
 use Rattle.std.specs.Prelude.{OnOk}
 use Rattle.sspi_report.specs.Entries.{line}

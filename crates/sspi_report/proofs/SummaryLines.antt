@@ -1,4 +1,4 @@
--- The lines of a summary, one behind the other.
+-- The lines of a summary, one after the other.
 use Rattle.std.proofs.Common.{◌≡◌, ℕ, List, ◌++◌, append_assoc}
 
 module _ (t t1 t2 t3 t4 t5 t6 t7 t8 t9 a b c d e f g h i : List ℕ) where

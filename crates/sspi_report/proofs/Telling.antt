@@ -1,4 +1,4 @@
--- What the lines of an entry tell.
+-- What the lines of an entry show.
 use Rattle.std.proofs.Common.{◌≡◌, ◌≢◌, ℕ, ◌/◌, ◌<◌, List, [], ◌∷◌, ◌++◌, suc, slice_index, Some, refl, sym, ap, ◌∙◌, append_assoc, arith}
 use Rattle.hex.specs.Hex.{IsBytes, encode_lower, encode_with, hex_digit_value, lower_digits, decode_of}
 use Rattle.hex.proofs.HexLemmas.{IsDigits-lower_digits, decode_of-encode_lower, decode_of-same}
@@ -17,7 +17,7 @@ digit_no_lf n small e =
 high : (b : ℕ) → b < 256 → b / 16 < 16
 high b small = omega arith
 
--- the digits before the first LF tell the bytes
+-- the digits before the first LF determine the bytes
 same_digits : (xs ys more more2 : List ℕ) → IsBytes xs → IsBytes ys →
     encode_lower xs ++ 10 ∷ more ≡ encode_lower ys ++ 10 ∷ more2 → encode_lower xs ≡ encode_lower ys
 unfolding encode_with

@@ -1,4 +1,4 @@
--- What stands behind the report of a delegation: the early result.
+-- What follows the report of a delegation: the early result.
 use Rattle.std.specs.Prelude.{ℕ, List, ◌++◌, Option, None, Some, Result, Ok, Err, codes}
 use Rattle.sspi_delegate.specs.declared.carried.Carried.{Carried}
 use Rattle.sspi_early.specs.declared.answer.Early.{Early}
@@ -20,7 +20,7 @@ abbrev pub heard_line : EarlyUserAuthResult → EarlyUserAuthResult → List ℕ
 heard_line told heard = line (codes "early told=" ++ result_name told ++ codes " heard=" ++
     result_name heard)
 
--- none where the delegation came to no end, where the policy failed, and where there was no memory
+-- none if the delegation failed, if the policy failed, and if memory ran out
 abbrev pub early_line : Result Early EarlyError → Option (List ℕ)
 early_line (Ok early) = Some (heard_line early.told early.heard)
 early_line (Err (Read kind)) = Some (line (codes "early read " ++ fault_name kind))
@@ -29,7 +29,7 @@ early_line (Err Policy) = None
 early_line (Err (Delegate error)) = None
 early_line (Err InsufficientMemory) = None
 
--- the lines of the entries that came behind the delegation, the first entry first, and then that of
--- the result; nothing where that has none
+-- the lines of the entries that came after the delegation, the first entry first, and then that of
+-- the result; nothing if the result has no line
 abbrev pub early_text : List Carried → Result Early EarlyError → List ℕ
 early_text entries outcome = closed_by (log_text entries) (early_line outcome)

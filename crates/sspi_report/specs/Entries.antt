@@ -11,12 +11,12 @@ use Rattle.sspi_credssp.specs.declared.turn.End.TheVariants.{Client, Server}
 abbrev pub line : List ℕ → List ℕ
 line text = text ++ codes "\n"
 
--- what stands before a message of an end
+-- what precedes a message of an end
 abbrev pub mark : End → List ℕ
 mark Client = codes "> "
 mark Server = codes "< "
 
--- the line of what was delivered, where that is something, and not what was sent
+-- the line of what was delivered, if that is not empty and not what was sent
 abbrev pub delivered_text : List ℕ → List ℕ → List ℕ
 delivered_text sent [] = []
 delivered_text sent (b ∷ bytes) = if bytes_eq (b ∷ bytes) sent then []

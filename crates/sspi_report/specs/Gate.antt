@@ -16,7 +16,7 @@ abbrev pub close_text : Close → List ℕ
 close_text (Ended end) = codes "ended " ++ end_name end
 close_text (Refused code) = codes "refused " ++ hex_text code.0
 
--- none where a stream failed or there was no memory
+-- none if a stream failed or memory ran out
 abbrev pub stop_text : GateFault → Option (List ℕ)
 stop_text (faults.Bad end kind) = Some (codes "bad " ++ end_name end ++ codes " " ++
     fault_name kind)
@@ -26,7 +26,7 @@ stop_text (faults.WriteFault end) = None
 stop_text faults.TurnsSpent = Some (codes "spent")
 stop_text faults.InsufficientMemory = None
 
--- how many requests were handed on, and why no more were
+-- how many requests were forwarded, and why no more were
 abbrev pub passed_line : ℕ → List ℕ → List ℕ
 passed_line passed why = line (codes "gate passed " ++ decimal passed ++ codes " " ++ why)
 

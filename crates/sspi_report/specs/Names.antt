@@ -1,4 +1,4 @@
--- The names that a report has for the two ends and for what is no message.
+-- The names that a report has for the two ends and for the faults of what is not a message.
 use Rattle.std.specs.Prelude.{ℕ, List, codes}
 use Rattle.sspi_ber.specs.declared.wire_kind.WireKind.{WireKind}
 use Rattle.sspi_ber.specs.declared.wire_kind.WireKind.TheVariants.{UnexpectedEof, InvalidData}
@@ -11,7 +11,7 @@ abbrev pub end_name : End → List ℕ
 end_name Client = codes "client"
 end_name Server = codes "server"
 
--- why what was delivered is no message
+-- why what was delivered is not a message
 abbrev pub fault_name : WireKind → List ℕ
 fault_name UnexpectedEof = codes "UnexpectedEof"
 fault_name InvalidData = codes "InvalidData"

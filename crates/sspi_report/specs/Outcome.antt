@@ -22,7 +22,7 @@ delegated_text turns credentials =
     ++ codes " user=" ++ inner_of credentials.username
     ++ codes " password=" ++ credentials.password.value
 
--- the status that the peer gave, where there is one: `0x` and hex digits without leading zeros
+-- the status that the peer gave, if there is one: `0x` and hex digits without leading zeros
 abbrev pub status_part : Option NStatusCode → List ℕ
 status_part None = []
 status_part (Some status) = codes " " ++ hex_text status.0
@@ -38,7 +38,7 @@ read_text end kind = codes "read " ++ end_name end ++ codes " " ++ fault_name ki
 abbrev pub write_text : End → List ℕ
 write_text end = codes "write " ++ end_name end
 
--- the line of an error; none where there was no memory
+-- the line of an error; none if memory ran out
 abbrev pub error_line : DelegateError → Option (List ℕ)
 error_line (errors.Client error) = Some (line (codes "client " ++ refusal_text error))
 error_line (errors.Server error) = Some (line (codes "server " ++ refusal_text error))

@@ -15,7 +15,7 @@ use Rattle.sspi_play.specs.declared.played.Played.{Played}
 use Rattle.sspi_report.specs.Entries.{line, mark}
 use Rattle.sspi_report.specs.Names.{fault_name}
 
--- the line of a message behind the mark of its end; none where it is too long to be written
+-- the line of a message after the mark of its end; none if it is too long to be written
 abbrev pub message_text : List ℕ → TsRequest → List ℕ
 message_text mark message = if fits message then line (mark ++ encode_lower (spelled message))
     else []
@@ -24,11 +24,11 @@ abbrev pub text_of : List ℕ → Option TsRequest → List ℕ
 text_of mark None = []
 text_of mark (Some message) = message_text mark message
 
--- the line of the message that a turn made, an error of the server too
+-- the line of the message that a turn made, which may be an error of the server
 abbrev pub turn_text : Turn → List ℕ
 turn_text turn = text_of (mark turn.end) (message_of turn.outcome)
 
--- how an end stands
+-- the state of an end
 abbrev pub ending_text : Ending → List ℕ
 ending_text Running = codes "running"
 ending_text (Refused kind) = error_kind_name kind

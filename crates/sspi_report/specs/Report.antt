@@ -6,7 +6,7 @@ use Rattle.sspi_delegate.specs.declared.carried.Carried.{Carried}
 use Rattle.sspi_report.specs.Entries.{log_text}
 use Rattle.sspi_report.specs.Outcome.{outcome_line}
 
--- the lines of the log and then that of the outcome; nothing where that has none
+-- the lines of the log and then that of the outcome; nothing if the outcome has no line
 abbrev pub closed_by : List ℕ → Option (List ℕ) → List ℕ
 closed_by lines None = []
 closed_by lines (Some last) = lines ++ last

@@ -7,7 +7,7 @@ use Rattle.sspi_seats.specs.declared.seat.SeatOutcome.TheVariants as seats
 use Rattle.sspi_report.specs.Entries.{line}
 use Rattle.sspi_report.specs.Outcome.{delegated_text, read_text, refusal_text, write_text}
 
--- what an outcome says, in the words of a delegation
+-- the text of an outcome, in the words of a delegation
 abbrev pub seat_text : SeatOutcome → List ℕ
 seat_text (seats.Ok turns credentials) = delegated_text turns credentials
 seat_text (seats.Client error) = codes "client " ++ refusal_text error

@@ -22,7 +22,7 @@ place kinds.Turns = 6
 abbrev pub is_same : Kind → Kind → Bool
 is_same a b = place a == place b
 
--- whether an exchange came to an outcome of this kind; out of memory is of none
+-- whether an exchange had an outcome of this kind; out of memory has no kind
 abbrev pub is_of : Kind → Result Delegation DelegateError → Bool
 is_of kind (Ok delegation) = is_same kind kinds.Ok
 is_of kind (Err (errors.Client error)) = is_same kind kinds.Client

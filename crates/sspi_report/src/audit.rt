@@ -6,8 +6,8 @@ ghost use Rattle.sspi_report.specs.Audit.{audit_line};
 use sspi_audit::Verdict;
 use std::alloc::{AllocError, Global};
 
-/// The line of an audit, which ends with LF: the turn that sealed the credentials, or `-` where
-/// none did, or the turn at fault. Fails only when out of memory.
+/// The line of an audit, which ends with LF: the turn that sealed the credentials, or `-` if none
+/// did, or the turn at fault. Fails only when out of memory.
 pub fn audit_line(alloc: Global, verdict: Verdict) -> Result<String, AllocError>
     ensures { IfOk result (λ text. string_bytes text ≡ audit_line verdict) }
 {

@@ -11,8 +11,8 @@ use std::alloc::{AllocError, Global};
 /// The report of an exchange, in UTF-8: the lines of the log's entries, the first entry first, and
 /// the line of the outcome.
 ///
-/// Each line ends with LF. The report of an exchange that found no memory is empty. Fails only when
-/// out of memory.
+/// Each line ends with LF. The report of an exchange that ran out of memory is empty. Fails only
+/// when out of memory.
 #[tactic(auto, unfolding(crate::specs::Report::report_text))]
 pub fn report(
     alloc: Global,

@@ -9,11 +9,11 @@ use sspi_delegate::Carried;
 use sspi_early::{Early, EarlyError, EarlyUserAuthResult};
 use std::alloc::{AllocError, Global};
 
-/// What stands behind the report of a delegation, in UTF-8: the lines of the entries that came
-/// behind it, the first entry first, and the line of the early result.
+/// What follows the report of a delegation, in UTF-8: the lines of the entries that came after it,
+/// the first entry first, and the line of the early result.
 ///
-/// Each line ends with LF. There is nothing where the delegation came to no end, where the policy
-/// failed or where there was no memory. Fails only when out of memory.
+/// Each line ends with LF. There is nothing if the delegation failed, if the policy failed or if
+/// memory ran out in either. Fails only when out of memory.
 pub fn early_report(
     alloc: Global,
     entries: &[Carried],

@@ -24,7 +24,7 @@ pub(crate) fn push_entry(
     Ok(())
 }
 
-/// What stands before a message of this end.
+/// What precedes a message of this end.
 pub(crate) fn mark(from: End) -> &'static str
     ensures { result.now ≡ mark from }
 {
@@ -34,7 +34,7 @@ pub(crate) fn mark(from: End) -> &'static str
     }
 }
 
-/// Appends a line of a mark and the hex of some bytes.
+/// Appends a line with a mark and the hex of some bytes.
 pub(crate) fn push_line(
     alloc: Global,
     text: &mut String,
@@ -50,8 +50,8 @@ pub(crate) fn push_line(
     text.push('\n')
 }
 
-/// How many bytes the lines of a log take where each message was delivered as it was sent: a text
-/// of that room is not moved.
+/// How many bytes the lines of a log take if each message was delivered as it was sent: a text with
+/// that capacity is not reallocated.
 pub(crate) fn room_of(log: &[Carried]) -> usize {
     let mut room = 0usize;
     for entry in log {

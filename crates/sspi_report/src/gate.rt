@@ -7,8 +7,8 @@ use crate::names::{end_name, fault_name};
 use sspi_gate::{Close, GateError, GateFault, Relayed};
 use std::alloc::{AllocError, Global};
 
-/// The line of a relay, which ends with LF: how many requests were handed on, and why no more were.
-/// None where a stream failed or there was no memory. Fails only when out of memory.
+/// The line of a relay, which ends with LF: how many requests were forwarded, and why no more were.
+/// `None` if a stream failed or memory ran out in the relay. Fails only when out of memory.
 pub fn gate_line(
     alloc: Global,
     answer: Result<Relayed, GateError>,

@@ -5,7 +5,7 @@ ghost use Rattle.hex.specs.Hex.{encode_lower, IsBytes};
 ghost use Rattle.sspi_delegate.specs.declared.carried.Carried.{Carried};
 ghost use Rattle.sspi_report.specs.Entries.{entry_text, line, mark};
 
-/// The lines of an entry tell which end sent it, and what, whatever follows.
+/// The lines of an entry show which end sent it, and what was sent, whatever follows.
 #[tactic(auto, using(crate::proofs::Telling::same_entry))]
 pub fn an_entry_tells_what_was_sent()
     ensures { (first second : Carried) (more more2 : List ℕ) → IsBytes first.sent →
@@ -14,7 +14,7 @@ pub fn an_entry_tells_what_was_sent()
         → (first.from ≡ second.from) × (first.sent ≡ second.sent) }
 {}
 
-/// An entry of which nothing was delivered, or what was sent, has one line.
+/// An entry has one line if nothing was delivered, or exactly what was sent.
 pub fn an_unaltered_entry_has_one_line()
     ensures { (entry : Carried) → (entry.delivered ≡ []) ⊎ (entry.delivered ≡ entry.sent)
         → entry_text entry ≡ line (mark entry.from ++ encode_lower entry.sent) }

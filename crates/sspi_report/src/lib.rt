@@ -1,7 +1,7 @@
-//! Reports of what two ends did. That of a delegation has what each end sent, what else was
-//! delivered of it, and what the exchange came to; that of a play has what each end sent, and how
-//! the ends stand. Besides there are the lines of an audit and of a relay, and the summary of many
-//! exchanges, and what stands behind the report of a delegation that has an early result.
+//! Reports of what two ends did. That of a delegation has what each end sent, what was delivered
+//! instead, and the outcome of the exchange; that of a play has what each end sent, and the state
+//! of the ends. In addition, there are the lines of an audit and of a relay; the summary of many
+//! exchanges; and what follows the report of a delegation that has an early result.
 #![tactic(auto)]
 
 pub mod audit;

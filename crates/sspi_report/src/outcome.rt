@@ -13,7 +13,7 @@ use sspi_names::AuthIdentity;
 use sspi_types::Error;
 use std::alloc::{AllocError, Global};
 
-/// The line of an outcome; none where there was no memory.
+/// The line of an outcome; `None` if the exchange ran out of memory.
 pub(crate) fn outcome_line(
     alloc: Global,
     outcome: &Result<Delegation, DelegateError>,
@@ -30,7 +30,7 @@ pub(crate) fn outcome_line(
     }
 }
 
-/// The line of credentials that were delegated in so many turns of the client.
+/// The line of credentials that were delegated in this many turns of the client.
 pub(crate) fn delegated_line(
     alloc: Global,
     rounds: u32,

@@ -14,8 +14,8 @@ use sspi_play::{Ending, Played};
 use sspi_tsreq::TsRequest;
 use std::alloc::{AllocError, Global};
 
-/// The report of a play, in UTF-8: a line for each message that a turn made and that is not too
-/// long to be written, the first turn first, and then one line of how the ends stand.
+/// The report of a play, in UTF-8: a line for each message that a turn made, the first turn first,
+/// unless it is too long to be written; and then one line with the state of the ends.
 ///
 /// Each line ends with LF. Fails only when out of memory.
 #[tactic(auto, unfolding(crate::specs::Play::play_text))]
@@ -57,7 +57,7 @@ fn push_message(
     }
 }
 
-/// Appends the line of how the ends stand.
+/// Appends the line with the state of the ends.
 fn push_standing(text: &mut String, played: &Played) -> Result<(), AllocError>
     ensures { OnOk result (string_bytes text.new ≡ string_bytes text.old ++
         standing_line played.now) }
@@ -67,7 +67,7 @@ fn push_standing(text: &mut String, played: &Played) -> Result<(), AllocError>
     push_identity(text, &played.identity)
 }
 
-/// Appends how an end stands, behind this text.
+/// Appends this text and then the state of an end.
 fn push_end(text: &mut String, name: &str, ending: Ending) -> Result<(), AllocError>
     ensures { OnOk result (string_bytes text.new ≡ string_bytes text.old ++
         (name.now ++ ending_text ending)) }

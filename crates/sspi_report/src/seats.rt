@@ -9,9 +9,9 @@ use sspi_delegate::End;
 use sspi_seats::{Seat, SeatOutcome};
 use std::alloc::{AllocError, Global};
 
-/// The report of a table in UTF-8: for each seat, in their order, `session`, its number from 0, and
-/// what it came to, as the last line of a delegation's report says it. Each line ends with LF.
-/// Fails only when out of memory.
+/// The report of a table in UTF-8: for each seat, in order, `session`, its number from 0, and its
+/// outcome, in the form of the last line of a delegation's report. Each line ends with LF. Fails
+/// only when out of memory.
 pub fn seats_report<N, K, C, D>(
     alloc: Global,
     seats: &[Seat<N, K, C, D>],
@@ -48,7 +48,7 @@ pub fn seat_line(alloc: Global, session: usize, outcome: &SeatOutcome) -> Result
     Ok(line)
 }
 
-/// What a seat came to.
+/// The outcome of a seat.
 fn outcome_line(alloc: Global, outcome: &SeatOutcome) -> Result<String, AllocError>
     ensures { IfOk result (λ text. string_bytes text ≡ line (seat_text outcome.now)) }
 {

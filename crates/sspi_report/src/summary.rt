@@ -6,7 +6,7 @@ ghost use Rattle.sspi_report.specs.Summary.{count_line, is_of, is_same, place, s
 use sspi_delegate::{DelegateError, Delegation};
 use std::alloc::{AllocError, Global};
 
-/// What exchanges come to, as a summary counts them. Out of memory is of no kind.
+/// The outcomes of exchanges, as a summary counts them. Out of memory has no kind.
 #[derive(Clone, Copy, Debug)]
 pub enum Kind {
     Ok,
@@ -24,8 +24,8 @@ pub enum Kind {
     Turns,
 }
 
-/// How many exchanges there were, how many of them came to each kind of outcome, and how many
-/// messages their logs have together.
+/// How many exchanges there were, how many of them had each kind of outcome, and how many messages
+/// their logs have together.
 #[derive(Clone, Copy, Debug)]
 pub struct Summary {
     pub runs: usize,
@@ -36,12 +36,12 @@ pub struct Summary {
     pub write: usize,
     pub link: usize,
     pub turns: usize,
-    /// Wide enough for the sum over as many logs as there may be, of any length.
+    /// Wide enough for the sum over any number of logs, of any length.
     pub messages: u128,
 }
 
 impl Kind {
-    /// Its place among the lines of a summary, behind that of all exchanges.
+    /// Its place among the lines of a summary, after that of all exchanges.
     fn place(self) -> u8
         ensures { result ≡ place self }
     {
@@ -56,14 +56,14 @@ impl Kind {
         }
     }
 
-    /// Whether both are one kind.
+    /// Whether both are the same kind.
     fn is(self, other: Kind) -> bool
         ensures { result ≡ is_same self other }
     {
         self.place() == other.place()
     }
 
-    /// Whether an exchange came to an outcome of this kind.
+    /// Whether an exchange had an outcome of this kind.
     pub fn is_of(self, answer: &Result<Delegation, DelegateError>) -> bool
         ensures { result ≡ is_of self answer.now }
     {
