@@ -1,4 +1,4 @@
--- What comes of a text that is no scenario for an end.
+-- The outcome of a text that is no scenario for an end.
 use Rattle.std.proofs.Common.{◌≡◌, ℕ, List, Result, Ok, Err, refl}
 use Rattle.sspi_live.specs.Channel.{Channel}
 use Rattle.sspi_scenario.specs.declared.purpose.Purpose.{Purpose}

@@ -1,4 +1,4 @@
--- A line that was made is the one that is told.
+-- A line that was made is the one that is written.
 use Rattle.std.proofs.Common.{◌≡◌, ℕ, List, Option, Result, Ok, Err, IfOk, subst}
 use Rattle.std.specs.Global.{Vec}
 use Rattle.sspi_channel.specs.Ended.{Says, without_memory}

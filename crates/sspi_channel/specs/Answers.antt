@@ -14,19 +14,19 @@ use Rattle.sspi_channel.specs.declared.answer.Served.{Served}
 use Rattle.sspi_channel.specs.Delegating.{Delegates, IsConnected, IsServed}
 use Rattle.sspi_channel.specs.Early.{HearsIfAsked, TellsIfAsked, is_asked, told_by}
 
--- what was told behind this delegation
+-- what was told after this delegation
 abbrev pub served_with : Delegation → Result (Option EarlyUserAuthResult) ChannelError →
     Result Served ChannelError
 served_with delegation (Ok told) = Ok (record { delegation = delegation; told = told })
 served_with delegation (Err error) = Err error
 
--- what was heard behind so many messages
+-- what was heard after this many messages
 abbrev pub connected_with : ℕ → Result (Option EarlyUserAuthResult) ChannelError →
     Result Connected ChannelError
 connected_with rounds (Ok heard) = Ok (record { rounds = rounds; heard = heard })
 connected_with rounds (Err error) = Err error
 
--- what a server tells behind its delegation; behind one that came to no end it tells nothing
+-- what a server tells after its delegation; after a failed one it tells nothing
 abbrev pub TellsBehind : Scenario → Channel → Channel → Result Delegation ChannelError →
     Result Served ChannelError → Type 0
 TellsBehind scenario before after (Ok delegation) result =
@@ -38,7 +38,7 @@ TellsBehind scenario before after (Ok delegation) result =
     (result ≡ served_with delegation told)
 TellsBehind scenario before after (Err error) result = (after ≡ before) × (result ≡ Err error)
 
--- the same of what a client hears
+-- the same for what a client hears
 abbrev pub HearsBehind : Scenario → Channel → Channel → Result ℕ ChannelError →
     Result Connected ChannelError → Type 0
 HearsBehind scenario before after (Ok rounds) result =
@@ -49,10 +49,10 @@ HearsBehind scenario before after (Ok rounds) result =
     (result ≡ connected_with rounds heard)
 HearsBehind scenario before after (Err error) result = (after ≡ before) × (result ≡ Err error)
 
--- The server of the scenario ran over the channel, and told the early result behind its delegation.
+-- The server of the scenario ran over the channel, and told the early result after its delegation.
 pub record ServesAs (scenario : Scenario) (before after : Channel)
     (result : Result Served ChannelError) : Type 0 where
-  -- what the delegation came to, and the channel then
+  -- the outcome of the delegation, and the channel then
   pub delegated : Result Delegation ChannelError
   pub now : Channel
   pub delegates : Delegates (IsServed scenario) before now delegated
@@ -65,8 +65,8 @@ pub record ConnectsAs (scenario : Scenario) (before after : Channel)
   pub delegates : Delegates (IsConnected scenario) before now delegated
   pub hears : HearsBehind scenario now after delegated result
 
--- What comes of a text: what its end comes to; or it is no scenario for this, or there was no
--- memory to read it, and the channel is as it was.
+-- The outcome of a text: that of its end; or it is no scenario for this, or there was no memory to
+-- read it, and the channel is as it was.
 pub data ComesOf {X : Type 0} (purpose : Purpose) (text : List ℕ) (Runs : Scenario → Channel →
     Channel → Result X ChannelError → Type 0)
     (before after : Channel) (result : Result X ChannelError) : Type 0 where

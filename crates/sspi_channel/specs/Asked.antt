@@ -12,7 +12,7 @@ end_named word =
     else if bytes_eq word (codes "connect") then Some Client
     else None
 
--- two words, of which the second is the file
+-- two words, the second of which is the file
 abbrev pub asked_in : List (List ℕ) → Option (End × List ℕ)
 asked_in [] = None
 asked_in (word ∷ []) = None

@@ -23,7 +23,7 @@ use Rattle.sspi_channel.specs.declared.answer.ChannelError.{ChannelError}
 use Rattle.sspi_channel.specs.declared.answer.ChannelError.TheVariants as channel
 use Rattle.sspi_channel.specs.declared.counted.Counted.{Counted}
 
--- what a counted source and a counted sink show at one moment
+-- the state of a counted source and a counted sink at one moment
 abbrev pub counted_channel : {S W : Type 0} → (S → Option (List ℕ)) → (W → Option (List ℕ)) →
     Counted S → Counted W → Channel
 counted_channel left written source sink =
@@ -36,7 +36,7 @@ counted_channel left written source sink =
 
 -- ---- the ends
 
--- The server of a scenario, fresh, ran over the channel and came to this answer: all that `serve`
+-- The server of a scenario, fresh, ran over the channel and gave this answer: all that `serve`
 -- promises holds.
 pub record IsServed (scenario : Scenario) (before after : Channel)
     (answer : Result Delegation DelegateError) : Type 0 where
@@ -53,7 +53,7 @@ pub record IsServed (scenario : Scenario) (before after : Channel)
   pub shown : ServedFresh plain_meaning table_meaning server answer turns server2
   pub proxy : ProxyStays table_meaning server.proxy server2.proxy
 
--- The same of the client of a scenario and of its KDC, and of all that `connect` promises.
+-- The same for the client of a scenario and its KDC, and for all that `connect` promises.
 pub record IsConnected (scenario : Scenario) (before after : Channel)
     (answer : Result ℕ DelegateError) : Type 0 where
   pub client : ClientView PlainContext
@@ -73,9 +73,9 @@ pub record IsConnected (scenario : Scenario) (before after : Channel)
       client2 kdc2
   pub kdc : KdcStays told_replies kdc_faults (kdc_in scenario) kdc2
 
--- ---- what is made of an answer
+-- ---- what becomes of an answer
 
--- a failed channel failed in a write, or else in a read
+-- a failed channel failed in a write, or otherwise in a read
 abbrev pub error_by : DelegateError → Bool → ChannelError
 error_by errors.LinkFault true = channel.WriteFault
 error_by errors.LinkFault false = channel.ReadFault
@@ -86,11 +86,11 @@ abbrev pub by_fault : {X : Type 0} → Result X DelegateError → Bool → Resul
 by_fault (Ok x) write_failed = Ok x
 by_fault (Err error) write_failed = Err (error_by error write_failed)
 
--- the count of failed writes moved
+-- the count of failed writes changed
 abbrev pub write_failed : Channel → Channel → Bool
 write_failed before after = not (after.write_faults == before.write_faults)
 
--- what came of the delegation; or there was no memory for the end, and the channel is as it was
+-- the outcome of the delegation; or there was no memory for the end, and the channel is as it was
 pub data Delegates {X : Type 0} (Ran : Channel → Channel → Result X DelegateError →
     Type 0) (before after : Channel)
     (result : Result X ChannelError) : Type 0 where

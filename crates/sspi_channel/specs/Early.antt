@@ -1,4 +1,4 @@
--- The early result behind a delegation (MS-RDPBCGR 2.2.10.2), which is told and heard where the
+-- The early result after a delegation (MS-RDPBCGR 2.2.10.2), which is told and heard if the
 -- scenario admits anybody.
 use Rattle.std.specs.Prelude.{◌≡◌, ℕ, Bool, true, false, List, [], ◌∷◌, Option, None, Some, Result}
 use Rattle.std.specs.Prelude.{Ok, Err}
@@ -13,12 +13,12 @@ use Rattle.sspi_tsreq.specs.Early.{early_result_at, early_result_text}
 use Rattle.sspi_channel.specs.declared.answer.ChannelError.{ChannelError}
 use Rattle.sspi_channel.specs.declared.answer.ChannelError.TheVariants as channel
 
--- what is told of a user: whether it is among those who are admitted; nothing where nobody is
+-- what is told of a user: whether it is among those who are admitted; nothing if nobody is
 abbrev pub told_by : List Name → Name → Option EarlyUserAuthResult
 told_by [] user = None
 told_by (name ∷ names) user = Some (told_of (is_listed (name ∷ names) user))
 
--- whether a scenario that admits these has its client hear the result
+-- whether the client of a scenario that admits these hears the result
 abbrev pub is_asked : List Name → Bool
 is_asked [] = false
 is_asked (name ∷ names) = true
@@ -55,7 +55,7 @@ heard_as (Ok heard) = Ok (Some heard)
 heard_as (Err kinds.ReadFault) = Err channel.ReadFault
 heard_as (Err kind) = Err (channel.Early kind)
 
--- Four octets were read, and none behind them; what is left, and the counts of the source's faults.
+-- Four octets were read, and none after them; what is left, and the counts of the source's faults.
 pub record Hears (before after : Option (List ℕ)) (faults faults2 : ℕ)
     (result : Result (Option EarlyUserAuthResult) ChannelError)
     : Type 0 where

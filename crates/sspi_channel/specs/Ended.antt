@@ -25,7 +25,7 @@ pub data Says (line : List ℕ) (before after : Option (List ℕ)) : Type 0 wher
       Says line before after
   without_memory : after ≡ before → Says line before after
 
--- the end came to an answer, which the line and the status say
+-- the end gave an answer, which the line and the status report
 abbrev pub EndsAs : End → List ℕ → Channel → Channel → Option (List ℕ) → Option (List ℕ) → ℕ →
     Type 0
 EndsAs Server text before after told told2 status =
@@ -44,9 +44,9 @@ file_error TooLong = channel.Scenario 0
 file_error Failed = channel.ReadFault
 file_error InsufficientMemory = channel.InsufficientMemory
 
--- The end ran by the text of the file; or the file gave none, which the line and the status say,
--- and the channel is as it was. What the file has left is told or not, and its count of faults
--- moves as `read_text` says.
+-- The end ran by the text of the file; or the file gave none, which the line and the status report,
+-- and the channel is as it was. What the file has left may be exposed or not, and its count of
+-- faults changes as `read_text` says.
 pub data EndsFile (end : End) (left : Option (List ℕ)) (faults faults2 : ℕ) (before after : Channel)
     (told told2 : Option (List ℕ))
     (status : ℕ) : Type 0 where

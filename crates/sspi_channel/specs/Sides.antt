@@ -7,7 +7,7 @@ use Rattle.sspi_channel.specs.declared.answer.ChannelError.{ChannelError}
 use Rattle.sspi_channel.specs.declared.answer.ChannelError.TheVariants as channel
 use Rattle.sspi_channel.specs.declared.counted.Counted.{Counted}
 
--- what a counted sink shows, or a source, where the other side of its channel shows this
+-- the state of a counted sink, or of a source, together with this state of its channel's other side
 abbrev pub sink_channel : {W : Type 0} → (W → Option (List ℕ)) → Option (List ℕ) → ℕ → Counted W →
     Channel
 sink_channel written left read_faults sink =

@@ -7,7 +7,7 @@ use Rattle.sspi_channel.specs.declared.answer.ChannelError.TheVariants as channe
 use Rattle.sspi_channel.specs.declared.answer.Connected.{Connected}
 use Rattle.sspi_channel.specs.declared.answer.Served.{Served}
 
--- 0, but for a user who may not log on
+-- 0, except for a user who may not log on
 abbrev pub early_status : Option EarlyUserAuthResult → ℕ
 early_status None = 0
 early_status (Some Success) = 0

@@ -1,4 +1,4 @@
--- The line that says what an end over a channel came to.
+-- The line with the outcome of an end over a channel.
 use Rattle.std.specs.Prelude.{ℕ, ◌+◌, ◌/◌, ◌%◌, ◌==◌, ◌||◌, nat_lt, List, [], ◌∷◌, ◌++◌, codes}
 use Rattle.std.specs.Prelude.{decimal, Option, None, Some, Result, Ok, Err}
 use Rattle.std.specs.Prelude.{if◌then◌else◌}
@@ -43,7 +43,7 @@ scenario_text line = with_line_feed (codes "error: scenario line " ++ decimal li
 abbrev pub early_text : List ℕ → List ℕ
 early_text kind = with_line_feed (codes "early read " ++ kind)
 
--- that of a delegation is the last one of its report
+-- the line of a delegation is the last one of its report
 abbrev pub error_text : ChannelError → List ℕ
 error_text (channel.Scenario line) = scenario_text line
 error_text (channel.Delegate error) = report_text [] (Err error)
@@ -52,7 +52,7 @@ error_text channel.ReadFault = with_line_feed (codes "error: read")
 error_text channel.WriteFault = with_line_feed (codes "error: write")
 error_text channel.InsufficientMemory = with_line_feed (codes "error: memory")
 
--- how many messages of the client it took, and what stands before the name
+-- how many messages of the client the server took, and what precedes the name
 abbrev pub head : ℕ → List ℕ
 head rounds = codes "ok " ++ decimal rounds ++ codes " user="
 

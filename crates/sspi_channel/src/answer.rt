@@ -12,7 +12,7 @@ use sspi_tsreq::EarlyUserAuthResult;
 #[derive(Drop)]
 pub struct Served {
     pub delegation: Delegation,
-    /// What it told its client behind them, if its scenario admits anybody.
+    /// What it told its client after them, if its scenario admits anybody.
     pub told: Option<EarlyUserAuthResult>,
 }
 
@@ -21,11 +21,11 @@ pub struct Served {
 pub struct Connected {
     /// How many messages it sent.
     pub rounds: u32,
-    /// What it heard behind them, if its scenario admits anybody.
+    /// What it heard after them, if its scenario admits anybody.
     pub heard: Option<EarlyUserAuthResult>,
 }
 
-/// Why the end of a scenario did not come to that.
+/// Why an end of a scenario failed.
 #[derive(Clone, Copy, Debug, PartialEq, Eq)]
 pub enum ChannelError {
     /// The text is no scenario for this end. The number is that of its first faulty line, as in
@@ -33,8 +33,8 @@ pub enum ChannelError {
     Scenario(usize),
     /// The delegation ended for this reason, which is neither a failed channel nor out of memory.
     Delegate(DelegateError),
-    /// What came behind the delegation is no early result: `UnexpectedEof` where the source ended
-    /// before its fourth octet, and else `InvalidData`.
+    /// What came after the delegation is no early result: `UnexpectedEof` if the source ended
+    /// before its fourth octet, otherwise `InvalidData`.
     Early(WireKind),
     /// The source failed.
     ReadFault,
@@ -72,7 +72,7 @@ fn early_status(early: Option<EarlyUserAuthResult>) -> u8
     }
 }
 
-/// The exit status of such a reason.
+/// The exit status of this error.
 pub fn error_status(error: ChannelError) -> u8
     ensures { result ≡ Statuses.error_status error }
 {

@@ -1,4 +1,4 @@
-//! Tells a channel that failed in a write from one that failed in a read.
+//! Distinguishes a channel that failed in a write from one that failed in a read.
 
 ghost use Rattle.std.specs.Prelude.{◌≡◌};
 ghost use Rattle.sspi_channel.specs.Delegating;
@@ -9,7 +9,7 @@ use crate::answer::ChannelError;
 use sspi_delegate::DelegateError;
 use sspi_scenario::ScenarioError;
 
-/// What an end over a channel answered, where it is known whether a write failed.
+/// What an end over a channel answered, given whether a write failed.
 pub(crate) fn by_fault<X>(
     answer: Result<X, DelegateError>,
     write_failed: bool,
@@ -48,7 +48,7 @@ pub(crate) fn text_error(error: ScenarioError) -> ChannelError
     }
 }
 
-/// A value, once what it was made with is dropped. Generic, since to drop a value of a type
+/// A value, after what it was made with is dropped. Generic, since dropping a value of a type
 /// parameter is one step.
 pub(crate) fn without<G: Drop, X>(_gone: G, value: X) -> X
     ensures { result ≡ value }

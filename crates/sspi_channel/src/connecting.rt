@@ -17,23 +17,23 @@ use sspi_scenario::{Purpose, Scenario};
 use sspi_tsreq::EarlyUserAuthResult;
 use std::alloc::Global;
 
-/// Delegates credentials to the peer at the other side of a channel, as the client of the scenario
-/// that this text is.
+/// Delegates credentials to the peer on the other side of a channel, as the client of the scenario
+/// in this text.
 ///
 /// The client sends at most as many messages as the scenario has `turns`, and asks the KDC of the
-/// scenario; `connect` of `sspi_live` says what it reads and writes. Where the scenario admits
-/// anybody, whoever that is, the client then hears whether its user may log on, in four octets, and
-/// takes none behind them. Refused:
+/// scenario; `connect` of `sspi_live` says what it reads and writes. If the scenario admits anybody
+/// at all, the client then hears whether its user may log on, in four octets, and takes none after
+/// them. Refused:
 ///
 /// - `Scenario`: the text is no scenario for `Purpose::Connect`. Nothing was read or written.
 /// - `Delegate`: the delegation ended as `connect` says: the client refused, what came is no
 ///   request, a message is too long, or the turns are spent.
-/// - `Early`: what came behind the delegation is no early result.
-/// - `ReadFault`, `WriteFault`: the source or the sink failed, in the delegation or behind it. Of
-///   what was due a prefix was written.
-/// - `InsufficientMemory`: that of the client or of the KDC among it.
+/// - `Early`: what came after the delegation is no early result.
+/// - `ReadFault`, `WriteFault`: the source or the sink failed, in the delegation or after it. A
+///   prefix of what was due was written.
+/// - `InsufficientMemory`: out of memory, also in the client or the KDC.
 ///
-/// A failed channel failed in a write exactly where the count of `sink` moved.
+/// A failed channel failed in a write exactly when the count of `sink` changed.
 pub fn connect_scenario<S: Source, W: Sink>(
     alloc: Global,
     text: &[u8],
@@ -52,7 +52,7 @@ pub fn connect_scenario<S: Source, W: Sink>(
     }
 }
 
-/// The client of this scenario over the channel, and what it hears behind its delegation.
+/// The client of this scenario over the channel, and what it hears after its delegation.
 fn connect_as<S: Source, W: Sink>(
     alloc: Global,
     scenario: &Scenario,
@@ -98,7 +98,7 @@ fn delegate_by<S: Source, W: Sink>(
     without((client, kdc, transcript), by_fault(answer, write_failed))
 }
 
-/// What the client hears behind its delegation, if that came to its end.
+/// What the client hears after its delegation, if that succeeded.
 fn hear_behind<S: Source>(
     scenario: &Scenario,
     source: &mut Counted<S>,

@@ -1,4 +1,4 @@
-//! The early user authorization result behind a delegation over a channel (MS-RDPBCGR 2.2.10.2).
+//! The early user authorization result after a delegation over a channel (MS-RDPBCGR 2.2.10.2).
 
 ghost use Rattle.std.specs.Prelude.{◌≡◌, IfOk};
 ghost use Rattle.sspi_early.specs.Authorizes.{told_of};
@@ -12,7 +12,7 @@ use sspi_early::EarlyUserAuthResult;
 use sspi_names::Username;
 
 /// What a server tells of a user: whether it is one of those whom the scenario admits; nothing
-/// where it admits nobody.
+/// if it admits nobody.
 pub(crate) fn told_by(admitted: &[Username], user: &Username) -> Option<EarlyUserAuthResult>
     ensures { result ≡ told_by admitted.now user.now }
 {
@@ -22,7 +22,7 @@ pub(crate) fn told_by(admitted: &[Username], user: &Username) -> Option<EarlyUse
     Some(told_of(is_listed(admitted, user)))
 }
 
-/// Whether the name is in the list, but for the case of ASCII letters.
+/// Whether the name is in the list, ignoring the case of ASCII letters.
 fn is_listed(names: &[Username], user: &Username) -> bool
     ensures { result ≡ is_listed names.now user.now }
 {
@@ -39,7 +39,7 @@ fn told_of(admitted: bool) -> EarlyUserAuthResult
     }
 }
 
-/// Tells the client this result, where there is one to tell.
+/// Tells the client this result, if there is one to tell.
 pub(crate) fn tell_if_asked<W: Sink>(
     sink: &mut W,
     told: Option<EarlyUserAuthResult>,
@@ -67,14 +67,14 @@ fn tell<W: Sink>(
     }
 }
 
-/// Whether a scenario that admits these has its client hear the result.
+/// Whether the client of a scenario that admits these hears the result.
 pub(crate) fn is_asked(admitted: &[Username]) -> bool
     ensures { result ≡ is_asked admitted.now }
 {
     !admitted.is_empty()
 }
 
-/// What the server tells, where the scenario asks for it.
+/// What the server tells, if the scenario asks for it.
 pub(crate) fn hear_if_asked<S: Source>(
     source: &mut S,
     asked: bool,

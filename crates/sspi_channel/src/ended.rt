@@ -1,4 +1,4 @@
-//! Runs one end of a scenario over a channel, and tells what it came to.
+//! Runs one end of a scenario over a channel, and reports its outcome.
 
 ghost use Rattle.sspi_channel.specs.Ended.{EndsAs, EndsFile, Says, file_error};
 ghost use Rattle.sspi_channel.specs.Saying.{SaysMade};
@@ -19,13 +19,13 @@ use sspi_credssp::End;
 use sspi_scenario::{TEXT_LIMIT, TextError, read_text};
 use std::alloc::{AllocError, Global};
 
-/// Runs this end of the scenario of a text over a channel, and writes the line of what it came to
-/// to `told`; the exit status.
+/// Runs this end of the scenario of a text over a channel, writes the line of its outcome to
+/// `told`, and returns the exit status.
 ///
-/// The status is 0 where the delegation came to its end, and the user may log on if that was told
-/// or heard; 2 where the text is no scenario for this end, 3 where `source` failed, 4 where `sink`
-/// failed, 5 where there was no memory, and else 1. Nothing of the line goes to `sink`; a line that
-/// cannot be written changes no status.
+/// The status is 0 if the delegation succeeded, and the user may log on if that was told or heard;
+/// 2 if the text is no scenario for this end; 3 if `source` failed; 4 if `sink` failed; 5 if memory
+/// ran out; and otherwise 1. Nothing of the line goes to `sink`; a line that cannot be written does
+/// not change the status.
 pub fn end_scenario<S: Source, W: Sink, T: Sink>(
     alloc: Global,
     end: End,
@@ -53,11 +53,11 @@ pub fn end_scenario<S: Source, W: Sink, T: Sink>(
     }
 }
 
-/// Runs this end of the scenario that the text of `file` is, as `end_scenario` does.
+/// Runs this end of the scenario in the text of `file`, as `end_scenario` does.
 ///
-/// The text is all that is left of `file`, which may be `TEXT_LIMIT` bytes. Else nothing of the
-/// channel is read or written: the status is 2 where more bytes are left, of which one past the
-/// limit is read and no more, 3 where `file` failed, and 5 where there was no memory for the text.
+/// The text is all that is left of `file`, at most `TEXT_LIMIT` bytes. Otherwise nothing of the
+/// channel is read or written: the status is 2 if more bytes are left, of which only one past the
+/// limit is read; 3 if `file` failed; and 5 if there was no memory for the text.
 pub fn end_of_file<F: Source, S: Source, W: Sink, T: Sink>(
     alloc: Global,
     end: End,
@@ -89,7 +89,7 @@ fn file_error(error: TextError) -> ChannelError
     }
 }
 
-/// What the program does where there is no text, for this reason: it says so, and the exit status.
+/// What the program does if there is no text, for this reason: it says so, and returns the status.
 pub fn end_without<T: Sink>(alloc: Global, error: ChannelError, told: &mut T) -> u8
     ensures status { result ≡ error_status error }
     ensures says { Says (error_text error) (T.written told.old) (T.written told.new) }
@@ -98,7 +98,7 @@ pub fn end_without<T: Sink>(alloc: Global, error: ChannelError, told: &mut T) ->
     error_status(error)
 }
 
-/// Writes a line, where there was memory for it.
+/// Writes a line, if there was memory for it.
 fn say<T: Sink>(told: &mut T, line: Result<Vec<u8>, AllocError>)
     ensures { SaysMade line (T.written told.old) (T.written told.new) }
 {

@@ -2,15 +2,15 @@
 //! FILE` and `connect FILE`.
 //!
 //! - `serve_scenario`, `connect_scenario`: one end of the scenario of a text, over any source and
-//!   any sink, and the early result behind its delegation (MS-RDPBCGR 2.2.10.2).
-//! - `Counted`: a source or a sink that counts its calls that failed, so that a failed write is
-//!   told from a failed read.
+//!   any sink, and the early result after its delegation (MS-RDPBCGR 2.2.10.2).
+//! - `Counted`: a source or a sink that counts its failed calls, so that a failed write can be told
+//!   from a failed read.
 //! - `end_of`: the end and the file that the words of the program ask for.
 //! - `end_of_file`, `end_scenario`: all that the program does with the text of a file, or with a
-//!   text: the end, the line that says what it came to, and the exit status.
+//!   text: the end, the line of its outcome, and the exit status.
 //!
-//! `specs/Answers.antt` has when each answer comes, `specs/Delegating.antt` and `specs/Early.antt`
-//! the two parts of an exchange.
+//! `specs/Answers.antt` says when each answer comes; `specs/Delegating.antt` and `specs/Early.antt`
+//! have the two parts of an exchange.
 #![tactic(auto)]
 
 pub mod answer;

@@ -1,4 +1,4 @@
-//! The line that says what an end over a channel came to.
+//! The line with the outcome of an end over a channel.
 
 ghost use Rattle.std.specs.Prelude.{◌≡◌, ◌<◌, ◌++◌, IfOk, OnOk};
 ghost use Rattle.sspi_channel.specs.Texts;
@@ -12,9 +12,9 @@ use sspi_report::report;
 use sspi_tsreq::EarlyUserAuthResult;
 use std::alloc::{AllocError, Global};
 
-/// The line that says what a server came to, ended by LF. It has the name of the user and no
-/// password; a control character of the name, which is the client's, is told by its number, so that
-/// no name makes a line of its own. Fails only when out of memory.
+/// The line with the outcome of a server, ended by LF. It has the name of the user and no password.
+/// The name is the client's, so a control character in it is shown by its number, and no name makes
+/// a line of its own. Fails only when out of memory.
 pub fn serve_line(
     alloc: Global,
     answer: &Result<Served, ChannelError>,
@@ -35,7 +35,7 @@ pub fn serve_line(
     Ok(text)
 }
 
-/// How many messages of the client it took, and what stands before the name.
+/// How many messages of the client the server took, and what precedes the name.
 fn head(alloc: Global, rounds: u32) -> Result<Vec<u8>, AllocError>
     ensures { IfOk result (λ text. text.items ≡ head rounds) }
 {
@@ -43,7 +43,7 @@ fn head(alloc: Global, rounds: u32) -> Result<Vec<u8>, AllocError>
     Ok(text.into_bytes())
 }
 
-/// The line that says what a client came to, ended by LF. Fails only when out of memory.
+/// The line with the outcome of a client, ended by LF. Fails only when out of memory.
 pub fn connect_line(
     alloc: Global,
     answer: &Result<Connected, ChannelError>,
@@ -70,7 +70,7 @@ fn early_part(early: Option<EarlyUserAuthResult>) -> &'static str
     }
 }
 
-/// The line of such a reason, ended by LF. Fails only when out of memory.
+/// The line of this error, ended by LF. Fails only when out of memory.
 pub(crate) fn error_text(alloc: Global, error: ChannelError) -> Result<Vec<u8>, AllocError>
     ensures { IfOk result (λ text. text.items ≡ error_text error) }
 {
@@ -110,8 +110,7 @@ fn wire_name(kind: WireKind) -> &'static str
     }
 }
 
-/// Puts a text behind another, in which each control character of ASCII stands as `\x` and its two
-/// hex digits.
+/// Appends a text, with each control character of ASCII written as `\x` and its two hex digits.
 fn push_shown(made: &mut Vec<u8>, text: &[u8]) -> Result<(), AllocError>
     ensures { OnOk result (made.new.items ≡ made.old.items ++ shown text.now) }
 {

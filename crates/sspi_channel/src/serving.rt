@@ -17,23 +17,23 @@ use sspi_scenario::{Purpose, Scenario};
 use sspi_tsreq::EarlyUserAuthResult;
 use std::alloc::Global;
 
-/// Takes the credentials of the peer at the other side of a channel, as the server of the scenario
-/// that this text is.
+/// Takes the credentials of the peer on the other side of a channel, as the server of the scenario
+/// in this text.
 ///
 /// The server makes at most as many turns as the scenario has `turns`; `serve` of `sspi_live` says
-/// what it reads and writes. Where the scenario admits anybody, the server then tells whether the
-/// delegated name is one of theirs, in four octets. A client may delegate any name: who lets a user
-/// in by it must log that user on. Refused:
+/// what it reads and writes. If the scenario admits anybody, the server then tells whether the
+/// delegated name is one of theirs, in four octets. A client may delegate any name: whoever admits
+/// a user by it must log that user on. Refused:
 ///
 /// - `Scenario`: the text is no scenario for `Purpose::Serve`. Nothing was read or written.
 /// - `Delegate`: the delegation ended as `serve` says: the server refused, what came is no request,
 ///   an answer is too long, or the turns are spent.
-/// - `ReadFault`, `WriteFault`: the source or the sink failed, in the delegation or behind it. Of
-///   what was due a prefix was written.
-/// - `InsufficientMemory`: that of the server among it.
+/// - `ReadFault`, `WriteFault`: the source or the sink failed, in the delegation or after it. A
+///   prefix of what was due was written.
+/// - `InsufficientMemory`: out of memory, also in the server.
 ///
-/// `Early` does not come. A failed channel failed in a write exactly where the count of `sink`
-/// moved.
+/// `Early` does not come. A failed channel failed in a write exactly when the count of `sink`
+/// changed.
 pub fn serve_scenario<S: Source, W: Sink>(
     alloc: Global,
     text: &[u8],
@@ -52,7 +52,7 @@ pub fn serve_scenario<S: Source, W: Sink>(
     }
 }
 
-/// The server of this scenario over the channel, and what it tells behind its delegation.
+/// The server of this scenario over the channel, and what it tells after its delegation.
 fn serve_as<S: Source, W: Sink>(
     alloc: Global,
     scenario: &Scenario,
@@ -94,7 +94,7 @@ fn delegate_to<S: Source, W: Sink>(
     without((server, transcript), by_fault(answer, write_failed))
 }
 
-/// What the server tells behind its delegation, if that came to its end.
+/// What the server tells after its delegation, if that succeeded.
 fn tell_behind<W: Sink>(
     scenario: &Scenario,
     sink: &mut Counted<W>,
