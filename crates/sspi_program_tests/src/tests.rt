@@ -1,7 +1,7 @@
 //! Runs of the program over sources and sinks in memory.
 //!
-//! Cases stand in tables, a line each, and one helper runs them: a value that is alive over a `?`
-//! is what a test costs most.
+//! Cases are in tables, one per line, and one helper runs them: a value that is alive across a `?`
+//! is the largest cost of a test.
 
 mod edges;
 mod explained;
@@ -25,7 +25,7 @@ use std::str;
 /// The exchange of DOM\ann with the password pw over the channel of the key 010203.
 pub const ORDINARY: &str = "mode ntlm\nuser DOM\\ann\npassword pw\nkey 010203\n";
 
-/// The words of the program, which stand one space apart.
+/// The words of the program, which spaces separate.
 pub fn words_of(alloc: Global, text: &str) -> Result<Vec<String>, AllocError> {
     let mut words = Vec::new(alloc);
     for word in text.split(' ') {
@@ -36,7 +36,7 @@ pub fn words_of(alloc: Global, text: &str) -> Result<Vec<String>, AllocError> {
     Ok(words)
 }
 
-/// What these words make of a text: the exit status, and what they write.
+/// The result of these words on a text: the exit status, and what they write.
 pub fn run_on(alloc: Global, words: &str, text: &[u8]) -> Result<(u8, VecSink), AllocError> {
     let words = words_of(alloc, words)?;
     let mut source = SliceSource::new(text);
@@ -49,7 +49,7 @@ pub fn no_memory(rt: &impl Abort) {
     assert!(rt; false, "no memory");
 }
 
-/// What stands before the next `|`, and what behind it.
+/// What comes before the next `|`, and what comes after it.
 fn parted(text: &str) -> (&str, &str) {
     match text.split_once('|') {
         Some(parts) => parts,
@@ -57,7 +57,7 @@ fn parted(text: &str) -> (&str, &str) {
     }
 }
 
-/// A text of which this piece makes up the middle, so often.
+/// A text whose middle is this piece, repeated this many times.
 pub fn stretched(
     alloc: Global,
     (front, piece, times, more): (&str, &str, usize, &str),
@@ -68,7 +68,7 @@ pub fn stretched(
     Ok(text)
 }
 
-/// Whether the text has as many lines as this number says, holds that text, and ends with this one.
+/// Whether the text has this number of lines, contains one text, and ends with the other.
 fn has_parts(written: &[u8], lines: &str, holds: &str, last: &str) -> bool {
     match str::from_utf8(written) {
         Ok(report) => {
@@ -81,7 +81,7 @@ fn has_parts(written: &[u8], lines: &str, holds: &str, last: &str) -> bool {
 }
 
 /// The output of these words on a scenario is as a case says: the exit status, a space and the
-/// number of its lines, a text that it holds and one at its end, a `|` behind each but the last.
+/// number of its lines; a text that it contains; and one at its end. A `|` separates the three.
 pub fn reports(rt: &impl Abort, alloc: Global, words: &str, scenario: &str, case: &str) {
     let (counts, texts) = parted(case);
     let (holds, last) = parted(texts);
@@ -98,7 +98,7 @@ pub fn reports(rt: &impl Abort, alloc: Global, words: &str, scenario: &str, case
     }
 }
 
-/// The same of a scenario of which a piece makes up the middle.
+/// The same for a scenario whose middle is a repeated piece.
 pub fn reports_long(
     rt: &impl Abort,
     alloc: Global,
@@ -112,8 +112,8 @@ pub fn reports_long(
     }
 }
 
-/// The same of a line of a table, in which `;` stands for an LF: the counts, what stands in the
-/// scenario behind these first lines, and the two texts.
+/// The same for a line of a table, with each `;` replaced by an LF: the counts, what follows these
+/// first lines in the scenario, and the two texts.
 fn shows(rt: &impl Abort, alloc: Global, words: &str, front: &str, line: &str) {
     let (counts, rest) = parted(line);
     let (more, texts) = parted(rest);
@@ -126,7 +126,7 @@ fn shows(rt: &impl Abort, alloc: Global, words: &str, front: &str, line: &str) {
     }
 }
 
-/// The same of each line of a table.
+/// The same for each line of a table, in which `;` stands for an LF.
 pub fn shows_all(rt: &impl Abort, alloc: Global, words: &str, front: &str, table: &str) {
     for line in table.lines() {
         match line.replace(alloc, ';', "\n") {

@@ -4,8 +4,8 @@ use crate::tests::{ORDINARY, no_memory, reports, reports_long, run_on, shows_all
 use std::alloc::Global;
 use std::process::Abort;
 
-/// Of two edits of one message the later changes what the earlier made; and a message that is not
-/// an earlier one gives nothing.
+/// Of two edits of one message, the later changes the result of the earlier; and `again` delivers
+/// nothing for a message that is not an earlier one.
 const SEVERAL_EDITS: &str =
     "1 4|edit 1 drop;edit 1 give 300da003020106a4060204c0070308;|;! 300da003020106a4060204c0070308;|;client InvalidToken 0x\
      c0070308;\n\
@@ -14,9 +14,9 @@ const SEVERAL_EDITS: &str =
     1 2|edit 0 again 0;||;read server UnexpectedEof;\n\
     1 3|edit 1 again 2;||;read client UnexpectedEof;";
 
-/// What a refusing server sends is its last word, whatever the link does with it. Of a code of
-/// eight bytes the low 32 bits count. A refusing server tells its code from version 3 on, and not
-/// at version 5.
+/// What a refusing server sends is its last message, whatever the link does with it. Of a code of
+/// eight bytes, only the low 32 bits count. A refusing server sends its code from version 3 on,
+/// except at version 5.
 const REFUSALS: &str = "1 4|accounts none;edit 3 fail;||;server NoCredentials;\n\
     1 5|accounts none;edit 3 drop;|;< 3065a003020106|;server NoCredentials;\n\
     1 4|edit 1 give 3011a003020106a40a02080000000100000000;|;! 3011a003020106|;client InvalidToken;\n\
@@ -37,7 +37,7 @@ fn links_and_refusals(rt: HostRuntime) {
     }
 }
 
-/// Users and passwords that are delegated and shown so.
+/// Users and passwords that are delegated and shown as they are.
 const NAMES_AND_PASSWORDS: &str = "0 6|user \\ann;password||;ok 3 user=ann password=;\n\
     0 6|user ann@;password  ||;ok 3 user=ann@ password= ;\n\
     0 6|user @;password #||;ok 3 user=@ password=#;\n\
@@ -51,7 +51,7 @@ fn names_and_passwords(rt: HostRuntime) {
     shows_all(&rt, rt.alloc(), "delegate", front, NAMES_AND_PASSWORDS);
 }
 
-/// Bytes behind a message are read with it, however many.
+/// Bytes after a message are read with it, however many there are.
 fn reads_more_behind(rt: &impl Abort, alloc: Global, more: (&str, &str, usize, &str)) {
     let (delivered, end) = (
         "0 7|\n! 3011a003020106a10a30083006a00404024e31",
@@ -73,8 +73,8 @@ fn a_delivery_with_more_behind(rt: HostRuntime) {
     reads_more_behind(&rt, rt.alloc(), (front, "00", 65536, "\n"));
 }
 
-/// Of a delivery 1048581 bytes are read, which is the longest message: of three bytes behind one
-/// none is read.
+/// At most 1048581 bytes of a delivery are read, as many as the longest message has: of three bytes
+/// after one, none is read.
 #[test]
 fn a_delivery_past_the_limit(rt: HostRuntime) {
     let front = "mode ntlm\nuser DOM\\ann\nkey 010203\nedit 4 add 070707\npassword ";
@@ -87,7 +87,7 @@ fn a_delivery_past_the_limit(rt: HostRuntime) {
     );
 }
 
-/// Whether a text of a length ends with this status; with 2 the line is 0.
+/// The run on this text ends with this status; with 2, the line is 0.
 fn ends_with(rt: &impl Abort, alloc: Global, text: (&str, &str, usize, &str), status: u8) {
     let Ok(text) = stretched(alloc, text) else {
         no_memory(rt);
@@ -102,7 +102,7 @@ fn ends_with(rt: &impl Abort, alloc: Global, text: (&str, &str, usize, &str), st
     }
 }
 
-/// 1 MiB is a scenario; a byte more is none, whatever its lines.
+/// A text of 1 MiB is a scenario; with a byte more it is none, whatever its lines.
 #[test]
 fn the_longest_text(rt: HostRuntime) {
     let rest = 1_048_576 - ORDINARY.len();

@@ -1,4 +1,4 @@
-//! What `explain` makes of texts: messages of the standards' grammar, worked by hand.
+//! What `explain` makes of texts: messages of the standards' grammar, worked out by hand.
 
 use crate::tests::{ORDINARY, no_memory, reports_whole, run_on, stretched};
 use std::alloc::Global;
@@ -40,7 +40,7 @@ fn messages_are_told_in_the_place_of_their_lines(rt: HostRuntime) {
     reports_whole(&rt, rt.alloc(), "explain", "\n\nx", "\n\nx\n");
 }
 
-/// The status of `explain` on this text, and whether what it writes holds one text and ends with
+/// The status of `explain` on this text, and whether what it writes contains one text and ends with
 /// another.
 fn explains(rt: &impl Abort, alloc: Global, text: &[u8], status: u8, holds: &str, last: &str) {
     match run_on(alloc, "explain", text) {
@@ -55,7 +55,7 @@ fn explains(rt: &impl Abort, alloc: Global, text: &[u8], status: u8, holds: &str
     }
 }
 
-/// The same of a text of which a piece makes up the middle.
+/// The same for a text whose middle is a repeated piece.
 fn explains_long(
     rt: &impl Abort,
     alloc: Global,
@@ -69,7 +69,7 @@ fn explains_long(
     }
 }
 
-/// A message of 1 MiB is a text of the longest that is taken; a LF more is too much.
+/// A message of 1 MiB makes the longest text that is accepted; one more LF is too much.
 const LONGEST: &str = "30830ffffba003020106a2830ffff104830fffec";
 
 #[test]
@@ -94,7 +94,7 @@ fn long_texts(rt: HostRuntime) {
     explains_long(&rt, rt.alloc(), ("", "3000\n", 100_000, ""), 0, lines);
 }
 
-/// Of the ordinary exchange, what FORMATS works by hand.
+/// The ordinary exchange, as FORMATS works it out by hand.
 #[test]
 fn a_report_is_told_in_words(rt: HostRuntime) {
     match run_on(rt.alloc(), "delegate", ORDINARY.as_bytes()) {
@@ -146,7 +146,7 @@ const REFUSED: &str = "30|  1 refused UnexpectedEof header: length: end of bytes
     a1063004a2020401|  8 refused InvalidToken responseToken: 1 byte wanted, 0 left\n\
     a1063004a3020500|  6 refused InvalidToken mechListMIC: tag 04 wanted, 05 found";
 
-/// What `explain` writes of a line ends with this one.
+/// What `explain` writes for a line ends with this one.
 fn ends_with(rt: &impl Abort, alloc: Global, text: &str, last: &str) {
     match run_on(alloc, "explain", text.as_bytes()) {
         Ok((status, sink)) => {
@@ -164,8 +164,8 @@ fn last_line(written: &[u8]) -> Option<&str> {
     }
 }
 
-/// Identifiers: the numbers 2^56 and 2^63 - 1, of nine octets; 2^63, of ten, which is not told; and
-/// what is none, once with a field behind it, since the reader takes any content.
+/// Identifiers: the numbers 2^56 and 2^63 - 1, of nine octets; 2^63, of ten, which is not shown;
+/// and invalid ones, once with a field after it, since the reader accepts any content.
 const IDENTIFIERS: &str =
     "a110300ea10c060a2b818080808080808000|  4 supportedMech 1.3.72057594037927936\n\
     a110300ea10c060a2bffffffffffffffff7f|  4 supportedMech 1.3.9223372036854775807\n\
@@ -189,7 +189,7 @@ fn faults_are_told_at_their_offsets(rt: HostRuntime) {
     all_end_with(&rt, rt.alloc(), REFUSED);
 }
 
-/// The same of each row of a table.
+/// The same for each row of a table.
 fn all_end_with(rt: &impl Abort, alloc: Global, table: &str) {
     for row in table.lines() {
         match row.split_once('|') {

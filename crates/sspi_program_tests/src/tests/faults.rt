@@ -6,7 +6,7 @@ use sspi_program::run::exit_status;
 use std::alloc::Global;
 use std::process::Abort;
 
-/// The ends did nothing, and this status and text are the answer.
+/// The ends did nothing, and the result is this status and output.
 fn answers(rt: &impl Abort, alloc: Global, words: &str, text: &[u8], status: u8, output: &str) {
     match run_on(alloc, words, text) {
         Ok((found, sink)) => {
@@ -17,7 +17,7 @@ fn answers(rt: &impl Abort, alloc: Global, words: &str, text: &[u8], status: u8,
     }
 }
 
-/// Words that are no command, one a line.
+/// Words that are no command, one per line.
 const OTHER_WORDS: &str =
     "\ndelegate delegate\nplay play\ndelegates\nPlay\ndelegate 1\ngate-crash\n\
     gen\ngen 0\ngen 10001\ngen 01\ngen +1\ngen -1\ngen 4294967297\ngen x\ngen 8 8\nGen 8\n8 gen\n\
@@ -37,8 +37,8 @@ fn other_words(rt: HostRuntime) {
     }
 }
 
-/// Texts that are no scenario: the words, the output and the text, a `|` behind each but the last,
-/// with `;` for an LF.
+/// Texts that are no scenario: the words, the output and the text, with a `|` after each but the
+/// last, and `;` for an LF.
 const NO_SCENARIOS: &str = "delegate|error: scenario line 1;|mode x;\n\
     delegate|error: scenario line 0;|\n\
     delegate|error: scenario line 4;|mode ntlm;# user;;keys 00;\n\

@@ -1,4 +1,4 @@
-//! Exchanges that an attacker disturbs, with how both ends end.
+//! Exchanges that an attacker disturbs, with the outcome of both ends.
 
 use crate::tests::{ORDINARY, has_parts, no_memory, parted, stretched, words_of};
 use sspi_ber::{FaultySink, FaultySource, Sink, SliceSource, Source, VecSink};
@@ -34,11 +34,11 @@ fn check_standing(rt: &impl Abort, alloc: Global, kept: &Option<Record>, stands:
     }
 }
 
-/// Generic, since to drop a value of a type parameter is one step.
+/// Generic, since dropping a value of a type parameter is one step.
 fn let_go<T: Drop>(_value: T) {}
 
-/// The exchange of this scenario has a name, the exit status with a space and the number of the
-/// report's lines, the text at the report's end, and how its ends then stand.
+/// The exchange of this scenario has a name; the exit status, a space and the number of the
+/// report's lines; the text at the report's end; and then the counts of `standing`.
 fn ends_so(
     rt: &impl Abort,
     alloc: Global,
@@ -71,9 +71,9 @@ fn delegate_ends_so(
     }
 }
 
-/// The same of a case of a table, a `|` behind each part but the last: its name, the counts, the
-/// text at the end, how many turns the client and the server make and how many of them seal
-/// credentials, and the lines that it adds to the scenario.
+/// The same for a case of a table, with a `|` after each part but the last: its name, the counts,
+/// and the text at the end; how many turns the client and the server make, and how many of them
+/// seal credentials; and the lines that it adds to the scenario.
 fn ends_with_lines(rt: &impl Abort, alloc: Global, scenario: &str, case: &str) {
     let (name, rest) = parted(case);
     let (counts, rest) = parted(rest);
@@ -85,7 +85,7 @@ fn ends_with_lines(rt: &impl Abort, alloc: Global, scenario: &str, case: &str) {
     }
 }
 
-/// The same of a line in which `;` stands for an LF.
+/// The same for a line in which `;` stands for an LF.
 fn ends_as(rt: &impl Abort, alloc: Global, scenario: &str, line: &str) {
     match line.replace(alloc, ';', "\n") {
         Ok(case) => ends_with_lines(rt, alloc, scenario, &case),
@@ -93,9 +93,9 @@ fn ends_as(rt: &impl Abort, alloc: Global, scenario: &str, line: &str) {
     }
 }
 
-/// What somebody on the link, a server with another password, and a link that fails come to. Where
-/// the client seals nothing, nothing is there to be opened; where it seals and the server is then
-/// given another message, the server refuses it.
+/// The outcome with somebody on the link, a server with another password, and a link that fails. If
+/// the client seals nothing, there is nothing to open; if it seals and the server is then given
+/// another message, the server refuses it.
 const ATTACKS: &str =
     "the first message has another version|1 6|;server MessageAltered;|2 2 0|edit 0 set 6 05;\n\
     the first answer has another version|1 6|;client MessageAltered;|3 2 0|edit 1 set 6 05;\n\
@@ -125,16 +125,16 @@ fn attacks_on_an_exchange(rt: HostRuntime) {
     }
 }
 
-/// The lengths of the five messages, and how the ends stand where one was cut: its reader has made
-/// no turn of it.
+/// The lengths of the five messages, and the outcome when one was cut: its reader has made no turn
+/// from it.
 const CUTS: &str = "19|;read server UnexpectedEof;|1 0 0\n\
     27|;read client UnexpectedEof;|1 1 0\n\
     149|;read server UnexpectedEof;|2 1 0\n\
     95|;read client UnexpectedEof;|2 2 0\n\
     104|;read server UnexpectedEof;|3 2 1";
 
-/// The report has the messages up to this one, what was read of it where that is not nothing, and
-/// the answer.
+/// The report has the messages up to this one, what was read of it if that is not empty, and the
+/// answer.
 fn is_read_no_further(rt: &impl Abort, alloc: Global, entry: usize, length: usize, ends: &str) {
     let lines = entry.wrapping_add(if length > 0 { 3 } else { 2 });
     match format!(in alloc;
@@ -164,8 +164,8 @@ const KERBEROS: &str =
     server-protocol kerberos\nkdc EXAMPLE.COM tcp://kdc\nkdc-user ann@example.com\n\
     ticket 1111111111111111111111111111111111111111111111111111111111111111\n";
 
-/// A KDC that fails before the client has sent anything leads it to NTLM; later it is refused, and
-/// has sent the server one message.
+/// If the KDC fails before the client has sent anything, the client takes NTLM; if it fails later,
+/// the client refuses, and has sent the server one message.
 const FAILING_KDCS: &str =
     "the KDC fails at once|0 8|;ok 4 user=ann@example.com password=pw;|4 4 1|kdc-answer fail;\n\
     the KDC fails at its second call|1 3|;client NoAuthenticatingAuthority;|2 1 0|kdc-answer usual;kdc-answer fail;";
@@ -192,7 +192,7 @@ fn status_of<S: Source, W: Sink>(
     }
 }
 
-/// A source that fails in its call of this number.
+/// A source that fails at the call with this number.
 fn reads_until(rt: &impl Abort, alloc: Global, text: &str, call: u64, status: u8) {
     let mut source = FaultySource::new(text.as_bytes(), call);
     let mut sink = VecSink::new(alloc);
@@ -200,7 +200,7 @@ fn reads_until(rt: &impl Abort, alloc: Global, text: &str, call: u64, status: u8
     assert!(rt; (sink.written() == b"error: read\n".as_slice()) == (status == 3));
 }
 
-/// A sink that fails in its call of this number.
+/// A sink that fails at the call with this number.
 fn writes_until(rt: &impl Abort, alloc: Global, call: u64, status: u8) {
     let mut source = SliceSource::new(ORDINARY.as_bytes());
     let mut sink = FaultySink::new(alloc, call);
@@ -208,7 +208,7 @@ fn writes_until(rt: &impl Abort, alloc: Global, call: u64, status: u8) {
     assert!(rt; sink.written().is_empty() == (status == 4));
 }
 
-/// The text is asked for twice, once behind its end, and one of more than 1024 bytes three times;
+/// The text is read in two calls, one of them at its end, and one of more than 1024 bytes in three;
 /// the report is written in one call.
 #[test]
 fn calls_outside_that_fail(rt: HostRuntime) {

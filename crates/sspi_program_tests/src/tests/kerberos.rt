@@ -1,9 +1,9 @@
-//! Ends of which one at least begins with Kerberos.
+//! Ends of which at least one begins with Kerberos.
 
 use crate::tests::{reports_whole, shows_all};
 
-/// The exchange of ann@example.com with the password pw over the channel of the key 010203, by a
-/// Kerberos that authenticates user to user.
+/// The exchange of ann@example.com with the password pw over the channel of the key 010203, by
+/// Kerberos with user-to-user authentication.
 const KERBEROS: &str =
     "mode negotiate\nuser ann@example.com\npassword pw\nkey 010203\nclient-protocol kerberos\nserver-protocol kerberos\n\
     kdc EXAMPLE.COM tcp://kdc\nkdc-user ann@example.com\n\
@@ -35,9 +35,9 @@ fn both_ends_agree_on_kerberos(rt: HostRuntime) {
     reports_whole(&rt, rt.alloc(), "delegate", KERBEROS, REPORT);
 }
 
-/// Before its first message the client gives Kerberos up for NTLM where the KDC refuses with one of
-/// four kinds, cannot be asked, or is unknown; without NTLM that is its refusal. Later, and at
-/// another kind, it is its refusal too.
+/// Before its first message the client gives up Kerberos for NTLM if the KDC is unknown, cannot be
+/// asked, or refuses with one of four kinds; without NTLM, that is its refusal. Later, and for any
+/// other kind, it is its refusal too.
 const REPLIES: &str =
     "0 8|kdc-answer usual;|> 3049a003020106a1423040303ea03c043a603806062b0601050502a02e302ca024302206092a864882f71201020206\
      092a864886f712010202060a2b06010401823702020aa20404024b31;|;ok 4 user=ann@example.com password=pw;\n\
@@ -66,7 +66,7 @@ const REPLIES: &str =
      64886f712010202060a2b06010401823702020aa20404024b31;|;client UnsupportedPreAuth;";
 
 /// Packages that an end may not use, and targets: an IP address has no Kerberos. A server that has
-/// NTLM alone picks it, in the third place, and the message beside the offer is for another
+/// NTLM alone selects it, third in the list, and the token sent with the offer is for another
 /// mechanism.
 const PACKAGES_AND_TARGETS: &str =
     "0 10|server-packages ntlm;|;< 3026a003020106a11f301d301ba0190417a1153013a0030a0101a10c060a2b06010401823702020a;> |;ok \
@@ -94,11 +94,11 @@ fn ends_with_kerberos(rt: HostRuntime) {
     }
 }
 
-/// The exchange whose ends begin with NTLM, where no KDC is known.
+/// The exchange whose ends begin with NTLM, with no KDC known.
 const ENDS: &str = "mode negotiate\nuser ann@example.com\npassword pw\nkey 010203\n";
 
-/// Which URL is asked and what the KDC knows; a client that begins with NTLM takes Kerberos where
-/// its realm has a KDC, and a server without a ticket does not authenticate user-to-user.
+/// Which URL is asked and what the KDC knows; a client that begins with NTLM takes Kerberos if its
+/// realm has a KDC, and a server without a ticket does not authenticate user-to-user.
 const REALMS_AND_TICKETS: &str =
     "0 8|kdc EXAMPLE.COM tcp://kdc;kdc-user ann@example.com;server-protocol kerberos;ticket 1111111111111111111111111111111\
      111111111111111111111111111111111;|> 3049a003020106a1423040303ea03c043a603806062b0601050502a02e302ca024302206092a86488\

@@ -6,11 +6,11 @@ use sspi_program::run::exit_status;
 use std::alloc::Global;
 use std::process::Abort;
 
-/// One of each remainder by eight. Their entries by hand: five and seven twice, four and two twice.
+/// One for each remainder modulo eight. Their entries, by hand: 5, 7, 4 and 2, each twice.
 const EIGHT: &str =
     "runs 8\nok 4\nclient 0\nserver 1\nread 2\nwrite 0\nlink 0\nturns 1\nmessages 36\n";
 
-/// The first alone, which comes to Ok with five messages.
+/// The first alone, which ends in Ok with five messages.
 const ONE: &str =
     "runs 1\nok 1\nclient 0\nserver 0\nread 0\nwrite 0\nlink 0\nturns 0\nmessages 5\n";
 

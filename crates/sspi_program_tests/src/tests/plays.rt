@@ -2,8 +2,8 @@
 
 use crate::tests::{ORDINARY, reports_whole, shows_all};
 
-/// The five messages of the ordinary exchange, each to the end that takes it, once the client has
-/// begun; and what is reported.
+/// The five messages of the ordinary exchange, each delivered to the end that takes it, once the
+/// client has begun; and what is reported.
 const HANDED_ON: &str = "mode ntlm\n\
     user DOM\\ann\n\
     password pw\n\
@@ -35,9 +35,9 @@ fn messages_that_are_handed_on(rt: HostRuntime) {
     reports_whole(&rt, rt.alloc(), "play", HANDED_ON, REPORT);
 }
 
-/// A message again is refused; nothing is delivered, or only the start, which is not read and may
-/// be empty; what is no request, and after it one that is; and a status of the peer, of which the
-/// kind alone is told.
+/// A repeated message, which is refused; no delivery, or only the start, which is not read and may
+/// be empty; what is no request, and then one that is; and a status of the peer, of which only the
+/// kind is reported.
 const TO_EITHER_END: &str =
     "0 4|deliver client;deliver server 3011a003020106a10a30083006a00404024e31;deliver server 3011a003020106a10a30083006a0\
      0404024e31;|;< 300da003020106a4060204c0070308;|;play client=running server=InvalidToken identity=-;\n\

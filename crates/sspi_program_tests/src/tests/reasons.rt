@@ -7,7 +7,7 @@ use sspi_program::reason::{USAGE, tell_reason};
 use std::alloc::Global;
 use std::process::Abort;
 
-/// What is told of a run of these words on this text that ended with this status.
+/// What is written about a run of these words on this text that ended with this status.
 fn tells(rt: &impl Abort, alloc: Global, words: &str, text: Option<&[u8]>, status: u8, told: &str) {
     match words_of(alloc, words) {
         Ok(words) => {

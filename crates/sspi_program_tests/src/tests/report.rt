@@ -16,7 +16,7 @@ fn with_status(kind: ErrorKind, status: u32) -> Error {
     Error::new_with_nstatus(kind, Reason::Io, NStatusCode(status))
 }
 
-/// The value of a call that is not to be refused.
+/// The value of a call that must not be refused.
 fn given<T, E: Drop>(rt: &impl Abort, answer: Result<T, E>) -> T {
     match answer {
         Ok(value) => value,

@@ -25,7 +25,7 @@ fn entry(rt: &impl Abort, alloc: Global, from: End, sent: &[u8], delivered: &[u8
     }
 }
 
-/// The log of one entry and of this refusal.
+/// The report of a log with one entry, and of this refusal.
 fn shows(
     rt: &impl Abort,
     alloc: Global,

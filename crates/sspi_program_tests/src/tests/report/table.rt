@@ -68,7 +68,7 @@ fn joins(
     assert_eq!(rt; found, wanted);
 }
 
-/// Lends a value, and drops it then. Generic, since to drop a value of a type parameter is one
+/// Lends a value, and then drops it. Generic, since dropping a value of a type parameter is one
 /// step.
 fn lend<T: Drop, R, F: FnOnce(&T) -> R>(value: T, act: F) -> R
     requires { F.IsAlwaysCallable act }
