@@ -1,4 +1,4 @@
--- What a handle owns, taken apart. Assumes `Logic`.
+-- Takes apart what a handle owns. Assumes `Logic`.
 use Rattle.std.proofs.Common.{◌≡◌, ℕ, List, ◌∷◌, refl}
 use seplogic.Ra.Ura.{Ura}
 use mir.Raw.{raw as bare}

@@ -1,4 +1,4 @@
--- What the calls on a course do: on what a host knows of the negotiation of its end.
+-- What the calls on a course do: on what a host knows about the negotiation of its end.
 use Rattle.std.specs.Prelude.{◌≡◌, ◌≢◌, ℕ, ◌==◌, Bool, true, false, not, List, length, Option, None}
 use Rattle.std.specs.Prelude.{Some, Result, Ok, Err, if◌then◌else◌}
 use Rattle.sspi_types.specs.declared.security_status.SecurityStatus.{SecurityStatus}
@@ -55,7 +55,7 @@ course_by mechanisms by_address =
     packages_by mechanisms then_with λ packages. Ok
     (Course (new_course packages (is_set by_address)))
 
--- a mechanism by the number that its identifier has, and 0 where none steps
+-- a mechanism by the number that its identifier has, and 0 if none steps
 abbrev pub mechanism_number : Protocol → ℕ
 mechanism_number protocols.Kerberos = 2
 mechanism_number protocols.Ntlm = 3
@@ -69,11 +69,11 @@ abbrev pub status_by : ℕ → SecurityStatus
 status_by number = if number == 0 then statuses.Ok else statuses.ContinueNeeded
 
 module _ (before after : Option Object) (told now status : ℕ) where
-  -- the handles have no such objects, and nothing changes
+  -- the handles do not have such objects, and nothing changes
   abbrev pub Misses : Type 0
   Misses = (status ≡ invalid_handle) × (after ≡ before) × (now ≡ told)
 
-  -- the offer that came is taken, and the mechanism told that steps with its token
+  -- the offer received is taken, and the mechanism that steps with its token is reported
   abbrev pub TakesOffer : Option Known → Option NegTokenInit → Type 0
   TakesOffer None offer = Misses
   TakesOffer (Some c) None = Misses
@@ -82,7 +82,7 @@ module _ (before after : Option Object) (told now status : ℕ) where
       (now ≡ due_number (offer_due c offer))) ×
       (status ≢ ok → (status ≡ insufficient_memory) × (after ≡ before) × (now ≡ told))
 
-  -- the server's choice is taken, if it may be used; else a course stands there still
+  -- the server's choice is taken, if it may be used; else the handle still has a course
   abbrev pub Chooses : Option Known → NegTokenTarg → Type 0
   Chooses None token = (status ≡ invalid_token) × (now ≡ told) ×
       ((kept : Known) × (after ≡ Some (Course kept)))
@@ -94,7 +94,7 @@ module _ (before after : Option Object) (told now status : ℕ) where
   TakesAnswer (Some c) None = Misses
   TakesAnswer (Some c) (Some token) = Chooses (take_choice token.supported_mech c) token
 
-  -- the mechanism that steps with a server's later token
+  -- the mechanism that steps with a client's later token, on a server
   abbrev pub TellsContinuation : Option Known → Option NegTokenTarg → Type 0
   TellsContinuation None token = Misses
   TellsContinuation (Some c) None = Misses
@@ -115,7 +115,7 @@ list_of c = Ok c.list
 abbrev pub with_step : List ℕ → NegTokenInit → Result NegTokenInit ℕ
 with_step envelope offer = Ok (handed_offer offer envelope)
 
--- the list over which the MIC was verified, where it was
+-- the list over which the MIC was verified, if it was
 abbrev pub good_over : ℕ → List ℕ → Option (List ℕ)
 good_over good list = if is_set good then Some list else None
 

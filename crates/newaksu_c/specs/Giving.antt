@@ -3,7 +3,7 @@ use Rattle.std.specs.Prelude.{◌≡◌, ℕ, ◌++◌, List, drop, length, nat_
 use Rattle.std.specs.Prelude.{Ok, Err}
 use Rattle.newaksu_c.specs.Status.{ok, buffer_too_small}
 
--- by whether the buffer is too small: the bytes at its prefix, or nothing
+-- by whether the buffer is too small: the bytes as its prefix, or nothing
 abbrev pub Fills : Bool → List ℕ → List ℕ → List ℕ → ℕ → Type 0
 Fills true bytes before after status = (status ≡ buffer_too_small) × (after ≡ before)
 Fills false bytes before after status = (status ≡ ok) ×

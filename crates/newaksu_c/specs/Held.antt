@@ -1,4 +1,4 @@
--- What stands behind a handle, by the kind of object that a call wants.
+-- The object behind a handle, by the kind that a call wants.
 use Rattle.std.specs.Prelude.{ℕ, Bool, true, false, List, Option, None, Some}
 use Rattle.sspi_mech.specs.NtlmStage.{NtlmState}
 use Rattle.sspi_names.specs.declared.credentials.CredentialsBuffers.{CredentialsBuffers}
@@ -115,7 +115,7 @@ identities_in (Some (PlainClient e)) = None
 identities_in (Some (PlainServer e)) = None
 identities_in (Some (Course c)) = None
 
--- ---- of an end: what its last call came to and did, what it waits for, and whether its mechanism is the host's
+-- ---- an end: the outcome and effects of its last call, what it waits for, whether it is hosted
 
 abbrev pub last_in : Option Object → Option Last
 last_in None = None

@@ -5,7 +5,7 @@ use Rattle.newaksu_c.specs.declared.object.Object.{Object}
 use Rattle.newaksu_c.specs.declared.object.Object.TheVariants.{Identities}
 use Rattle.newaksu_c.specs.Status.{ok, invalid_handle, insufficient_memory}
 
--- the identity at the end of the list, or nothing, when out of memory or as it is refused
+-- the identity is added at the end of the list, or not, if memory runs out or it is refused
 pub record Adds (list : List AuthIdentity) (identity : Result AuthIdentity ℕ)
     (before after : Option Object) (status : ℕ) : Type 0 where
   pub added : status ≡ ok → (it : AuthIdentity) × (identity ≡ Ok it) ×

@@ -15,7 +15,7 @@ use Rattle.newaksu_c.specs.declared.object.Object.TheVariants.{Request, Reader, 
 use Rattle.newaksu_c.specs.declared.object.Object.TheVariants.{Credentials, Identities}
 use Rattle.newaksu_c.specs.Status.{insufficient_memory, invalid_parameter}
 
--- a client that made no call, with these settings
+-- a client that has made no call, with these settings
 pub record IsNewClient {C : Type 0} (settings : Result ClientSettings ℕ) (client : ClientView C)
     (last : Last) : Type 0 where
   pub fresh : IsFreshClient client
@@ -44,8 +44,8 @@ MakesClient mechanism settings (Ok (Course c)) = ⊥
 MakesClient mechanism settings (Err status) = status ≢ insufficient_memory →
     settings_for mechanism settings ≡ Err status
 
--- the peers that a server takes: those of the list, or anyone whom the host's mechanism names where
--- none is chosen
+-- the peers that a server accepts: those of the list, or, without one, anyone whom the host's
+-- mechanism names
 abbrev pub ArePeers : Option (List AuthIdentity) → Peers → Type 0
 ArePeers (Some list) (Listed table) = table ≡ record {
   entries = list;
@@ -57,7 +57,7 @@ ArePeers (Some list) (Anyone peer) = ⊥
 ArePeers None (Listed table) = ⊥
 ArePeers None (Anyone peer) = peer.calls ≡ 0
 
--- a server that made no call, with these settings and peers
+-- a server that has made no call, with these settings and peers
 pub record IsNewServer {C : Type 0} (settings : ServerSettings) (known : Option (List AuthIdentity))
     (server : ServerView C Peers)
     (last : Last) : Type 0 where

@@ -13,12 +13,12 @@ use Rattle.newaksu_c.specs.Making.{IsNewServer}
 use Rattle.newaksu_c.specs.Settings.{challenge_of, check_versions, server_settings, ◌then_with◌}
 use Rattle.newaksu_c.specs.Status.{insufficient_memory, invalid_handle, invalid_parameter}
 
--- the peers of a list need one
+-- the peers of a list need a list
 abbrev pub listed_peers : Option (List AuthIdentity) → Result (Unit {0}) ℕ
 listed_peers None = Err invalid_handle
 listed_peers (Some list) = Ok tt
 
--- nobody is listed beside anyone
+-- if anyone is accepted, there is no list
 abbrev pub any_peer : Option Object → Result (Unit {0}) ℕ
 any_peer None = Ok tt
 any_peer (Some object) = Err invalid_parameter
@@ -33,7 +33,7 @@ hosted_peers choice known =
 abbrev pub taken_peers : ℕ → Option Object → Option (List AuthIdentity)
 taken_peers choice known = if choice == 0 then identities_in known else None
 
--- over plain NTLM the list is chosen and there is one, and a challenge of eight bytes
+-- over plain NTLM the list must be chosen and given, and the challenge has eight bytes
 abbrev pub plain_listed : Option (List AuthIdentity) → Result (List ℕ) ℕ → Result (List ℕ) ℕ
 plain_listed None challenge = Err invalid_handle
 plain_listed (Some list) challenge = challenge
@@ -42,11 +42,11 @@ abbrev pub plain_fault : ℕ → Option (List AuthIdentity) → Result (List ℕ
 plain_fault choice list challenge = if choice == 0 then plain_listed list challenge
     else Err invalid_parameter
 
--- its own version and the least of its clients'
+-- its own version, and the least that it accepts of a client
 abbrev pub of_versions : ServerOptions → Result (Unit {0}) ℕ
 of_versions options = check_versions options.version options.least_version
 
--- why there is none, by the number of the mechanism
+-- why there is no server, by the number of the mechanism
 abbrev pub IsServerFault : ℕ → Result (Unit {0}) ℕ → Result (List ℕ) ℕ → ℕ → Type 0
 IsServerFault mechanism hosted plain status =
     (mechanism ≡ 0 → hosted ≡ Err status) × (mechanism ≡ 1 → plain ≡ Err status)

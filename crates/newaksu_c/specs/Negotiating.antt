@@ -1,4 +1,4 @@
--- What the calls do that make an end which negotiates over two mechanisms of the host.
+-- The calls that make ends which negotiate over two mechanisms of the host.
 use Rattle.std.specs.Prelude.{◌≡◌, ◌≢◌, ℕ, List, replicate, Option, Result, Ok, Err}
 use Rattle.sspi_credssp.specs.Ends.{ClientSettings, ServerSettings}
 use Rattle.sspi_credssp.specs.declared.mode.ClientMode.TheVariants as client
@@ -18,7 +18,7 @@ use Rattle.newaksu_c.specs.MakingServers.{hosted_peers, of_versions, taken_peers
 use Rattle.newaksu_c.specs.Settings.{client_settings, server_settings, ◌then_with◌}
 use Rattle.newaksu_c.specs.Status.{insufficient_memory}
 
--- the settings of a client without SPNEGO, but that it negotiates these mechanisms
+-- the settings of a client without SPNEGO, except that it negotiates these mechanisms
 abbrev pub client_with : PackageListConfig → ClientSettings → ClientSettings
 client_with packages s = record s { mode = client.Negotiate (configured packages) }
 
@@ -48,7 +48,7 @@ MakesNegotiating settings (Ok (PlainServer e)) = ⊥
 MakesNegotiating settings (Ok (Course c)) = ⊥
 MakesNegotiating settings (Err status) = status ≢ insufficient_memory → settings ≡ Err status
 
--- the same of a server
+-- the same for a server
 abbrev pub server_with : PackageListConfig → ServerSettings → ServerSettings
 server_with packages s = record s { mode = server.Negotiate (configured packages) }
 

@@ -14,7 +14,7 @@ use Rattle.newaksu_c.specs.contracts.object.Object.{the_row}
 abbrev pub coded_held : Coded (Option Object)
 coded_held = coded_option the_row.coded
 
--- null where there is nothing, and else the box of what there is
+-- null if there is nothing, else the box of the object
 abbrev pub owned : Global → Ptr → Option Object → Fml
 owned a null_ptr held = fex (held ≡ None) (λ _. ftrue)
 owned a (block_ptr b o) held = fex Object (λ t. fsep (fex (held ≡ Some t) (λ _. ftrue))

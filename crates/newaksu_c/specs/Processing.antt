@@ -1,4 +1,4 @@
--- What a call that hands an end a message does.
+-- The effects of a call that passes a message to an end.
 use Rattle.std.specs.Prelude.{◌≡◌, ◌≢◌, ℕ, ◌==◌, ◌&&◌, List, [], ◌∷◌, length, Bool, true, false}
 use Rattle.std.specs.Prelude.{Option, None, Some, Result, Ok, Err}
 use Rattle.std.specs.Prelude.{if◌then◌else◌}
@@ -70,8 +70,8 @@ said_status (Ok (Err error)) = kind_status error.error_type
 said_status (Err status) = status
 
 module _ {C : Type 0} (c : Meaning ContextSetting C) (handing : TsRequest → TsRequest) where
-  -- one call of the client on what was delivered, as it is handed in; or none, where the message is
-  -- no request or there is no memory
+  -- one call of the client on what was delivered, as it is passed in; or none, if the message is
+  -- not a request or memory runs out
   abbrev pub ClientDoes : List ℕ → ClientView C → Last → Result (Result (Unit {0}) Error) ℕ →
       ClientView C → Last → Type 0
   ClientDoes bytes old before (Ok said) new last =
@@ -80,7 +80,7 @@ module _ {C : Type 0} (c : Meaning ContextSetting C) (handing : TsRequest → Ts
       (new ≡ old) × (last ≡ before) × (status ≢ insufficient_memory →
       IsDelivered bytes (Err status))
 
-  -- the same of the server
+  -- the same for the server
   abbrev pub ServerDoes : List ℕ → ServerView C Peers → Last → Result (Result (Unit {0}) Error) ℕ →
       ServerView C Peers → Last → Type 0
   ServerDoes bytes old before (Ok said) new last =
@@ -131,7 +131,7 @@ module _ (bytes step : List ℕ) (after : Option Object) (status : ℕ) where
       ServerDoes plain as_it_came bytes end.value.server end.value.last said next.server next.last ×
       (status ≡ said_status said) × (after ≡ Some (PlainServer (with_value end next)))
 
-  -- nothing changes where the handle has no such end
+  -- nothing changes if the handle has no such end
   abbrev pub Unfit : Option Object → Type 0
   Unfit before = (status ≡ invalid_handle) × (after ≡ before)
 

@@ -12,8 +12,8 @@ use Rattle.newaksu_c.specs.declared.object.Object.{Object}
 use Rattle.newaksu_c.specs.declared.object.Object.TheVariants.{Reader, Request}
 use Rattle.newaksu_c.specs.Status.{ok, invalid_handle, insufficient_memory, wire_status}
 
--- a reader that was fed a piece, or is as it was when out of memory; where no byte was the
--- identifier octet of an OCTET STRING, and where nothing more is looked at, no memory is wanted
+-- A reader that was fed a piece, or is as it was when out of memory. It needs no memory if no byte
+-- is the identifier octet of an OCTET STRING, or if nothing more is read.
 pub record Feeds (before : TsReader) (piece : List ℕ) (after : TsReader) (status : ℕ) : Type 0 where
   pub fed : (bytes : List ℕ) → Stands before bytes → status ≡ ok → Stands after (bytes ++ piece)
   pub unfed : status ≢ ok → (status ≡ insufficient_memory) × (after ≡ before)
@@ -32,7 +32,7 @@ pub record Finishes (reader : TsReader) (answer : Result TsRequest WireKind) : T
       IsRequest bytes r count → answer ≡ Ok r
   pub memory : NeedsNoMemory answer
 
--- the request stands in the reader's place, or a reader that was fed nothing
+-- the request replaces the reader, or a reader that has been fed nothing does
 abbrev pub Becomes : Result TsRequest WireKind → Option Object → ℕ → Type 0
 Becomes (Ok r) after status = (status ≡ ok) × (after ≡ Some (Request r))
 Becomes (Err kind) after status = (status ≡ wire_status kind) ×

@@ -11,7 +11,7 @@ use Rattle.newaksu_c.specs.Requests.{present}
 use Rattle.newaksu_c.specs.Settings.{◌then_with◌}
 use Rattle.newaksu_c.specs.Status.{absent, invalid_handle, invalid_parameter}
 
--- what the host owes the seal of; an end over plain NTLM seals itself
+-- what the host still has to seal; an end over plain NTLM seals by itself
 abbrev pub owed_by : Bool → Acts → Last → Owed
 owed_by false acts last = owed.Neither
 owed_by true acts last = owed_of acts last
@@ -37,7 +37,7 @@ abbrev pub field_for : Result Owed ℕ → ℕ → ℕ
 field_for (Ok what) before = owed_field what before
 field_for (Err status) before = before
 
--- a sealed blob is there exactly where one is owed, and has the 16 bytes of a seal
+-- there is a sealed blob exactly if one is owed, and it has at least the 16 bytes of a seal
 abbrev pub is_seal : Owed → List ℕ → Bool
 is_seal owed.Neither blob = length blob == 0
 is_seal owed.PubKeyAuth blob = if nat_lt (length blob) 16 then false else true

@@ -1,4 +1,4 @@
--- What the ends are made of, as C gives it.
+-- What the ends are made from, as C passes it in.
 use Rattle.std.specs.Prelude.{◌≡◌, ◌≢◌, ℕ, ◌==◌, nat_le, Bool, ◌&&◌, ◌||◌, List, length, replicate}
 use Rattle.std.specs.Prelude.{Option, None, Some, Result, Ok, Err, if◌then◌else◌}
 use Rattle.std.specs.Str.{is_utf8}
@@ -15,7 +15,7 @@ use Rattle.newaksu_c.specs.declared.settings.ClientOptions.{ClientOptions}
 use Rattle.newaksu_c.specs.declared.settings.ServerOptions.{ServerOptions}
 use Rattle.newaksu_c.specs.Status.{invalid_parameter, insufficient_memory}
 
--- the code of UnknownCredentials, for a name that mixes the forms of names
+-- the code of UnknownCredentials, for a name that mixes the forms of a name
 abbrev pub unknown_credentials : ℕ
 unknown_credentials = 0x8009030d
 
@@ -24,7 +24,7 @@ abbrev pub OrMemory : {X : Type 0} → Result X ℕ → Result X ℕ → Type 0
 OrMemory (Ok x) answer = answer ≡ Ok x
 OrMemory (Err status) answer = status ≢ insufficient_memory → answer ≡ Err status
 
--- a refusal ends what follows
+-- after a refusal, nothing follows
 infixl 10 ◌then_with◌
 abbrev pub ◌then_with◌ : {A B : Type 0} → Result A ℕ → (A → Result B ℕ) → Result B ℕ
 (Ok x) then_with next = next x
@@ -50,7 +50,7 @@ identity_of name password =
 abbrev pub is_version : ℕ → Bool
 is_version number = nat_le 2 number && nat_le number 6
 
--- the version that an end speaks, and the least that it takes, where 0 takes every
+-- the version that an end speaks, and the least that it accepts, where 0 accepts any
 abbrev pub check_versions : ℕ → ℕ → Result (Unit {0}) ℕ
 check_versions version least =
     if is_version version && (least == 0 || is_version least) then Ok tt else Err invalid_parameter

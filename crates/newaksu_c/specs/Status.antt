@@ -1,4 +1,4 @@
--- The numbers that calls answer.
+-- The numbers that calls return.
 use Rattle.std.specs.Prelude.{ℕ, ◌==◌, if◌then◌else◌}
 use Rattle.sspi_ber.specs.declared.wire_kind.WireKind.{WireKind}
 use Rattle.sspi_ber.specs.declared.wire_kind.WireKind.TheVariants.{UnexpectedEof, InvalidData}
@@ -28,7 +28,7 @@ insufficient_memory = 0x80090300
 abbrev pub internal_error : ℕ
 internal_error = 0x80090304
 
--- what the codec of TSRequest refuses by
+-- the status for a refusal by the codec of TSRequest
 abbrev pub wire_status : WireKind → ℕ
 wire_status UnexpectedEof = 1
 wire_status InvalidData = 2
@@ -36,6 +36,6 @@ wire_status ReadFault = 3
 wire_status WriteFault = 4
 wire_status InsufficientMemory = insufficient_memory
 
--- of letting go an object of this kind; 0 is none
+-- the status of releasing an object of this kind; 0 is none
 abbrev pub released : ℕ → ℕ
 released kind = if kind == 0 then invalid_handle else ok

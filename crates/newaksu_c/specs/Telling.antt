@@ -1,4 +1,4 @@
--- What the calls tell of an end and of what its last call came to.
+-- What the calls report about an end and the outcome of its last call.
 use Rattle.std.specs.Prelude.{◌≡◌, ℕ, ◌==◌, List, Bool, true, false, Option, None, Some, Result, Ok}
 use Rattle.std.specs.Prelude.{Err, if◌then◌else◌}
 use Rattle.sspi_types.specs.Reasons.{reason_text}

@@ -16,7 +16,7 @@ use Rattle.newaksu_c.specs.Putting.{spelled}
 use Rattle.newaksu_c.specs.Requests.{present}
 use Rattle.newaksu_c.specs.Status.{absent, invalid_handle, invalid_parameter}
 
--- the encoding of what stands behind the handle
+-- the encoding of the object behind the handle
 abbrev pub IsSpelled : {X : Type 0} → (X → Option (List ℕ)) → Result X ℕ → Result (List ℕ) ℕ →
     Type 0
 IsSpelled spelling (Err status) answer = answer ≡ Err status
@@ -28,7 +28,7 @@ abbrev pub there : {X : Type 0} → Option X → Result X ℕ
 there None = Err invalid_handle
 there (Some x) = Ok x
 
--- a field of what stands there
+-- a field of that object
 abbrev pub of_it : {X Y : Type 0} → (X → Result Y ℕ) → Option X → Result Y ℕ
 of_it field None = Err invalid_handle
 of_it field (Some x) = field x
@@ -45,7 +45,7 @@ abbrev pub count_of : Result (List (List ℕ)) ℕ → Result ℕ ℕ
 count_of (Ok list) = Ok (length list)
 count_of (Err status) = Err status
 
--- the identifier at a place of the list
+-- the identifier at an index of the list
 abbrev pub item_at : ℕ → List (List ℕ) → Result (List ℕ) ℕ
 item_at index list = if nat_lt index (length list) then Ok (slice_index_or list index [])
     else Err absent

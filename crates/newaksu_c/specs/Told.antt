@@ -1,4 +1,4 @@
--- What is given, as the functions of the library have it.
+-- What is given, in the form in which the functions of the library return it.
 use Rattle.std.specs.Global.{Vec}
 use Rattle.std.specs.Prelude.{ℕ, List, Result}
 use Rattle.std.specs.Prelude.{Ok, Err}

@@ -1,4 +1,4 @@
-//! A client, made.
+//! Makes a client.
 ghost use Rattle.std.specs.Prelude.{◌≡◌, ◌≢◌, ℕ, Ok, Err, Result, IfOk, IfErr};
 ghost use Rattle.sspi_credssp.specs.Ends.{IsFreshClient};
 ghost use Rattle.newaksu_c.specs.declared.object.Object.{Object as What};
@@ -101,8 +101,8 @@ fn made(
     }
 }
 
-/// A client: of these options, for the channel of this key and the service of this name, with a
-/// nonce and the credentials.
+/// A client with these options, nonce and credentials, for the channel with this key and the
+/// service with this name.
 #[unsafe(no_mangle)]
 pub extern "C" fn newaksu_client_new(
     alloc: Global,

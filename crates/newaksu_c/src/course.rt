@@ -1,4 +1,4 @@
-//! What a host knows of the negotiation of its end, and what it does before each call.
+//! What a host knows about the negotiation of its end, and what it does before each call.
 ghost use Rattle.std.specs.Prelude.{◌≡◌, ℕ, List, Ok, Some, Result, option_map};
 ghost use Rattle.sspi_outside.specs.Course.{go_on, make_offer, Asking};
 ghost use Rattle.sspi_tokens.specs.Spelling.{spelled_list};
@@ -25,7 +25,7 @@ use sspi_tokens::{NegTokenInit, NegTokenTarg, encode_mech_types};
 use sspi_types::SecurityStatus;
 use std::alloc::Global;
 
-// The choice of the server is one that may not be used (SEC_E_INVALID_TOKEN).
+// The server chose a mechanism that may not be used (SEC_E_INVALID_TOKEN).
 const INVALID_TOKEN: u32 = 0x80090308;
 
 pub(crate) fn packages_by(mechanisms: u32) -> Result<PackageListConfig, u32>
@@ -83,7 +83,7 @@ fn made(alloc: Global, mechanisms: u32, by_address: u32) -> Result<Object, u32>
     Ok(Object::Course(Course::new(alloc, packages, by_address != 0)))
 }
 
-/// Of an end that has made no step: which mechanisms may be used, and whether a client's target is
+/// For an end that has made no step: which mechanisms may be used, and whether a client's target is
 /// named by its IP address.
 #[unsafe(no_mangle)]
 pub extern "C" fn newaksu_course_new(
@@ -135,8 +135,8 @@ fn offer_in(
     }
 }
 
-/// Takes the client's offer, and tells which mechanism steps with its token: 2 Kerberos, 3 NTLM, 0
-/// none.
+/// Takes the client's offer, and reports which mechanism steps with its token: 2 Kerberos, 3 NTLM,
+/// 0 none.
 #[unsafe(no_mangle)]
 pub extern "C" fn newaksu_course_offer(
     alloc: Global,
@@ -185,7 +185,7 @@ fn answer_in(object: &mut Object, targ: &Option<Box<Object>>, mechanism: &mut u3
     }
 }
 
-/// Takes the server's token on a client, with its choice, and tells which mechanism steps with it.
+/// On a client, takes the server's token and choice, and reports which mechanism steps with it.
 #[unsafe(no_mangle)]
 pub extern "C" fn newaksu_course_answer(
     alloc: Global,
@@ -229,7 +229,7 @@ fn continuation_in(
     }
 }
 
-/// Tells which mechanism steps with a client's later token on a server.
+/// On a server, reports which mechanism steps with a client's later token.
 #[unsafe(no_mangle)]
 pub extern "C" fn newaksu_course_continuation(
     alloc: Global,
@@ -250,7 +250,7 @@ pub extern "C" fn newaksu_course_continuation(
     status
 }
 
-// ---- a client's first step, and what comes of a call
+// ---- a client's first step, and the outcome of a call
 
 fn first_in(object: &mut Object, mechanism: &mut u32) -> u32
     ensures { TellsFirst (Some object.old) (Some object.new) mechanism.old mechanism.new result
@@ -264,7 +264,7 @@ fn first_in(object: &mut Object, mechanism: &mut u32) -> u32
     OK
 }
 
-/// Tells which mechanism makes a client's first step, with no token.
+/// Reports which mechanism makes a client's first step, with no token.
 #[unsafe(no_mangle)]
 pub extern "C" fn newaksu_course_first(
     alloc: Global,
@@ -321,8 +321,8 @@ fn go_on_in(object: &mut Object, ended: u32, status: u32) -> u32
     OK
 }
 
-/// After each other call: whether the mechanism has ended, and what the negotiation answered, 0
-/// where it is over.
+/// After each other call: takes whether the mechanism has ended, and what the negotiation answered,
+/// 0 if it is over.
 #[unsafe(no_mangle)]
 pub extern "C" fn newaksu_course_go_on(
     alloc: Global,

@@ -19,7 +19,7 @@ fn spelled(result_told: EarlyUserAuthResult) -> [u8; 4]
     }
 }
 
-/// The four bytes of a result: 0 where the user may log on, 5 where access is denied.
+/// The four bytes of a result: 0 if the user may log on, 5 if access is denied.
 #[unsafe(no_mangle)]
 pub extern "C" fn newaksu_early_encode(number: u32, out: &mut [u8], written: &mut usize) -> u32
     ensures { Answers (early_bytes number) out.old out.new written.new result }

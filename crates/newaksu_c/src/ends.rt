@@ -1,4 +1,4 @@
-//! What any of the ends tells.
+//! What every kind of end reports.
 ghost use Rattle.std.specs.Prelude.{◌≡◌, option_copied, option_map};
 ghost use Rattle.newaksu_c.specs.Held.{acts_in, is_hosted, last_in, state_in};
 
@@ -6,7 +6,7 @@ use crate::object::Object;
 use sspi_credssp::{Acts, CredSspState};
 use sspi_outside::Last;
 
-/// What the last call of the end behind the handle came to.
+/// The outcome of the last call of the end behind the handle.
 pub(crate) fn last_of(object: &Option<Box<Object>>) -> Option<&Last>
     ensures { option_copied result ≡ last_in (option_map (λ b. b.value) object.now) }
 {
@@ -19,7 +19,7 @@ pub(crate) fn last_of(object: &Option<Box<Object>>) -> Option<&Last>
     }
 }
 
-/// What it did on its context.
+/// What that call did on its context.
 pub(crate) fn acts_of(object: &Option<Box<Object>>) -> Option<Acts>
     ensures { result ≡ acts_in (option_map (λ b. b.value) object.now) }
 {
@@ -32,7 +32,7 @@ pub(crate) fn acts_of(object: &Option<Box<Object>>) -> Option<Acts>
     }
 }
 
-/// What it waits for.
+/// What the end waits for.
 pub(crate) fn state_of(object: &Option<Box<Object>>) -> Option<CredSspState>
     ensures { result ≡ state_in (option_map (λ b. b.value) object.now) }
 {
@@ -45,7 +45,7 @@ pub(crate) fn state_of(object: &Option<Box<Object>>) -> Option<CredSspState>
     }
 }
 
-/// Whether it is an end over the host's mechanism.
+/// Whether the object is an end over the host's mechanism.
 pub(crate) fn is_hosted(object: &Option<Box<Object>>) -> bool
     ensures { result ≡ is_hosted (option_map (λ b. b.value) object.now) }
 {

@@ -8,7 +8,7 @@ use crate::object::kind_of;
 use crate::status::{INVALID_HANDLE, OK};
 use std::alloc::Global;
 
-/// The version of the library: its three numbers, in a byte each.
+/// The version of the library: its three numbers, one byte each.
 #[unsafe(no_mangle)]
 pub extern "C" fn newaksu_version() -> u32
     ensures { result ≡ 0x000100 }
@@ -16,7 +16,7 @@ pub extern "C" fn newaksu_version() -> u32
     0x000100
 }
 
-/// Lets go what stands behind the handle.
+/// Releases the object behind the handle.
 #[unsafe(no_mangle)]
 pub extern "C" fn newaksu_release(alloc: Global, handle: &mut Handle) -> u32
     ensures status { result ≡ released (kind_in handle.old.held) }
@@ -28,7 +28,7 @@ pub extern "C" fn newaksu_release(alloc: Global, handle: &mut Handle) -> u32
     }
 }
 
-/// Which kind of object stands behind the handle.
+/// The kind of the object behind the handle.
 #[unsafe(no_mangle)]
 pub extern "C" fn newaksu_kind(alloc: Global, handle: &mut Handle, kind: &mut u32) -> u32
     ensures kind { kind.new ≡ kind_in handle.old.held }

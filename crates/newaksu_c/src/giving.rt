@@ -5,7 +5,7 @@ ghost use Rattle.newaksu_c.specs.Told.{items_of, told};
 
 use crate::status::{BUFFER_TOO_SMALL, OK};
 
-/// Gives the bytes where the buffer has the room for them, and says in any case how many there are.
+/// Gives the bytes if the buffer has room for them, and in any case says how many there are.
 pub(crate) fn give(bytes: &[u8], out: &mut [u8], written: &mut usize) -> u32
     ensures { Gives bytes.now out.old out.new written.new result }
 {
@@ -17,7 +17,7 @@ pub(crate) fn give(bytes: &[u8], out: &mut [u8], written: &mut usize) -> u32
     OK
 }
 
-/// Gives the bytes that there are, or answers why there are none.
+/// Gives the bytes, or returns the status that says why there are none.
 pub(crate) fn answer(bytes: Result<&[u8], u32>, out: &mut [u8], written: &mut usize) -> u32
     ensures { Answers (told bytes.entry) out.old out.new written.new result }
 {
@@ -30,7 +30,7 @@ pub(crate) fn answer(bytes: Result<&[u8], u32>, out: &mut [u8], written: &mut us
     }
 }
 
-/// The same of bytes in memory of their own.
+/// The same for bytes in memory of their own.
 pub(crate) fn give_all(bytes: Result<Vec<u8>, u32>, out: &mut [u8], written: &mut usize) -> u32
     ensures { Answers (items_of bytes) out.old out.new written.new result }
 {

@@ -1,4 +1,4 @@
-//! Tokens of SPNEGO as an end is handed them, and the list that the host signs.
+//! SPNEGO tokens in the form that an end takes, and the list that the host signs.
 ghost use Rattle.std.specs.Prelude.{◌≡◌, ◌≢◌, Some, None, IfOk, option_copied, option_map};
 ghost use Rattle.newaksu_c.specs.declared.object.Object.TheVariants as objects;
 ghost use Rattle.newaksu_c.specs.Courses.{good_over, signing_of, with_report, with_step};
@@ -40,7 +40,7 @@ fn hand_offer(alloc: Global, object: &mut Object, step: &[u8]) -> u32
     }
 }
 
-/// Puts the envelope of the step in the place of the mechanism's token, where the offer has one.
+/// Replaces the mechanism's token, if the offer has one, by the envelope of the step.
 #[unsafe(no_mangle)]
 pub extern "C" fn newaksu_init_hand(alloc: Global, init: &mut Handle, step: &[u8]) -> u32
     ensures { SetsOr (init_in init.old.held) objects.Init (with_step step.now) init.old.held
@@ -92,8 +92,8 @@ fn hand_response(alloc: Global, object: &mut Object, step: &[u8], good: u32, lis
     }
 }
 
-/// Puts the envelope of the step in the place of the mechanism's token, and in the place of a MIC
-/// that it was good over this list, or that it was not.
+/// Replaces the mechanism's token by the envelope of the step, and a MIC by a report of whether it
+/// was good over this list.
 #[unsafe(no_mangle)]
 pub extern "C" fn newaksu_targ_hand(
     alloc: Global,
@@ -125,7 +125,7 @@ fn signing(object: &Option<Box<Object>>) -> Result<&[u8], u32>
     }
 }
 
-/// The list that the host signs, in whose place its MIC comes then.
+/// The list that the host signs, and whose place its MIC then takes.
 #[unsafe(no_mangle)]
 pub extern "C" fn newaksu_targ_signing(
     alloc: Global,

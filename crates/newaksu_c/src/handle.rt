@@ -1,4 +1,4 @@
-//! What C keeps of an object: one word, which is zero where there is none.
+//! What C keeps of an object: one word, which is zero if there is none.
 ghost use Rattle.std.specs.Prelude.{◌≡◌, None, Some, MatchOption, OnOk, OnErr, option_map};
 ghost use Rattle.std.specs.declared.option.Option.{Option};
 ghost use Rattle.newaksu_c.specs.declared.object.Object.{Object as What};
@@ -10,7 +10,7 @@ use std::alloc::{AllocError, Global};
 use std::marker::Model;
 use std::ptr::null_mut;
 
-/// A handle is zeroed before its first use, and never copied: what stands behind it is its own.
+/// A handle is zeroed before its first use, and never copied: it owns the object behind it.
 #[repr(C)]
 pub struct Handle {
     pub(crate) at: *mut u8,
@@ -59,7 +59,7 @@ impl Handle {
         }
     }
 
-    /// What stands behind the handle, which is empty then.
+    /// Takes the object behind the handle, which is then empty.
     pub(crate) fn take(&mut self, alloc: Global) -> Option<Box<Object>>
         ensures taken { option_map (λ b. b.value) result ≡ self.old.held }
         ensures empty { self.new.held ≡ None }
@@ -71,7 +71,7 @@ impl Handle {
         }
     }
 
-    /// Puts an object behind the handle, and lets go what stood there.
+    /// Puts an object behind the handle, and releases the one before.
     pub(crate) fn put(&mut self, object: Box<Object>)
         ensures { self.new.held ≡ Some object.value }
     {
@@ -91,7 +91,7 @@ impl Handle {
         }
     }
 
-    /// Puts an object behind the handle, in the memory of what stood there; an empty handle stays
+    /// Puts an object behind the handle, in the memory of the one before; an empty handle stays
     /// empty when out of memory.
     pub(crate) fn fill(&mut self, alloc: Global, object: Object) -> Result<(), AllocError>
         ensures ok { OnOk result (self.new.held ≡ Some object) }

@@ -21,7 +21,7 @@ impl Model for IdentityList {
 }
 
 impl IdentityList {
-    /// No identities. Takes no memory.
+    /// No identities. Allocates nothing.
     pub(crate) fn new(alloc: Global) -> IdentityList
         ensures { result ≡ [] }
     {
@@ -30,7 +30,7 @@ impl IdentityList {
         }
     }
 
-    /// Puts an identity at the end, or leaves the list as it was where there is no memory.
+    /// Puts an identity at the end, or leaves the list as it was when out of memory.
     pub(crate) fn push(&mut self, identity: AuthIdentity) -> Result<(), AllocError>
         ensures ok { OnOk result (self.new ≡ self.old ++ identity ∷ []) }
         ensures err { OnErr result (self.new ≡ self.old) }

@@ -180,7 +180,7 @@ fn item_in(object: &Option<Box<Object>>, index: usize) -> Result<&[u8], u32>
     }
 }
 
-/// The content bytes of a mechanism's identifier, by its place in the list.
+/// The content bytes of a mechanism's identifier, by its index in the list.
 #[unsafe(no_mangle)]
 pub extern "C" fn newaksu_init_mech(
     alloc: Global,

@@ -40,7 +40,7 @@ impl Sink for Room {
     }
 }
 
-/// A request, and the memory that its last encoding took, which the next one takes again.
+/// A request, and the memory of its last encoding, which the next one reuses.
 #[derive(Drop)]
 pub struct KeptRequest {
     pub(crate) request: TsRequest,
@@ -56,7 +56,7 @@ impl Model for KeptRequest {
 }
 
 impl KeptRequest {
-    /// A request that was not encoded yet. Takes no memory.
+    /// A request that has not been encoded yet. Allocates nothing.
     pub(crate) fn new(alloc: Global, request: TsRequest) -> KeptRequest
         ensures { result ≡ request }
     {
@@ -81,7 +81,7 @@ impl KeptRequest {
 }
 
 impl Room {
-    /// Takes the encoding in the place of the one before.
+    /// Replaces the previous encoding by that of this request.
     fn encode(&mut self, request: &TsRequest) -> Result<(), u32>
         ensures { IsEncoded (Some request.now) (filled self.new result) }
     {
@@ -92,7 +92,7 @@ impl Room {
         }
     }
 
-    /// Gives what it has, or answers why it has nothing.
+    /// Gives its bytes, or returns the status that says why it has none.
     fn give(&self, encoded: Result<(), u32>, out: &mut [u8], written: &mut usize) -> u32
         ensures { Answers (filled self.now encoded) out.old out.new written.new result }
     {

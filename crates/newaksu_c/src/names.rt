@@ -11,7 +11,7 @@ use crate::giving::give;
 use crate::status::{ABSENT, INVALID_PARAMETER};
 use sspi_types::{ErrorKind, NStatusCode};
 
-/// The name of an SSPI code, as `LogonDenied`.
+/// The name of an SSPI code, such as `LogonDenied`.
 #[unsafe(no_mangle)]
 pub extern "C" fn newaksu_error_name(kind: u32, out: &mut [u8], written: &mut usize) -> u32
     ensures { (read : Option Kind) × ReadsNumber error_kind_number kind read ×
@@ -27,7 +27,7 @@ pub extern "C" fn newaksu_error_name(kind: u32, out: &mut [u8], written: &mut us
     }
 }
 
-/// The name of an NTSTATUS code, as `STATUS_LOGON_FAILURE`.
+/// The name of an NTSTATUS code, such as `STATUS_LOGON_FAILURE`.
 #[unsafe(no_mangle)]
 pub extern "C" fn newaksu_nstatus_name(code: u32, out: &mut [u8], written: &mut usize) -> u32
     ensures { Answers (code_name (status_name code)) out.old out.new written.new result }

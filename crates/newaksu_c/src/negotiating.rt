@@ -1,4 +1,4 @@
-//! Ends that negotiate over two mechanisms of the host, made.
+//! Makes ends that negotiate over two mechanisms of the host.
 ghost use Rattle.std.specs.Prelude.{◌≡◌, ◌≢◌, ℕ, Ok, Err, Result, IfOk, IfErr, replicate};
 ghost use Rattle.std.specs.Prelude.{option_map};
 ghost use Rattle.sspi_credssp.specs.Ends.{IsFreshClient, IsFreshServer};
@@ -94,7 +94,7 @@ fn made_client(
     Ok(Object::Client(boxed(alloc, ClientEnd::new(client))?))
 }
 
-/// A client that negotiates: as `newaksu_client_new`, where `mechanism` is 1 for NTLM, 2 for
+/// A client that negotiates: as `newaksu_client_new`, but `mechanism` is 1 for NTLM, 2 for
 /// Kerberos, 3 for both.
 #[unsafe(no_mangle)]
 pub extern "C" fn newaksu_client_negotiating(
@@ -154,7 +154,7 @@ fn made_server(
     Ok(Object::Server(boxed(alloc, ServerEnd::new(server))?))
 }
 
-/// A server that negotiates: as `newaksu_server_new`, where `mechanism` is 1 for NTLM, 2 for
+/// A server that negotiates: as `newaksu_server_new`, but `mechanism` is 1 for NTLM, 2 for
 /// Kerberos, 3 for both.
 #[unsafe(no_mangle)]
 pub extern "C" fn newaksu_server_negotiating(

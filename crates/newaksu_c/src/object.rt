@@ -1,4 +1,4 @@
-//! What can stand behind a handle.
+//! The objects that can be behind a handle.
 ghost use Rattle.std.specs.Prelude.{◌≡◌, option_copied, option_map, IfOk, IfErr};
 ghost use Rattle.newaksu_c.specs.Held.{kind_in, request_in, init_in, targ_in, credentials_in};
 ghost use Rattle.newaksu_c.specs.Held.{identities_in};
@@ -15,8 +15,8 @@ use sspi_tokens::{NegTokenInit, NegTokenTarg};
 use sspi_tsreq::{TsReader, TsRequest};
 use std::alloc::Global;
 
-/// An object that C keeps by a handle. An end, much larger than the others, is in memory of its
-/// own, so that they move no more bytes than they have.
+/// An object that C keeps by a handle. An end, much larger than the others, has memory of its own,
+/// so that moving another object moves few bytes.
 #[derive(Drop)]
 pub enum Object {
     /// A TSRequest.
@@ -39,7 +39,7 @@ pub enum Object {
     PlainClient(Box<ClientEnd<Ntlm, Ntlm>>),
     /// A server over plain NTLM.
     PlainServer(Box<ServerEnd<Ntlm, Ntlm, Peers>>),
-    /// What a host knows of its negotiation.
+    /// What a host knows about its negotiation.
     Course(Course),
 }
 
@@ -54,7 +54,7 @@ pub(crate) fn boxed<T: Drop>(alloc: Global, end: T) -> Result<Box<T>, u32>
     }
 }
 
-/// The number of the kind of object that stands behind a handle.
+/// The number of the kind of object behind a handle.
 pub(crate) fn kind_of(object: &Option<Box<Object>>) -> u32
     ensures { result ≡ kind_in (option_map (λ b. b.value) object.now) }
 {
@@ -76,7 +76,7 @@ pub(crate) fn kind_of(object: &Option<Box<Object>>) -> u32
     }
 }
 
-/// The request behind the handle, if such an object stands there.
+/// The request behind the handle, if that is what it holds.
 pub(crate) fn request_of(object: &Option<Box<Object>>) -> Option<&TsRequest>
     ensures { option_copied result ≡ request_in (option_map (λ b. b.value) object.now) }
 {
@@ -86,7 +86,7 @@ pub(crate) fn request_of(object: &Option<Box<Object>>) -> Option<&TsRequest>
     }
 }
 
-/// The init behind the handle, if such an object stands there.
+/// The init behind the handle, if that is what it holds.
 pub(crate) fn init_of(object: &Option<Box<Object>>) -> Option<&NegTokenInit>
     ensures { option_copied result ≡ init_in (option_map (λ b. b.value) object.now) }
 {
@@ -96,7 +96,7 @@ pub(crate) fn init_of(object: &Option<Box<Object>>) -> Option<&NegTokenInit>
     }
 }
 
-/// The targ behind the handle, if such an object stands there.
+/// The targ behind the handle, if that is what it holds.
 pub(crate) fn targ_of(object: &Option<Box<Object>>) -> Option<&NegTokenTarg>
     ensures { option_copied result ≡ targ_in (option_map (λ b. b.value) object.now) }
 {
@@ -106,7 +106,7 @@ pub(crate) fn targ_of(object: &Option<Box<Object>>) -> Option<&NegTokenTarg>
     }
 }
 
-/// The credentials behind the handle, if such an object stands there.
+/// The credentials behind the handle, if that is what it holds.
 pub(crate) fn credentials_of(object: &Option<Box<Object>>) -> Option<&CredentialsBuffers>
     ensures { option_copied result ≡ credentials_in (option_map (λ b. b.value) object.now) }
 {
@@ -116,7 +116,7 @@ pub(crate) fn credentials_of(object: &Option<Box<Object>>) -> Option<&Credential
     }
 }
 
-/// The identities behind the handle, if such an object stands there.
+/// The identities behind the handle, if that is what it holds.
 pub(crate) fn identities_of(object: &Option<Box<Object>>) -> Option<&IdentityList>
     ensures { option_copied result ≡ identities_in (option_map (λ b. b.value) object.now) }
 {
@@ -126,7 +126,7 @@ pub(crate) fn identities_of(object: &Option<Box<Object>>) -> Option<&IdentityLis
     }
 }
 
-/// The course behind the handle, if such an object stands there.
+/// The course behind the handle, if that is what it holds.
 pub(crate) fn course_of(object: &Option<Box<Object>>) -> Option<&Course>
     ensures { option_copied result ≡ course_in (option_map (λ b. b.value) object.now) }
 {

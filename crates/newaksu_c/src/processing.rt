@@ -1,4 +1,4 @@
-//! A message, handed to an end.
+//! Passes a message to an end.
 ghost use Rattle.std.specs.Prelude.{◌≡◌, Some, option_map};
 ghost use Rattle.sspi_outside.specs.Hosting.{credentials_opened, handed, proof_opened};
 ghost use Rattle.newaksu_c.specs.Processing.{as_it_came, hosted, is_bare, plain, reported};
@@ -118,8 +118,8 @@ fn process_client(
     }
 }
 
-/// Hands a client the server's message, with what the host's context made of it; the first call has
-/// no message.
+/// Passes a client the server's message, with what the host's context made of it; the first call
+/// has no message.
 #[unsafe(no_mangle)]
 pub extern "C" fn newaksu_client_process(
     alloc: Global,
@@ -196,7 +196,7 @@ fn process_server(
     }
 }
 
-/// Hands a server the client's message, with what the host's context made of it.
+/// Passes a server the client's message, with what the host's context made of it.
 #[unsafe(no_mangle)]
 pub extern "C" fn newaksu_server_process(
     alloc: Global,

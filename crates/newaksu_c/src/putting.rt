@@ -1,4 +1,4 @@
-//! How an object comes to stand behind a handle.
+//! Puts an object behind a handle.
 ghost use Rattle.std.specs.Prelude.{Ok};
 ghost use Rattle.newaksu_c.specs.Putting.{Puts};
 
@@ -7,7 +7,7 @@ use crate::object::Object;
 use crate::status::{INSUFFICIENT_MEMORY, OK};
 use std::alloc::Global;
 
-/// Puts the object behind the handle, where there is memory for it.
+/// Puts the object behind the handle, if there is memory for it.
 pub(crate) fn put(alloc: Global, handle: &mut Handle, object: Object) -> u32
     ensures { Puts handle.old.held handle.new.held (Ok object) result }
 {

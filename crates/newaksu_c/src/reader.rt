@@ -16,7 +16,7 @@ use sspi_ber::WireKind;
 use sspi_tsreq::{TsReader, TsRequest};
 use std::alloc::Global;
 
-/// A reader that was fed nothing.
+/// A reader that has been fed nothing.
 #[unsafe(no_mangle)]
 pub extern "C" fn newaksu_reader_new(alloc: Global, handle: &mut Handle) -> u32
     ensures { (reader : Fed) × Stands reader [] ×
@@ -38,7 +38,7 @@ fn feed(object: &mut Object, piece: &[u8]) -> u32
     }
 }
 
-/// Reads on, with the piece behind what was fed before.
+/// Reads on, with this piece after what was fed before.
 #[unsafe(no_mangle)]
 pub extern "C" fn newaksu_reader_feed(alloc: Global, handle: &mut Handle, piece: &[u8]) -> u32
     ensures { HasFed (reader_in handle.old.held) piece.now handle.old.held handle.new.held result }
@@ -57,7 +57,7 @@ fn answered(reader: TsReader) -> Result<TsRequest, WireKind>
     reader.finish()
 }
 
-// What the reader answers, in whose place one stands that was fed nothing.
+// What the reader answers; it is replaced by one that has been fed nothing.
 fn finished(alloc: Global, reader: &mut TsReader) -> Result<TsRequest, WireKind>
     ensures answer { Finishes reader.old result }
     ensures fresh { Stands reader.new [] }
@@ -80,7 +80,7 @@ fn finish(alloc: Global, object: &mut Object) -> u32
     }
 }
 
-/// The request that all that was fed begins with; it takes the reader's place behind the handle.
+/// The request that the bytes fed begin with; it replaces the reader behind the handle.
 #[unsafe(no_mangle)]
 pub extern "C" fn newaksu_reader_finish(alloc: Global, handle: &mut Handle) -> u32
     ensures { HasFinished (reader_in handle.old.held) handle.old.held handle.new.held result }

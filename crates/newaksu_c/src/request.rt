@@ -26,7 +26,7 @@ use sspi_types::{Bytes, NStatusCode};
 use std::alloc::Global;
 
 #[tactic(auto, unfolding(sspi_tsreq::specs::Header::request_size_at))]
-/// How many bytes the request takes that the bytes begin with, by its header alone.
+/// The size in bytes of the request that the bytes begin with, from its header alone.
 #[unsafe(no_mangle)]
 pub extern "C" fn newaksu_request_size(bytes: &[u8], size: &mut usize) -> u32
     ensures { Sized (request_size_at bytes.now) size.old size.new result }
@@ -88,7 +88,7 @@ fn set_request(alloc: Global, object: &mut Object, request: TsRequest)
     }
 }
 
-// In the place of a request it moves once, and takes no memory.
+// In place of an earlier request, this one moves once, and nothing is allocated.
 fn put_request(alloc: Global, handle: &mut Handle, request: TsRequest) -> u32
     ensures { Puts handle.old.held handle.new.held (Ok (objects.Request request)) result }
 {
@@ -124,8 +124,8 @@ pub(crate) fn encoded_message(alloc: Global, request: &TsRequest) -> Result<Vec<
     }
 }
 
-/// The request in its shortest encoding. Its memory is kept for the next one, until the handle is
-/// released.
+/// The request in its shortest encoding. The memory of the encoding is kept for the next one, until
+/// the handle is released.
 #[unsafe(no_mangle)]
 pub extern "C" fn newaksu_request_encode(
     alloc: Global,

@@ -158,8 +158,8 @@ fn text_of(alloc: Global, message: Result<TsRequest, u32>) -> Result<Vec<u8>, u3
     encoded_message(alloc, &message)
 }
 
-/// The end's message for its peer, with the sealed blob in the place of the text that the host had
-/// to seal.
+/// The end's message for its peer, with the sealed blob in place of the text that the host had to
+/// seal.
 #[unsafe(no_mangle)]
 pub extern "C" fn newaksu_end_message(
     alloc: Global,

@@ -1,4 +1,4 @@
-//! A server, made.
+//! Makes a server.
 ghost use Rattle.std.specs.Prelude.{◌≡◌, ◌≢◌, ℕ, List, None, Some, Ok, Err, Result, IfOk, IfErr};
 ghost use Rattle.std.specs.Prelude.{replicate, option_map};
 ghost use Rattle.sspi_credssp.specs.Ends.{IsFreshServer};
@@ -56,7 +56,7 @@ fn server_of<N, K>(
     Ok(server.with_least_version(options.least_version))
 }
 
-/// Over the host's mechanism: the peers of the list, or whoever it names, as the options say.
+/// Over the host's mechanism: for the peers of the list, or anyone it names, as the options say.
 fn hosted(
     alloc: Global,
     options: &ServerOptions,
@@ -122,7 +122,7 @@ fn anyone(alloc: Global, identities: &Option<Box<Object>>) -> Result<Peers, u32>
     }
 }
 
-/// Over plain NTLM, with this challenge: the peers of the list.
+/// Over plain NTLM, with this challenge: for the peers of the list.
 fn plain(
     alloc: Global,
     options: &ServerOptions,
@@ -187,13 +187,12 @@ fn made(
     }
 }
 
-/// A server: of these options, for the channel of this key, with the identities that it knows.
+/// A server with these options, for the channel with this key, with the identities that it knows.
 ///
-/// Whom it takes is chosen by `peers`: with 0 those of the list alone, so that an empty list
-/// refuses every peer, and a handle without a list is refused as `INVALID_HANDLE`; with 1 anyone
-/// whom the host's mechanism names, and then the handle of the identities is to be empty. With 1
-/// and identities, with 1 over plain NTLM, and with another number the call is refused as
-/// `INVALID_PARAMETER`.
+/// `peers` chooses whom it accepts. With 0, only those on the list: an empty list refuses every
+/// peer, and a handle without a list is refused as `INVALID_HANDLE`. With 1, anyone whom the host's
+/// mechanism names; the handle of the identities must then be empty. With 1 and identities, with 1
+/// over plain NTLM, and with any other number, the call is refused as `INVALID_PARAMETER`.
 #[unsafe(no_mangle)]
 pub extern "C" fn newaksu_server_new(
     alloc: Global,

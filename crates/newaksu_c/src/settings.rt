@@ -1,4 +1,4 @@
-//! What the ends are made of, as C gives it.
+//! What the ends are made from, as C passes it in.
 ghost use Rattle.std.specs.Prelude.{◌≡◌, Some, None, option_copied, if◌then◌else◌};
 ghost use Rattle.std.specs.Str.{is_utf8};
 ghost use Rattle.newaksu_c.specs.Settings.{challenge_of, delegation_of, identity_of, name_of};
@@ -11,7 +11,7 @@ use sspi_names::{AuthIdentity, Username};
 use sspi_types::{Error, Secret, Text};
 use std::alloc::Global;
 
-/// What a client is to be.
+/// The options of a client.
 #[repr(C)]
 #[derive(Drop)]
 pub struct ClientOptions {
@@ -19,13 +19,13 @@ pub struct ClientOptions {
     pub mechanism: u32,
     /// The version of CredSSP that it speaks, 2 to 6.
     pub version: u32,
-    /// The least version of a server that it takes, 2 to 6, or 0 for every.
+    /// The least version of a server that it accepts, 2 to 6, or 0 for any.
     pub least_version: u32,
-    /// 0 where it delegates its credentials, 1 where it delegates empty ones in their place.
+    /// 0 if it delegates its credentials, 1 if it delegates empty ones in their place.
     pub delegation: u32,
 }
 
-/// What a server is to be.
+/// The options of a server.
 #[repr(C)]
 #[derive(Drop)]
 pub struct ServerOptions {
@@ -33,9 +33,9 @@ pub struct ServerOptions {
     pub mechanism: u32,
     /// The version of CredSSP that it speaks, 2 to 6.
     pub version: u32,
-    /// The least version of a client that it takes, 2 to 6, or 0 for every.
+    /// The least version of a client that it accepts, 2 to 6, or 0 for any.
     pub least_version: u32,
-    /// Whom it takes: 0 for the listed identities alone, 1 for anyone whom the host's mechanism
+    /// Whom it accepts: 0 for the listed identities alone, 1 for anyone whom the host's mechanism
     /// names.
     pub peers: u32,
 }
@@ -46,7 +46,7 @@ fn is_version(number: u32) -> bool
     2 <= number && number <= 6
 }
 
-/// Refuses versions that CredSSP does not have (MS-CSSP 2.2.1). The least may be 0, for every one.
+/// Refuses versions that CredSSP does not have (MS-CSSP 2.2.1). The least may be 0, for any.
 pub(crate) fn check_versions(version: u32, least: u32) -> Result<(), u32>
     ensures { result ≡ check_versions version least }
 {
@@ -57,7 +57,7 @@ pub(crate) fn check_versions(version: u32, least: u32) -> Result<(), u32>
     }
 }
 
-/// The bytes as a text, where they are UTF-8.
+/// The bytes as a text, if they are UTF-8.
 pub(crate) fn utf8_in(bytes: &[u8]) -> Option<&str>
     ensures { option_copied result ≡ (if is_utf8 bytes.now then Some bytes.now else None) }
 {

@@ -1,4 +1,4 @@
-//! The numbers that calls answer.
+//! The numbers that calls return.
 ghost use Rattle.std.specs.Prelude.{◌≡◌};
 ghost use Rattle.newaksu_c.specs.Putting.{kind_status};
 ghost use Rattle.newaksu_c.specs.Status.{wire_status};
@@ -6,10 +6,10 @@ ghost use Rattle.newaksu_c.specs.Status.{wire_status};
 use sspi_ber::WireKind;
 use sspi_types::ErrorKind;
 
-/// The call did what it was asked for.
+/// The call did what it was asked to do.
 pub const OK: u32 = 0;
 
-/// There is nothing of what was asked for.
+/// What was asked for is absent.
 pub const ABSENT: u32 = 6;
 
 /// The handle is empty, or holds another kind of object (SEC_E_INVALID_HANDLE).
@@ -18,16 +18,16 @@ pub const INVALID_HANDLE: u32 = 0x80090301;
 /// The buffer is too small for what there is to give (SEC_E_BUFFER_TOO_SMALL).
 pub const BUFFER_TOO_SMALL: u32 = 0x80090321;
 
-/// An argument is none that the call takes (SEC_E_INVALID_PARAMETER).
+/// An argument is not one that the call accepts (SEC_E_INVALID_PARAMETER).
 pub const INVALID_PARAMETER: u32 = 0x8009035d;
 
 /// There was no memory (SEC_E_INSUFFICIENT_MEMORY).
 pub const INSUFFICIENT_MEMORY: u32 = 0x80090300;
 
-/// A fault that is nobody's input (SEC_E_INTERNAL_ERROR).
+/// A fault that no input causes (SEC_E_INTERNAL_ERROR).
 pub const INTERNAL_ERROR: u32 = 0x80090304;
 
-/// The code of a refusal; `Unknown` has that of `OK`, and is told as `INTERNAL_ERROR`.
+/// The code of a refusal; `Unknown` has that of `OK`, and is reported as `INTERNAL_ERROR`.
 pub(crate) fn kind_status(kind: ErrorKind) -> u32
     ensures { result ≡ kind_status kind }
 {
@@ -37,7 +37,7 @@ pub(crate) fn kind_status(kind: ErrorKind) -> u32
     }
 }
 
-/// The number of what the codec of TSRequest refused by.
+/// The number for a refusal by the codec of TSRequest.
 pub(crate) fn wire_status(kind: WireKind) -> u32
     ensures { result ≡ wire_status kind }
 {

@@ -114,7 +114,7 @@ fn state_in(object: &Option<Box<Object>>, state: &mut u32) -> u32
     }
 }
 
-/// What the sender says of the negotiation (`negState`).
+/// What the sender says about the negotiation (`negState`).
 #[unsafe(no_mangle)]
 pub extern "C" fn newaksu_targ_state(alloc: Global, handle: &mut Handle, state: &mut u32) -> u32
     ensures kept { handle.new.held ≡ handle.old.held }

@@ -1,4 +1,4 @@
-//! What an end waits for, and what its last call did and came to.
+//! What an end waits for, and the effects and outcome of its last call.
 ghost use Rattle.std.specs.Prelude.{◌≡◌, Err, Ok, option_map, IfErr, IfOk};
 ghost use Rattle.newaksu_c.specs.Giving.{Answers};
 ghost use Rattle.newaksu_c.specs.Told.{told};
@@ -24,9 +24,9 @@ use std::alloc::Global;
 #[repr(C)]
 #[derive(Clone, Copy)]
 pub struct ToldActs {
-    /// A step answered.
+    /// A step returned a status.
     pub stepped: u32,
-    /// The status that it answered: 0 where it ended the authentication, 0x90312 where it goes on.
+    /// The status that it returned: 0 if it ended the authentication, 0x90312 if that goes on.
     pub status: u32,
     /// The context took a step.
     pub negotiated: u32,
@@ -40,8 +40,8 @@ pub struct ToldActs {
     pub opened: u32,
 }
 
-/// A refusal: the SSPI code of its kind, 1 where the peer told an NTSTATUS code, and that code,
-/// else 0.
+/// A refusal: the SSPI code of its kind, 1 if the peer sent an NTSTATUS code, and that code, else 0
+/// for both.
 #[derive(Clone, Copy)]
 pub struct ToldRefusal {
     kind: u32,
@@ -104,7 +104,7 @@ fn tell_outcome(object: &Option<Box<Object>>, outcome: &mut u32) -> u32
     }
 }
 
-/// What the last message that the end was handed came to.
+/// The outcome of the last message passed to the end.
 #[unsafe(no_mangle)]
 pub extern "C" fn newaksu_end_outcome(alloc: Global, end: &mut Handle, outcome: &mut u32) -> u32
     ensures kept { end.new.held ≡ end.old.held }
@@ -154,7 +154,7 @@ fn flag(holds: bool) -> u32
     if holds { 1 } else { 0 }
 }
 
-/// What the last call of the end did on its context, also where it was refused.
+/// What the last call of the end did on its context, even if it was refused.
 #[unsafe(no_mangle)]
 pub extern "C" fn newaksu_end_acts(alloc: Global, end: &mut Handle, acts: &mut ToldActs) -> u32
     ensures kept { end.new.held ≡ end.old.held }
@@ -200,7 +200,7 @@ fn refusal_of(error: Error) -> ToldRefusal
     }
 }
 
-/// The kind of the last refusal, and the NTSTATUS code that the peer told, if it told one.
+/// The kind of the last refusal, and the NTSTATUS code that the peer sent, if it sent one.
 #[unsafe(no_mangle)]
 pub extern "C" fn newaksu_end_refusal(
     alloc: Global,
@@ -238,7 +238,7 @@ fn reason_of(error: Result<Error, u32>) -> Result<&'static [u8], u32>
     }
 }
 
-/// Why the last call was refused, as an English text.
+/// Why the last call was refused, as a text in English.
 #[unsafe(no_mangle)]
 pub extern "C" fn newaksu_end_reason(
     alloc: Global,
