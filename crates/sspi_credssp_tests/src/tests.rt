@@ -1,4 +1,4 @@
-//! Calls of both ends, one after another, with what each has to answer.
+//! Calls of both ends, one after another, with the answer that each must give.
 
 mod asks;
 mod client_refusals;

@@ -4,8 +4,8 @@ use sspi_testing::{Script, Told};
 use sspi_types::{ErrorKind, Reason, SecurityStatus};
 
 /// A client asks a KDC once in each of its first steps, and ends with the last of them; with no
-/// question it ends in its first step. Each of its steps wants the credentials that it acquired.
-/// Each step of a server is its last, but has a status of its own where the token is `odd`.
+/// question it ends in its first step. Each of its steps requires the credentials that it acquired.
+/// Each step of a server is its last, but has another status if the token is `odd`.
 #[derive(Drop)]
 pub struct Asks;
 

@@ -39,9 +39,9 @@ kdc fails -> OutOfSequence/Sequence
 client new proof=third-proof-by-server nonce=00 -> last auth-length=41 proof=none
 ";
 
-/// No proof, a short and an altered one, the client's own one sent back, the client's own one by
-/// the server, and the first half of the right one. No refusal brings the credentials; after all of
-/// them the right proof does.
+/// No proof, a short one, an altered one, the client's own one sent back, the same sealed by the
+/// server; and the first half of the right one. No refusal releases the credentials; after all of
+/// them, the right proof does.
 #[test]
 fn of_the_proof(rt: HostRuntime) {
     plays::<Ntlm>(&rt, OF_THE_PROOF);
@@ -58,7 +58,7 @@ client fourth -> OutOfSequence/Sequence did=nothing
 client fourth -> OutOfSequence/Sequence did=nothing
 ";
 
-/// The last message, which no step gives, and what comes after it.
+/// The last message, which comes from no step, and what follows it.
 #[test]
 fn after_the_last_message(rt: HostRuntime) {
     plays::<Ntlm>(&rt, AFTER_THE_LAST_MESSAGE);
@@ -70,7 +70,7 @@ client new -> UnknownCredentials/Keytab did=nothing
 client new -> UnknownCredentials/Keytab did=nothing waits=no left=0
 ";
 
-/// NTLM takes no key table, so the client comes to no context.
+/// NTLM takes no key table, so the client gets no context.
 #[test]
 fn of_a_key_table(rt: HostRuntime) {
     plays::<Ntlm>(&rt, OF_A_KEY_TABLE);
@@ -84,7 +84,7 @@ client new proof=bare:server-proof nonce=00 -> UnsupportedPreAuth/Keytab did=che
 client new proof=bare:server-proof nonce=00 -> UnsupportedPreAuth/Keytab did=checked
 ";
 
-/// A mechanism may take a key table, but CredSSP has no text for it.
+/// A mechanism may take a key table, but CredSSP has no encoding for it.
 #[test]
 fn of_a_key_table_to_delegate(rt: HostRuntime) {
     plays::<Scripted<Asks, 0>>(&rt, OF_A_KEY_TABLE_TO_DELEGATE);
@@ -103,8 +103,8 @@ client new -> reply
 client new proof=bare:server-proof nonce=00 -> last auth-length=1048581
 ";
 
-/// The text of the credentials has a content of 50 bytes and two for each letter: one of 1048578
-/// bytes is too long, and one of 1048576 is not.
+/// The encoded credentials have a content of 50 bytes, and two more for each letter: 1048578 bytes
+/// are too many, and 1048576 are not.
 #[test]
 fn of_credentials_past_the_limit(rt: HostRuntime) {
     plays::<Scripted<Asks, 0>>(&rt, OF_CREDENTIALS_PAST_THE_LIMIT);

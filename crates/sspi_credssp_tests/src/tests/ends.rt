@@ -1,16 +1,15 @@
-//! The two ends that a line `ends` of a script makes. The words of the line, each left out for what
-//! stands first:
+//! The two ends that an `ends` line of a script makes. Its words, each with its default first:
 //!
 //! - `client-version=`, `server-version=`: 6.
-//! - `client-least=`, `server-least=`: what an end that is not told takes.
+//! - `client-least=`, `server-least=`: the least version that an end accepts by default.
 //! - `key=`: `010203`, the public key of the channel.
 //! - `nonce=`: `00`, the byte that the client's nonce repeats.
 //! - `credentials=`: `own`, which is `DOM\ann` with the password `pw`; `keytab`; or a number of
 //!   letters for a password of theirs.
 //! - `delegation=`: `with` credentials, or `none`.
-//! - `account=NAME:PASSWORD`, several times: that of `own`; `none` for a server that knows nobody.
+//! - `account=NAME:PASSWORD`, repeatable: that of `own`; `none` for a server that knows nobody.
 //! - `fails=`: the number of the call at which the server's look-up fails.
-//! - `packages=`: the ends speak NTLM alone; with this word they negotiate, among all packages or
+//! - `packages=`: the ends speak only NTLM; with this word they negotiate, among all packages or
 //!   those of the list.
 
 use crate::tests::words::{Test, byte, given, number, octets, parted};
@@ -40,7 +39,7 @@ const WORDS: [&str; 11] = [
     "packages",
 ];
 
-/// Ends the test where the line has another word.
+/// Ends the test if the line has another word.
 pub fn knows_words(rt: &impl Test, line: &str) {
     for word in line.split_whitespace() {
         let (name, _) = parted(rt, word, "=");
@@ -48,7 +47,7 @@ pub fn knows_words(rt: &impl Test, line: &str) {
     }
 }
 
-/// The value of this word where the line has it.
+/// The value of this word, if the line has it.
 fn value_of<'a>(line: &'a str, name: &str) -> Option<&'a str> {
     for word in line.split_whitespace() {
         if let Some((found, value)) = word.split_once('=')
@@ -177,7 +176,7 @@ pub fn client<M>(rt: &impl Test, line: &str) -> Client<M> {
     }
 }
 
-/// The identities that the words `account` give.
+/// The identities that the `account` words give.
 fn listed(rt: &impl Test, line: &str) -> Vec<AuthIdentity> {
     let mut known = Vec::new(rt.alloc());
     for word in line.split_whitespace() {

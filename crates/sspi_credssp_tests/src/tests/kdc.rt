@@ -17,7 +17,7 @@ enum Usual {
     HasNoMemory,
 }
 
-/// A KDC that tells nothing of its replies.
+/// A KDC that exposes nothing about its replies.
 #[derive(Drop)]
 struct TestKdc {
     alloc: Global,
@@ -110,8 +110,8 @@ fn exchange<M: Mechanism>(
     came(rt, answer, turns)
 }
 
-/// An exchange with this KDC: what came, how many turns are recorded, how often the KDC was asked,
-/// and whether the client was left waiting.
+/// An exchange with this KDC: its result, how many turns were recorded, how often the KDC was
+/// asked, and whether the client was left waiting.
 fn exchanged<M: Mechanism>(rt: &impl Test, word: &str) -> String {
     lend(client::<M>(rt, ""), |client| {
         lend(
@@ -134,10 +134,10 @@ fn exchanged_by<M: Mechanism>(
     given(rt, format!(in rt.alloc(); "{came} {calls} {waits}"))
 }
 
-/// What the KDC does; and the credentials with the client's turns or the refusal, the recorded
-/// turns, the calls of the KDC, and whether the client waits. A failed call is told to the client,
-/// which refuses the turn for it and would still take an answer. A KDC without memory ends the
-/// exchange, and no turn is recorded.
+/// What the KDC does; then the credentials with the number of the client's turns, or the refusal;
+/// the recorded turns, the calls of the KDC, and whether the client waits. A failed call is
+/// reported to the client, which refuses the turn for it, but would still take a reply. A KDC out
+/// of memory ends the exchange, and no turn is recorded.
 const EXCHANGES: &str = "answers -> DOM\\ann:pw:3 6 2 false
 fails -> NoAuthenticatingAuthority 1 1 true
 lacks-memory -> memory 0 1 true";

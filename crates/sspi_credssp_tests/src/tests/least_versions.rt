@@ -14,8 +14,8 @@ client new version=4 token=challenge -> MessageAltered/PeerVersion did=nothing
 client new version=6 token=challenge -> MessageAltered/PeerVersion did=nothing
 ";
 
-/// A version that is too old is not pinned, however often it comes; the first that is not is. The
-/// client's first message goes by no version of the server.
+/// A version that is too old is not pinned, however often it is sent; the first other one is. The
+/// client's first message depends on no version of the server.
 #[test]
 fn of_a_client(rt: HostRuntime) {
     plays::<Ntlm>(&rt, OF_A_CLIENT);
@@ -42,7 +42,7 @@ client new version=0 -> reply
 client new version=0 token=challenge -> reply
 ";
 
-/// A client that takes servers from some version on takes one of it, and refuses the one before.
+/// A client that accepts servers from some version on accepts that one, and refuses the one before.
 #[test]
 fn that_a_client_is_given(rt: HostRuntime) {
     plays::<Ntlm>(&rt, THAT_A_CLIENT_IS_GIVEN);

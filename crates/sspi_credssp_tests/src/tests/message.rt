@@ -1,4 +1,4 @@
-//! The current message: how the words of a step change it, and what the words of a check say of it.
+//! The current message: how a step's words change it, and how a check's words describe it.
 
 use crate::tests::words::{Test, code, field, nonce, number, octets};
 use sspi_tsreq::TsRequest;
@@ -41,7 +41,7 @@ fn set(rt: &impl Test, message: &mut TsRequest, name: &str, value: &str) {
     }
 }
 
-/// The text behind the tag of a sealed blob.
+/// The text after the tag of a sealed blob.
 fn text_of(field: &Option<Bytes>) -> &[u8] {
     match field {
         Some(blob) if blob.len() >= 16 => &blob.as_slice()[16..],
@@ -71,7 +71,7 @@ fn is_spelled(rt: &impl Test, request: &TsRequest, word: &str) -> bool {
     read(rt, word) == *request && has_length(request, octets(rt, word).len())
 }
 
-/// Whether the message has this value of this name.
+/// Whether the message has this value under this name.
 pub fn has(rt: &impl Test, message: &TsRequest, name: &str, value: &str) -> bool {
     match name {
         "version" => message.version == number(rt, value),

@@ -1,7 +1,8 @@
 //! Messages, proofs and sealed texts for the key `010203`, the nonce of zeros and `DOM\ann` with
-//! the password `pw`, all computed apart, in hex by the names that the scripts give them.
+//! the password `pw`. All are computed independently, and in hex under the names that the scripts
+//! use.
 
-/// A name a line, and its bytes. A line that begins with `#` says what stands below it.
+/// Each line is a name and its bytes. A line that begins with `#` describes what is below it.
 pub const NAMED: &str = "
 # The public key of the channel.
 key 010203

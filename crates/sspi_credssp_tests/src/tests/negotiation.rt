@@ -1,4 +1,4 @@
-//! Delegations behind a SPNEGO negotiation.
+//! Delegations after a SPNEGO negotiation.
 
 use crate::tests::stage::plays;
 use sspi_mech::Ntlm;
@@ -35,7 +35,7 @@ client relayed -> last
 server relayed -> identity:DOM\\ann:pw
 ";
 
-/// A failed list is asked for again by the next call, which makes the context then.
+/// If the list fails, the next call asks for it again, and then makes the context.
 #[test]
 fn after_a_failed_list(rt: HostRuntime) {
     plays::<Ntlm>(&rt, AFTER_A_FAILED_LIST);

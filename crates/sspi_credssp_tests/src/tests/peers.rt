@@ -1,4 +1,4 @@
-//! Whom a server knows, and what it answers where the look-up finds none.
+//! Whom a server knows, and what it answers if the look-up finds nobody.
 
 use crate::tests::asks::Asks;
 use crate::tests::stage::plays;
@@ -52,7 +52,7 @@ server new token=text:first -> NoCredentials/NoIdentity did=step+Ok code=C007030
 ";
 
 /// A look-up that fails ends nothing: the next one finds the peer. The mechanism takes any
-/// identities, and none too; the server does not.
+/// identities, even none; the server does not.
 #[test]
 fn that_are_looked_up_again(rt: HostRuntime) {
     plays::<Scripted<Asks, 0>>(&rt, THAT_ARE_LOOKED_UP_AGAIN);

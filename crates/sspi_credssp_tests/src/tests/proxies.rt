@@ -61,7 +61,7 @@ fn finds_by_name(rt: &impl Test) {
     finds_no_bob(rt, &mut table, &name(rt, "DOM\\bob"));
 }
 
-/// Names are told apart by form, account and domain, without the case of ASCII letters.
+/// Names are told apart by form, account and domain, ignoring ASCII case.
 #[test]
 fn looking_up(rt: HostRuntime) {
     finds_by_name(&rt);

@@ -1,9 +1,9 @@
-//! What a call of an end came to, as one word and the message that came with it.
+//! The outcome of a call of an end: one word, and the message that came with it.
 //!
 //! - `reply`, `last`: a message that waits for an answer, and the client's last one.
 //! - `identity:NAME:PASSWORD`: what the client delegated.
 //! - `asks:URL`: a question to a KDC.
-//! - `KIND/REASON`, with a further `/CODE` where the refusal has a status.
+//! - `KIND/REASON`, with a further `/CODE` if the refusal has a status.
 
 use crate::tests::words::{Test, given};
 use sspi_credssp::{ClientState, Progress, ServerError, ServerState};
@@ -56,7 +56,7 @@ fn told(rt: &impl Test, refusal: ServerError) -> (String, TsRequest) {
     }
 }
 
-/// What the server said. A refusal has the message that tells the client.
+/// What the server said. A refusal has the message that reports it to the client.
 pub fn by_server(rt: &impl Test, state: Result<ServerState, ServerError>) -> (String, TsRequest) {
     match state {
         Ok(ServerState::ReplyNeeded(request)) => (word(rt, "reply"), request),

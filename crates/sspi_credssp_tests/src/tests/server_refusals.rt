@@ -1,4 +1,4 @@
-//! Each refusal of a server, with its kind, its reason and the request that tells it.
+//! Each refusal of a server, with its kind, its reason and the request that reports it.
 
 use crate::tests::asks::Asks;
 use crate::tests::stage::plays;
@@ -14,8 +14,8 @@ server third version=6 -> MessageAltered/PeerVersion did=nothing version=6 token
 server third version=5 -> reply spelled=fourth
 ";
 
-/// Up to the version check a request goes back in its own version, and past it in the server's. A
-/// code goes back as it came.
+/// Up to the version check, a refused request goes back in its own version; after it, in the
+/// server's. A code goes back as received.
 #[test]
 fn before_the_end_of_the_authentication(rt: HostRuntime) {
     plays::<Ntlm>(&rt, BEFORE_THE_END_OF_THE_AUTHENTICATION);
@@ -58,9 +58,9 @@ server third nonce=01 -> MessageAltered/HashDiffers did=step+CompleteNeeded+chec
 server third -> OutOfSequence/Sequence did=step
 ";
 
-/// Neither a token nor a proof; no nonce; a short and an altered proof; the server's own one and a
-/// cut one by the client, and one of another nonce. The context has then ended, but not the
-/// authentication.
+/// No token to send and no proof; no nonce; a short and an altered proof; the server's own one and
+/// a cut one, sealed by the client; one for another nonce. Each time the context has ended, but not
+/// the authentication.
 #[test]
 fn of_the_proof(rt: HostRuntime) {
     plays::<Ntlm>(&rt, OF_THE_PROOF);
@@ -80,8 +80,8 @@ server new version=5 proof=bare:client-proof nonce=00 -> MessageAltered/PeerVers
 server new token=text:more proof=bare:client-proof nonce=00 -> reply proof-text=server-proof token=none
 ";
 
-/// Nothing but the right proof is answered; after all refusals it is. A server whose authentication
-/// ends with a token asks for the proof by it, and hands neither token nor proof back.
+/// Only the right proof is answered, even after all the refusals. A server whose authentication
+/// ends with a token asks for the proof with it, and sends back neither token nor proof.
 #[test]
 fn where_the_proof_comes_by_itself(rt: HostRuntime) {
     plays::<Scripted<Asks, 0>>(&rt, WHERE_THE_PROOF_COMES_BY_ITSELF);
@@ -96,7 +96,7 @@ server new auth=bare:credentials -> identity:DOM\\ann:pw gave=none
 ";
 
 /// A proof that comes with the last token and is refused leaves the server in its authentication.
-/// No step gives a token where the credentials are read.
+/// No step gives a token when the credentials are read.
 #[test]
 fn where_the_proof_comes_with_the_token(rt: HostRuntime) {
     plays::<Scripted<Asks, 0>>(&rt, WHERE_THE_PROOF_COMES_WITH_THE_TOKEN);
@@ -118,7 +118,7 @@ server fifth -> UnsupportedFunction/Sequence did=nothing auth=some code=C0070302
 ";
 
 /// Absent, short, altered and malformed credentials; after all of them the right ones end the
-/// exchange. Another version is told from that of the client's other messages to the end.
+/// exchange. A version other than that of the client's other messages is refused to the end.
 #[test]
 fn of_the_credentials(rt: HostRuntime) {
     plays::<Ntlm>(&rt, OF_THE_CREDENTIALS);

@@ -1,19 +1,19 @@
-//! Scripts: texts whose lines make two ends, deliver messages to them and say what is to come of
-//! it.
+//! Scripts: texts whose lines make two ends, deliver messages to them and state what must come
+//! back.
 //!
 //! - `ends WORDS` makes both ends anew (`ends.rt` has the words).
 //! - `client MESSAGE -> CAME CHECKS` and `server MESSAGE -> CAME CHECKS` deliver a message: `new`,
 //!   which is version 6 and nothing else; `relayed`, the one that the last call gave; or one that
-//!   `named.rt` has. Words `FIELD=VALUE` change its fields first: `version`, `token`, `auth` (the
-//!   sealed credentials), `proof` (that of the key), `code` and `nonce`.
+//!   `named.rt` has. Words of the form `FIELD=VALUE` change its fields first: `version`, `token`,
+//!   `auth` (the sealed credentials), `proof` (that of the key), `code` and `nonce`.
 //! - `kdc answers -> ..` and `kdc fails -> ..` give a suspended client its KDC's reply, which is
 //!   empty.
 //! - `see -> CHECKS` calls nothing.
 //!
-//! What came is one word of `said.rt`. Each check is a word too: `did=ACTS`, the effects of the
-//! last call; `gave=TOKEN`, the token of its step, which is there once; `waits=yes` or `no` and
-//! `left=N`, the client's state; and else a field of the message that came, whose names
-//! `message.rt` has: `auth-text` and `proof-text` are what stands behind the tag of a sealed blob.
+//! `CAME` is one word of `said.rt`. Each check is a word too: `did=ACTS`, the effects of the last
+//! call; `gave=TOKEN`, the token of its step, which can be taken once; `waits=yes` or `no` and
+//! `left=N`, the client's state; or else a field of the message that came, by its name in
+//! `message.rt`: `auth-text` and `proof-text` are what follows the tag of a sealed blob.
 
 use crate::tests::ends::{Client, Server, client, knows_words, server};
 use crate::tests::message::{compose, has};
@@ -25,7 +25,7 @@ use sspi_tsreq::TsRequest;
 use sspi_types::Bytes;
 use std::mem::take;
 
-/// The two ends, the current message, and what the last call came to.
+/// The two ends, the current message, and the outcome of the last call.
 #[derive(Drop)]
 struct Stage<M> {
     client: Client<M>,
@@ -113,7 +113,7 @@ impl<M: Mechanism> Stage<M> {
         }
     }
 
-    /// The last call gave this token, which is there once.
+    /// Whether the last call gave this token, which can be taken once.
     fn gave(&mut self, rt: &impl Test, word: &str) -> bool {
         let token = match word {
             "none" => Vec::new(rt.alloc()),

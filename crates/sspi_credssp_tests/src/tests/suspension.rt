@@ -35,7 +35,7 @@ client new version=4 proof=bare:key nonce=00 -> MessageAltered/EchoDiffers did=c
 client new version=4 proof=bare:020203 nonce=00 -> last auth-length=41
 ";
 
-/// The authentication ends before the server's version is known. The second call notes it, and the
+/// The authentication ends before the server's version is known. The second call pins it, and the
 /// client goes on with the credentials that it acquired.
 #[test]
 fn of_a_mechanism_that_ends_in_its_first_step(rt: HostRuntime) {

@@ -122,8 +122,8 @@ server relayed -> MessageAltered/HashDiffers did=step+CompleteNeeded+checked
 see -> version=2 token=none proof-text=key code=C007030F
 ";
 
-/// Each end makes its proof as the version of the other has it, so the proofs differ where one is
-/// below 5 and the other not.
+/// Each end makes its proof in the form of the other's version. So the proofs differ if one is
+/// below 5 and the other is not.
 #[test]
 fn on_both_sides_of_5(rt: HostRuntime) {
     plays::<Ntlm>(&rt, ON_BOTH_SIDES_OF_5);

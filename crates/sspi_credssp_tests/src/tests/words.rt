@@ -11,7 +11,7 @@ pub trait Test: Abort + Alloc<A = Global> {}
 
 impl<R: Abort + Alloc<A = Global>> Test for R {}
 
-/// The value of a call that is not to be refused.
+/// The value of a call that must not be refused.
 pub fn given<T, E: Drop>(rt: &impl Abort, answer: Result<T, E>) -> T {
     match answer {
         Ok(value) => value,
@@ -19,13 +19,13 @@ pub fn given<T, E: Drop>(rt: &impl Abort, answer: Result<T, E>) -> T {
     }
 }
 
-/// Puts a value in the place of another. Generic, as `lend` is: to drop a value of a type parameter
-/// is one step of a proof, and to drop an end is many.
+/// Replaces a value by another. Generic, as `lend` is: dropping a value of a type parameter is one
+/// step of a proof, and dropping an end is many.
 pub fn put<A: Drop>(place: &mut A, value: A) {
     *place = value;
 }
 
-/// Lends a value, and drops it then.
+/// Lends a value, then drops it.
 pub fn lend<A: Drop, R, F: FnOnce(&mut A) -> R>(value: A, act: F) -> R
     requires { F.IsAlwaysCallable act }
 {
@@ -33,7 +33,7 @@ pub fn lend<A: Drop, R, F: FnOnce(&mut A) -> R>(value: A, act: F) -> R
     act(&mut value)
 }
 
-/// What stands before this mark, and what after it.
+/// What comes before this mark, and what comes after it.
 pub fn parted<'a>(rt: &impl Abort, text: &'a str, mark: &str) -> (&'a str, &'a str) {
     match text.split_once(mark) {
         Some(parts) => parts,
@@ -41,7 +41,7 @@ pub fn parted<'a>(rt: &impl Abort, text: &'a str, mark: &str) -> (&'a str, &'a s
     }
 }
 
-/// The hex digits that this name stands for; another word is hex digits itself.
+/// The hex digits that this name stands for; any other word is itself hex digits.
 fn digits_of(word: &str) -> &str {
     for line in NAMED.lines() {
         if let Some((name, digits)) = line.split_once(' ')
@@ -105,8 +105,8 @@ pub fn nonce(rt: &impl Abort, word: &str) -> Option<[u8; 32]> {
     }
 }
 
-/// What a call did: `nothing`, or these words with `+` between them. A status stands beside the
-/// `step` that answered it.
+/// What a call did: `nothing`, or these words with `+` between them. A status appears next to the
+/// `step` that returned it.
 pub fn acts(rt: &impl Abort, words: &str) -> Acts {
     let mut acts = Acts {
         status: None,
