@@ -18,7 +18,7 @@ abbrev pub listed_peers : Option (List AuthIdentity) → Result (Unit {0}) ℕ
 listed_peers None = Err invalid_handle
 listed_peers (Some list) = Ok tt
 
--- if anyone is accepted, there is no list
+-- accepting anyone excludes a list
 abbrev pub any_peer : Option Object → Result (Unit {0}) ℕ
 any_peer None = Ok tt
 any_peer (Some object) = Err invalid_parameter

@@ -108,7 +108,7 @@ module _ {N K : Type 0} (c : Meaning Origin (NegotiatedProtocol N K)) where
       on_err result (begun_ruled url args old mid new taken same)
       (h (ap (λ (v : Values). v.state) same ∙ first_ruled url (values_of old) first))
 
-  -- where there is no rule
+  -- if there is no rule
   pub begun_plain : {T E : Type 0} (result : Result T E) (url : Option (List ℕ)) (args : StepArgs)
       (old new : Negotiation (NegotiatedProtocol N K)) → url ≡ None →
       (old.state ≡ Initial → OnErr result (FallsBy (Falls c old.mech args) (values_of old) (values_of new))) →

@@ -12,7 +12,7 @@ use Rattle.sspi_negotiate.proofs.Names.{last_word-push}
 abbrev allowed : List (List ℕ) → PackageListConfig
 allowed names = record { ntlm = allows names (codes "ntlm"); kerberos = allows names (codes "kerberos") }
 
--- where each name only disallows, so does the last word
+-- if each name only disallows, so does the last word
 record Disallows (names : List (List ℕ)) (expected : List ℕ) : Type 0 where
   so : list_all is_marked names ≡ true → unwrap_or (last_word names expected) false ≡ false
 

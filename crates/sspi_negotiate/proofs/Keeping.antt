@@ -41,7 +41,7 @@ waiting_list : {N K : Type 0} (s s2 : Negotiation (NegotiatedProtocol N K)) → 
 waiting_list {N = N} {K = K} s s2 (as_before same) client = ap (λ (x : Negotiation (NegotiatedProtocol N K)). x.list) same
 waiting_list s s2 (no_longer stays) client = stays.list client
 
--- a client keeps its list where a resume is refused
+-- a client keeps its list when a resume is refused
 pub resumed_list : {N K : Type 0} (r : ℕ) (n : Meaning Setting N) (k : Meaning Setting K) (s s2 : Negotiation (NegotiatedProtocol N K))
     (reply : Reply) (error : Error) → (negotiate r n k).resumes s reply (Refused error) s2 → s.role ≡ Client → s2.list ≡ s.list
 resumed_list r n k s s2 reply error moves client = waiting_list s s2 moves.stays.waits client

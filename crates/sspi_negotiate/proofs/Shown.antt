@@ -33,7 +33,7 @@ pub open_is_before : (v : Values) → is_closed v.role v.state v.branch ≡ fals
 open_is_before v opened over = false≢true (sym opened ∙ over_is_closed v.role v.state v.branch over)
 
 module _ {M : Type 0} (c : Meaning Origin M) where
-  -- at an end where MICs are needed the list is this one, and a MIC over it was verified
+  -- at an end where MICs are needed, the list is this one, and a MIC over it was verified
   abbrev pub IsShown : List (List ℕ) → M → Values → Type 0
   IsShown list m v = v.state ≡ states.Ok → v.need ≡ true → (v.list ≡ list) × IsVerified c list m
 

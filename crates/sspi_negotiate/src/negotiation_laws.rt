@@ -1,4 +1,4 @@
-//! What holds of every negotiation. Each law is the contract of a call that does nothing.
+//! What holds for every negotiation. Each law is the contract of a call that does nothing.
 
 ghost use Rattle.std.specs.Prelude.{◌≡◌, ◌≢◌, ◌⊎◌, true, false, Some, Result, Ok, OnErr};
 ghost use Rattle.sspi_types.specs.declared.error.Error.{Error};

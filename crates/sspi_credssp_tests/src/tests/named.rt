@@ -1,6 +1,5 @@
 //! Messages, proofs and sealed texts for the key `010203`, the nonce of zeros and `DOM\ann` with
-//! the password `pw`. All are computed independently, and in hex under the names that the scripts
-//! use.
+//! the password `pw`. All are computed independently, and given in hex under their script names.
 
 /// Each line is a name and its bytes. A line that begins with `#` describes what is below it.
 pub const NAMED: &str = "
