@@ -121,12 +121,12 @@ module _ {S C : Type 0} (c : Meaning S C) where
     unsealed : c.opens m ((c.counts m).unsealings - 1) blob proof → Unsealed →
         CheckedCause m blob proof Unsealed kind
 
-  -- a blob that opened to a text other than the proof is altered, even when out of memory
+  -- a blob that opened to a text other than the proof is reported as altered, even out of memory
   pub data OtherIsAltered (m : C) (blob proof : List ℕ) (kind : ErrorKind) : Type 0 where
     other_is_altered : (OpensOther m blob proof → kind ≡ MessageAltered) →
         OtherIsAltered m blob proof kind
 
-  -- a blob that was not opened is out of memory only if the context would open it
+  -- a blob that was not opened: out of memory only if the context would open it
   abbrev pub AlteredExactly : Bool → C → List ℕ → List ℕ → ErrorKind → Type 0
   AlteredExactly false m blob proof kind = IsRefusedAs (c.permits m (ToUnseal blob))
       (c.refuses m (ToUnseal blob)) kind

@@ -193,7 +193,7 @@ impl<N: Mechanism, K: Mechanism, C: CredentialsProxy> CredSspServer<N, K, C> {
     /// bytes; the kinds of opening and of reading them. `UnsupportedFunction` once they have been
     /// read. Out of memory may replace any of these, except the two of the version once there is a
     /// context. Past the authentication it never replaces the refusal of a proof that is absent,
-    /// short, not opened or wrong; of an absent nonce; of absent, short or altered credentials; nor
+    /// short, not opened or wrong; of an absent nonce; of absent, short or altered credentials; or
     /// that last one.
     ///
     /// A refusal returns the request with its code. The state, the mode and what was acquired

@@ -105,7 +105,7 @@ some_byte (a ∷ p) rest n e = absurd cc
 pub not_empty : (p : List ℕ) (i : ℕ) → length p ≡ i → (i ≡ 0 → ⊥) → p ≡ [] → ⊥
 not_empty p i l n e = n (sym l ∙ ap length e)
 
--- no byte more of the header came, as the source failed
+-- the source failed before another byte of the header came
 pub header_so_far : (before mid after : Option (List ℕ)) (p : List ℕ) → Consumes before mid p → Keeps mid after →
     header_at 0x30 p ≡ Err Ended →
     TakesWanted before after
