@@ -160,7 +160,7 @@ module _ {C : Type 0} (c : Meaning ContextSetting C) where
       state_refused f mid d out state.NegoToken kind (λ first. noted) cause tt
 
   module _ {D : Type 0} (k : KdcCalls D) where
-    -- in a later turn: the version is too old, in the second; or what the state needs is refused
+    -- in a later turn: in the second, the version is too old; or what the state needs is refused
     old_refused : (f : ShownFrame) (old mid : ClientView C) (d : TsRequest) (out : Outcome) (noted : Option ℕ) (old_one : Bool)
         (kind : ErrorKind) → f.looks ≡ true → f.noted ≡ noted → is_old old.settings.least noted d.version ≡ old_one →
         (noted ≡ None → old_one ≡ true → mid.acts ≡ no_acts) →

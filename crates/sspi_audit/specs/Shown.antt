@@ -22,7 +22,7 @@ abbrev pub ShowsTurn : End → List Turn → Turn → Type 0
 ShowsTurn Client past t = ShowsClient (client_frame (client_turns past) t) t
 ShowsTurn Server past t = ShowsServer (server_frame (server_turns past) t) t
 
--- a sealed blob is long enough to have its tag of 16 octets
+-- a sealed blob is long enough to hold its tag of 16 octets
 abbrev pub HasLongBlobs : Turn → Outcome → Type 0
 HasLongBlobs t (outcome.Reply r) = t.acts.proved ≡ true → IsLong r.pub_key_auth
 HasLongBlobs t (outcome.Final r) = IsLong r.auth_info

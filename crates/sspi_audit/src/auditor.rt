@@ -23,8 +23,8 @@ use std::alloc::Global;
 /// in which the client is recorded to have sealed its credentials.
 ///
 /// `No` names the first turn at fault. A missing entry is held against neither its own turn nor the
-/// next. If nothing else is wrong, it is the number of turns: there are too many or too few
-/// entries.
+/// next. If nothing else is wrong, `No` has the number of turns: the entries are too many or too
+/// few.
 ///
 /// The only refusal is `InsufficientMemory`, without a status. Not in any clause: time is linear in
 /// the octets of turns and log, and memory is at most that of one of their messages.

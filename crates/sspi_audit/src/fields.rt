@@ -4,7 +4,7 @@ ghost use Rattle.sspi_credssp.specs.Requests.{IsLong, is_code};
 
 use sspi_types::{Bytes, NStatusCode};
 
-/// Both fields hold the same octets, or neither holds any.
+/// Both fields hold the same octets, or both are absent.
 pub(crate) fn same_octets(left: &Option<Bytes>, right: &Option<Bytes>) -> bool
     ensures { IsTrue result ↔ (left.now ≡ right.now) }
 {

@@ -2,9 +2,9 @@
 //! can show of a run, and in which turn were the credentials handed over?
 //!
 //! `audit` and the stricter `audit_run` read turns and log entries, whoever recorded them. They
-//! need no key, nonce or context, and so cannot tell whether two ends made them: a `Yes` is about
-//! the record alone. What two ends leave of a run gets `Yes` from both (`laws`). `audit_run` checks
-//! all that recorded bytes can show of a run; `audit` does not check what a refused turn was told.
+//! need no key, nonce or context, so a `Yes` is about the record alone: they cannot tell whether
+//! two ends made it. What two ends leave of a run gets `Yes` from both (`laws`). `audit_run` checks
+//! all that bytes can show of a run; `audit` does not hold a refused turn to what it was told.
 //!
 //! - `specs/Shown.antt`: what it takes for turns and a log to be shown right.
 //! - `specs/Run.antt`, `specs/Refusals.antt`: what more it takes for them to be shown as a run.

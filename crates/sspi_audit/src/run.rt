@@ -23,8 +23,8 @@ use std::alloc::Global;
 ///
 /// - A turn given a version other than the pinned one or, at a client, an error, did nothing and
 ///   was refused for that.
-/// - A refused turn has a kind that fits its effects. In it, neither end sealed its proof, nor the
-///   client its credentials.
+/// - A refused turn has a kind that fits its effects. In no such turn did an end seal its proof, or
+///   a client its credentials.
 /// - A turn in which no step answered has no token.
 /// - From version 5 on, a server opened a proof only with a nonce. Its error request has the
 ///   version that is then due.

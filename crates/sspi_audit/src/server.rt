@@ -76,7 +76,7 @@ fn shows_state_back(frame: &Frame, turn: &Turn, reply: &TsRequest) -> bool
     }
 }
 
-/// An error request has the delivered version or the server's own, if that is known.
+/// If the server's own version is known, an error request has that or the delivered one.
 fn is_version_back(own: Option<u32>, delivered: u32, version: u32) -> bool
     ensures { IsTrue result ↔ IsVersionBack own delivered version }
 {

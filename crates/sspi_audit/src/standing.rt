@@ -188,7 +188,7 @@ fn goes_on(outcome: &Outcome) -> bool
     matches!(outcome, Outcome::Reply(_) | Outcome::Final(_))
 }
 
-/// A sealed blob is long enough to have its tag.
+/// A sealed blob is long enough to hold its tag.
 fn has_long_blobs(turn: &Turn) -> bool
     ensures { IsTrue result ↔ HasLongBlobs turn.now turn.now.outcome }
 {

@@ -35,8 +35,8 @@ HasFault bytes wire.ReadFault = ⊥
 HasFault bytes wire.WriteFault = ⊥
 HasFault bytes wire.InsufficientMemory = ⊥
 
--- there was no memory to copy the request that the bytes begin with, needed only for its OCTET
--- STRINGs
+-- there was no memory, needed only for its OCTET STRINGs, to copy the request that the bytes begin
+-- with
 pub record HasNoRoom (bytes : List ℕ) : Type 0 where
   pub request : TsRequest
   pub count : ℕ

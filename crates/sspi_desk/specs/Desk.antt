@@ -21,7 +21,7 @@ pub record DeskView (C P : Type 0) : Type 0 where
   -- the sessions that are kept, each with its number, in no particular order
   pub kept : List (ℕ × ServerView C P)
 
--- of any desk: its numbers are below those admitted, and no more are kept than the limit allows
+-- of any desk: its numbers are below `admitted`, and no more are kept than the limit allows
 pub record IsOrderly {X : Type 0} (limit admitted : ℕ) (kept : List (ℕ × X)) : Type 0 where
   pub below : (s : ℕ) → IsSome (lookup (nat_eq s) kept) → s < admitted
   pub within : length kept ≤ limit

@@ -16,8 +16,8 @@ use std::marker::Model;
 
 /// Server sessions under numbers. What one session is sent changes no other.
 ///
-/// Sessions share the limit, so one that is kept may leave no room for another. They share the
-/// numbers, which show how many were admitted, and memory and time as well.
+/// Sessions share the limit, so one that is kept may leave no room for another. They also share the
+/// numbers, which show how many were admitted, and memory and time.
 #[derive(Drop)]
 pub struct Desk<N, K, C> {
     alloc: Global,
@@ -42,7 +42,7 @@ impl<N, K, C> Model for Desk<N, K, C> {
 }
 
 impl<N, K, C> Desk<N, K, C> {
-    /// A desk that keeps at most `limit` sessions, and none yet. Allocates nothing.
+    /// A desk that keeps at most `limit` sessions, with none yet. Allocates nothing.
     pub fn new(alloc: Global, limit: u32) -> Desk<N, K, C>
         ensures { result ≡ record { limit = limit; admitted = 0; kept = [] } }
     {
@@ -87,8 +87,8 @@ impl<N, K, C> Desk<N, K, C> {
 }
 
 impl<N: Mechanism, K: Mechanism, C: CredentialsProxy> Desk<N, K, C> {
-    /// Keeps a server as a session, whose number is how many sessions were admitted before. No
-    /// number is used twice, so fewer than 2^64 - 1 may have been admitted before (see `admitted`).
+    /// Keeps a server as a session; its number is how many sessions were admitted before. No number
+    /// is used twice, so fewer than 2^64 - 1 may have been admitted before (see `admitted`).
     ///
     /// It is refused as `Full` if `limit` sessions are kept, and only then. After a refusal the
     /// server is handed back, and the desk is as it was.
@@ -118,11 +118,12 @@ impl<N: Mechanism, K: Mechanism, C: CredentialsProxy> Desk<N, K, C> {
         }
     }
 
-    /// Passes a session bytes as what its client sent, and answers what its server makes of them.
+    /// Passes bytes to a session as its client's message, and answers what its server makes of
+    /// them.
     ///
-    /// `NoSession` exactly if the session is not kept; then nothing changes. Otherwise, out of
-    /// memory apart, each comes exactly in its case: `Answer` if the server has a message, with its
-    /// bytes; `TooLong` if the content of these would exceed `sspi_ber::MAX_CONTENT`, 1048576
+    /// `NoSession` exactly if the session is not kept; then nothing changes. Otherwise, apart from
+    /// out of memory, each comes exactly in its case: `Answer` if the server has a message, with
+    /// its bytes; `TooLong` if the content of these would exceed `sspi_ber::MAX_CONTENT`, 1048576
     /// octets; `Finished` if the server has the client's credentials; `Unread` if the bytes do not
     /// begin with a request; `Refused` if the server refused. A session stays until it is closed,
     /// whatever its outcome. Not in any clause: the time does not grow with the number of sessions.

@@ -7,8 +7,8 @@
 //! - `laws`: that a session proves its key before it finishes.
 //!
 //! `specs/Call.antt` has one call on one server, and `specs/Alone.antt` a server's calls one after
-//! another. `specs/Proving.antt` has what they show of one that finishes, `specs/Desk.antt` what a
-//! desk is and what its calls do, and `specs/All.antt` what many calls do to each session.
+//! another. `specs/Proving.antt` has what they show of one that finishes. `specs/Desk.antt` has
+//! what a desk is and what its calls do, and `specs/All.antt` what many calls do to each session.
 #![tactic(auto)]
 
 pub mod all;

@@ -8,9 +8,9 @@ use Rattle.sspi_tokens.specs.Oids.{spnego, ms_krb5, krb5, ntlm_ssp}
 use Rattle.sspi_explain.specs.Texts.{content_text}
 
 -- Subidentifiers of seven bits an octet, highest first; all but the last octet of each have the top
--- bit set. The value is that of the octets already read of the next one. None if one begins with
--- 80, which is not its shortest form; has more than nine octets, the first nine of which give 2 ^
--- 56 or more; or does not end.
+-- bit set. `value` is what the octets read so far give of the next one. None if one begins with 80,
+-- which is not its shortest form; has a tenth octet, one after a value of 2 ^ 56 or more; or does
+-- not end.
 abbrev pub subidentifiers_from : ℕ → List ℕ → Option (List ℕ)
 subidentifiers_from value [] = if value == 0 then Some [] else None
 subidentifiers_from value (octet ∷ rest) =

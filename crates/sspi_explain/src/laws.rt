@@ -14,8 +14,8 @@ ghost use Rattle.sspi_explain.specs.Request.{request_told};
 ghost use Rattle.sspi_explain.specs.Token.{init_told, resp_told};
 ghost use Rattle.sspi_explain.specs.Told.{Spot, read_of};
 
-/// A request is explained exactly as it is read: by fields where `TsRequest::from_buffer` accepts
-/// it, with the values that it returns; as refused, with the same kind, where it refuses.
+/// A request is explained exactly as it is read: by its fields where `TsRequest::from_buffer`
+/// accepts it, with the values that it returns; as refused, with the same kind, where it refuses.
 pub fn requests_are_told_as_read()
     ensures { (page : Sheet) (place : Spot) →
         read_of (request_told page place) ≡ request_at place.rest }

@@ -33,9 +33,9 @@ pub fn each_request_takes_bytes()
         length requests ≤ length front }
 {}
 
-/// If both streams are known, they and the number of turns decide the answer, stream faults and out
-/// of memory apart. The causes of the other answers exclude each other, and each answer comes
-/// whenever its cause is there.
+/// If both streams are known, they and the number of turns decide the answer, except for stream
+/// faults and out of memory. The causes of the other answers exclude each other, and each answer
+/// comes whenever its cause is there.
 pub fn the_streams_decide()
     ensures { (limit : ℕ) (up down up_first down_first up_second down_second : Way)
         (client server : List ℕ)

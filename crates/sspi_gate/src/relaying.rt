@@ -9,7 +9,7 @@ use sspi_ber::{Sink, Source};
 use sspi_credssp::End;
 use std::alloc::Global;
 
-/// Hands a client's requests on to a server and the server's on to the client, in turn, the
+/// Hands a client's requests on to a server and the server's on to the client. They go in turn, the
 /// client's first, and at most `limit` of the client's.
 ///
 /// Each request is read before it is handed on, and its bytes are then written unchanged. A header
@@ -26,7 +26,7 @@ use std::alloc::Global;
 /// - `Bad`: what is next does not begin with a request. `UnexpectedEof` if it ends too early or its
 ///   header is at fault, otherwise `InvalidData`. Header and content were taken; or the header up
 ///   to the byte at fault; or all there was, if it ended sooner.
-/// - `Version`: the request has a version other than this end's first.
+/// - `Version`: the request has a version other than that of this end's first.
 /// - `ReadFault`, `WriteFault`: the stream from this end, or to it, failed. At `WriteFault` a
 ///   prefix of the request was written, never all of it.
 /// - `TurnsSpent`: `limit` requests of the client were handed on, each was answered, and no answer

@@ -35,8 +35,8 @@ impl From<AllocError> for JoinError {
     }
 }
 
-/// Clients that will each have a session at one desk, the first with session 0. Before `finish`,
-/// none moves, and none of their servers is sent anything.
+/// Clients that will each have a session at one desk, the first with session 0. Before `finish`, no
+/// client moves, and none of their servers is sent anything.
 #[derive(Drop)]
 pub struct Table<N, K, C, D> {
     alloc: Global,
@@ -79,8 +79,8 @@ impl<N, K, C, D> Table<N, K, C, D> {
 impl<N: Mechanism, K: Mechanism, C: CredentialsProxy, D: Kdc + Drop> Table<N, K, C, D> {
     /// Seats a client with its KDC and its server, after those that joined before.
     ///
-    /// Fails with `Full` exactly if `is_full`. A refusal changes nothing, and drops the client, the
-    /// KDC and the server.
+    /// Fails with `Full` exactly if the table is full (see `is_full`). A refusal changes nothing,
+    /// and drops the client, the KDC and the server.
     pub fn join(
         &mut self,
         client: CredSspClient<N, K>,

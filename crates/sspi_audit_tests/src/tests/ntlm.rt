@@ -144,7 +144,7 @@ no1 01 a 1.message=B;proof=00
 no1 01 a 1.message=B;code=c0000022
 no1 01 a 1.message=B;nonce=0";
 
-/// The client's turn that proves. If its entry is missing, its message is not looked for there.
+/// The client's turn with its proof. If its entry is missing, its message is not looked for there.
 const THIRD: &str = "\
 no2 012345 abcde 2.end=server
 no2 012345 abcde 2.given=B;version=5
@@ -176,7 +176,7 @@ no2 012 ab 2.message=C;code=c0000022
 no2 012 ab 2.message=C;nonce=-
 yes- 012 ab 2.message=C;nonce=1";
 
-/// The server's turn that proves.
+/// The server's turn with its proof.
 const FOURTH: &str = "\
 no3 012345 abcde 3.end=client
 no4 0123 ab

@@ -1,9 +1,9 @@
 //! Records as lines of text, and what an auditor finds of them once they are changed.
 //!
 //! Each line of an exchange has a name: `A` to `H` are messages and `s` and `l` blobs, in hex; `0`
-//! to `9` are turns and `a` to `g` entries of the log. Octets are a name or hex: `~` after a name
-//! alters the last octet, `*` and a number repeat it, and `+` adds what follows. A request is the
-//! name of a message, with changes of its fields after `;`. An act after `!` is taken away again.
+//! to `9` are turns and `a` to `g` log entries. Octets are a name or hex: `~` after a name alters
+//! the last octet, `*` and a number repeat the octets, and `+` adds what follows. A request is the
+//! name of a message, with changes of its fields after `;`. An act after `!` is removed.
 //!
 //! A case is the verdict, the turns and the entries by their names, and what is changed in these,
 //! as `4.acts=checked`. A case of both calls has the verdict of `audit` and then that of

@@ -89,7 +89,7 @@ fn is_judged(
     );
 }
 
-/// The cells of a row, each judged with all that was recorded; counts those that are not dots.
+/// Judges the cells of a row with all that was recorded; counts those that are not dots.
 fn row_of_all(rt: &impl Test, whole: Whole<'_>, names: &str, row: &str, cells: &str) -> u32 {
     let mut seen = 0u32;
     for (name, cell) in names.chars().zip(cells.split_whitespace()) {

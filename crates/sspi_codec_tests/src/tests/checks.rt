@@ -1,5 +1,5 @@
-//! What every test is written with. Much is generic: dropping a value of a type parameter is one
-//! step of a proof, and dropping a struct or an enum is many.
+//! The helpers of every test. Many are generic: dropping a value of a type parameter is one step of
+//! a proof, and dropping a struct or an enum is many.
 
 use std::fmt::Debug;
 use std::process::Abort;
@@ -9,12 +9,12 @@ pub fn holds(rt: &impl Abort, fact: bool, what: &str) {
     assert!(rt; fact, "{what}");
 }
 
-/// Ends the test unless this value came.
+/// Ends the test unless the value that came is the wanted one.
 pub fn is<T: Copy + PartialEq + Debug>(rt: &impl Abort, came: T, wanted: T) {
     assert_eq!(rt; came, wanted);
 }
 
-/// Ends the test unless this value came from a line.
+/// Ends the test unless the value that came from a line is the wanted one.
 pub fn comes<T: Copy + PartialEq + Debug>(rt: &impl Abort, line: &str, came: T, wanted: T) {
     assert_eq!(rt; came, wanted, "{line}");
 }
@@ -44,7 +44,7 @@ pub fn told<T>(rt: &impl Abort, answer: Option<T>, what: &str) -> T {
     }
 }
 
-/// Why a call is refused that must be.
+/// The error of a call that must be refused.
 pub fn refusal<T: Drop, E>(rt: &impl Abort, answer: Result<T, E>, what: &str) -> E {
     match answer {
         Ok(_) => ends(rt, what),

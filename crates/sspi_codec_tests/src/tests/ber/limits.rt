@@ -58,7 +58,7 @@ fn expected(text: &str) -> Result<usize, WireKind> {
     }
 }
 
-// 7 if the text is not a number, which is so in no line.
+// 7 if the text is not a number; no line has such a text.
 fn number(text: &str) -> usize {
     text.parse().unwrap_or(7)
 }

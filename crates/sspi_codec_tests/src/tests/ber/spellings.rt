@@ -10,7 +10,7 @@ use std::process::Abort;
 
 /// Lengths (X.690 8.1.3.4, 8.1.3.5), the header of a SEQUENCE and integers (X.690 8.3), at the ends
 /// of each form. `length`, `sequence` and `integer` are encoded so and read back; `long-` forms are
-/// only read, and `bad-` ones are refused. The bytes are in hex, a dot for none.
+/// only read, and `bad-` ones are refused. The bytes are in hex; a dot means none.
 const SPELLINGS: &str = "\
 length 0 00
 length 127 7f
@@ -101,7 +101,7 @@ fn try_bytes(rt: &impl Abort, alloc: Global, line: &str, verb: &str, value: &str
     }
 }
 
-// 7 if the text is not a number, which is so in no line.
+// 7 if the text is not a number; no line has such a text.
 fn number(text: &str) -> u64 {
     text.parse().unwrap_or(7)
 }

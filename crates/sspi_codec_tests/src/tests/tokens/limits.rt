@@ -11,7 +11,7 @@ fn zeros(rt: &impl Abort, alloc: Global, len: usize) -> Option<Bytes> {
     Some(Bytes::from_vec(given(rt, vec![in alloc; 0u8; len])))
 }
 
-/// A token of the mechanism of `len` bytes, and nothing else.
+/// A mechanism token of `len` bytes, and nothing else.
 fn answer(rt: &impl Abort, alloc: Global, len: usize) -> NegTokenTarg {
     NegTokenTarg {
         response_token: zeros(rt, alloc, len),

@@ -187,9 +187,9 @@ fn refused_texts(rt: HostRuntime) {
 }
 
 /// Places of the short credentials, and the bytes with which each is refused: another tag; a length
-/// that has no form, or that exceeds the structure around it; one byte too few for what is inside,
-/// where the bytes after it are not taken; and the first byte of the number, which then gives
-/// another type.
+/// in no valid form, or one that exceeds the structure around it; one byte too few for what is
+/// inside, where the bytes after it are not taken; and the first byte of the number, which then
+/// gives another type.
 const DAMAGES: &str = "\
 0 31
 2 a1

@@ -2,8 +2,8 @@
 //!
 //! A request is both written and read so (`both`), or only one of the two (`written`, `read`);
 //! `fits` and `passes` are about how many bytes it takes, and whether they are too many. It has
-//! only version 6, except for the words `version=`, `token=`, `auth=`, `proof=`, `code=` and
-//! `nonce=`. Each request has a copy, and its code, unless it is that of success, is its error.
+//! version 6 only, except as the words `version=`, `token=`, `auth=`, `proof=`, `code=` and
+//! `nonce=` say. Each request has a copy, and its code, unless it is that of success, is its error.
 
 use crate::tests::checks::{given, gives, holds, parted};
 use crate::tests::tsreq::octets::octets;
@@ -88,7 +88,7 @@ fn passes(rt: &impl Abort, alloc: Global, request: &TsRequest, line: &str) {
     fails(rt, request.buffer_len(), WireKind::InvalidData, line);
 }
 
-/// The request is read from these bytes and written as them.
+/// The request is read from these bytes, and is written as the same bytes.
 fn both(rt: &impl Abort, alloc: Global, request: &TsRequest, bytes: &[u8], line: &str) {
     reads(rt, alloc, bytes, request, line);
     writes(rt, alloc, request, bytes, line);

@@ -51,7 +51,7 @@ const LIMIT: usize = 1048576;
 /// No place of a text: each length is in its shortest form.
 const NOWHERE: usize = 99;
 
-// 7 if the text is not a number, which is so in no line.
+// 7 if the text is not a number; no line has such a text.
 fn number(text: &str) -> usize {
     text.parse().unwrap_or(7)
 }
