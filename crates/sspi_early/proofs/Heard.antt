@@ -24,7 +24,7 @@ text_decides AccessDenied AccessDenied same = refl
 sent_long : (told : EarlyUserAuthResult) (e : Carried) → Tells told e → length e.sent ≡ 4
 sent_long told e tells = ap length tells.sent ∙ text_long told
 
--- what has as many bytes as a result is the whole of it
+-- a delivery of at least four bytes is the whole result
 whole_by_length : (told : EarlyUserAuthResult) (e : Carried) → Tells told e → Delivers (Some e.sent) e → 4 ≤ length e.delivered →
     e.delivered ≡ e.sent
 whole_by_length told e tells delivers enough = delivers.0 ∙ take_all (length e.delivered) e.sent (omega (arith, sent_long told e tells))

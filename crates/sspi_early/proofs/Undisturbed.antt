@@ -90,7 +90,7 @@ module _ {P : Type 0} (p : PolicyMeaning P) (edits : Option (List Edit)) (log : 
       by_decision (Err decisions.Failed) cause comes = calm_rose (p.faults policy) (p.faults policy2) calm cause.1
       by_decision (Err decisions.InsufficientMemory) cause comes = rw comes.0 tt
 
-  -- ---- behind a delegation
+  -- ---- after a delegation
 
   before_behind : (delegation : Delegation) (before after : LinkAt) (policy policy2 : P) (result : Result Early EarlyError) →
       ComesBehind p delegation before after policy policy2 result → before.faults ≡ faults →

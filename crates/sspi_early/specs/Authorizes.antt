@@ -1,5 +1,5 @@
--- When each answer comes behind a delegation: a policy decides on the identity, the link carries
--- the result, and the client reads it.
+-- When each answer comes after a delegation: a policy decides on the identity, the link carries the
+-- result, and the client reads it.
 use Rattle.std.specs.Prelude.{◌≡◌, ℕ, List, ◌∷◌, Bool, true, false, reverse, Option, None, Some}
 use Rattle.std.specs.Prelude.{Result, Ok, Err, IfOk}
 use Rattle.sspi_types.specs.Counting.{Counts}
@@ -24,14 +24,14 @@ use Rattle.sspi_early.specs.Policy.{PolicyMeaning, HasDecided}
 pub record LinkAt : Type 0 where
   -- the newest entry first
   pub log : List Carried
-  -- the edits of a link that tells them
+  -- the edits of a link that exposes them
   pub edits : Option (List Edit)
   pub faults : ℕ
 
 abbrev pub link_at : List Carried → Option (List Edit) → ℕ → LinkAt
 link_at log edits faults = record { log = log; edits = edits; faults = faults }
 
--- what a server tells that admits the user, or does not
+-- what a server tells when it admits the user, or does not
 abbrev pub told_of : Bool → EarlyUserAuthResult
 told_of true = Success
 told_of false = AccessDenied
@@ -47,7 +47,7 @@ CountsFault before now (Err (Delegate error)) = now ≡ before
 
 -- ---- the answers once the result was carried
 
--- what each answer shows of the entry that told the result
+-- what each answer shows about the entry that told the result
 abbrev pub HasCause : EarlyUserAuthResult → Carried → Result Authorized EarlyError → Type 0
 HasCause told e (Ok authorized) = (authorized.told ≡ told) × Heard authorized.heard e
 HasCause told e (Err (Read kinds.UnexpectedEof)) = IsCut e
@@ -65,14 +65,14 @@ abbrev pub IsHeard : EarlyUserAuthResult → Result Authorized EarlyError → Ty
 IsHeard result (Ok authorized) = authorized.heard ≡ result
 IsHeard result (Err error) = ⊥
 
--- the answer that the entry leaves; and where four bytes came or the delivery ended, nothing more
--- takes memory
+-- the only answer that the entry allows; once four bytes came or the delivery ended, nothing more
+-- allocates
 pub record IsOnlyAnswer (e : Carried) (answer : Result Authorized EarlyError) : Type 0 where
   pub heard : (result : EarlyUserAuthResult) → Heard result e → IsHeard result answer
   pub cut : IsCut e → answer ≡ Err (Read kinds.UnexpectedEof)
   pub no_result : IsNoResult e → answer ≡ Err (Read kinds.InvalidData)
 
--- One entry more is in the log, the last: it tells this result.
+-- The log has one more entry, the newest: it tells this result.
 pub record IsCarried (told : EarlyUserAuthResult) (before after : List Carried)
     (answer : Result Authorized EarlyError) : Type 0 where
   pub entry : Carried
@@ -84,7 +84,7 @@ pub record IsCarried (told : EarlyUserAuthResult) (before after : List Carried)
   pub honest : Delivers (Some entry.sent) entry →
       IfOk answer (λ authorized. authorized.heard ≡ told)
 
--- ---- the answers where it was not
+-- ---- the answers if it was not carried
 
 -- the link took no entry: it failed, or there was no memory
 abbrev pub IsUncarried : Result Authorized EarlyError → Type 0
@@ -95,7 +95,7 @@ IsUncarried (Err InsufficientMemory) = Unit {0}
 IsUncarried (Err Policy) = ⊥
 IsUncarried (Err (Delegate error)) = ⊥
 
--- the link fails exactly where its edits fail the entry, but when out of memory
+-- the link fails exactly if its edits fail the entry, unless out of memory
 abbrev pub FailsByEdits : Option (List ℕ) → Result Authorized EarlyError → Type 0
 FailsByEdits None (Ok authorized) = ⊥
 FailsByEdits None (Err (Read kind)) = ⊥
@@ -110,21 +110,21 @@ FailsByEdits (Some text) (Err InsufficientMemory) = Unit {0}
 FailsByEdits (Some text) (Err Policy) = ⊥
 FailsByEdits (Some text) (Err (Delegate error)) = ⊥
 
--- the same of a link that tells its edits; one that does not claims nothing
+-- the same for a link that exposes its edits; one that does not claims nothing
 abbrev pub FailsAsTold : Option (List Edit) → List Carried → EarlyUserAuthResult →
     Result Authorized EarlyError → Type 0
 FailsAsTold None log told answer = Unit {0}
 FailsAsTold (Some edits) log told answer =
     FailsByEdits (edited edits (sent_texts (reverse log)) (early_result_text told)) answer
 
--- What comes of telling this result: the link carried it and the client read it, or the link did
--- not.
+-- What telling this result comes to: the link carried it and the client read it, or the link did
+-- not carry it.
 pub data Comes (told : EarlyUserAuthResult) (before after : List Carried)
     (answer : Result Authorized EarlyError) : Type 0 where
   carried : IsCarried told before after answer → Comes told before after answer
   uncarried : after ≡ before → IsUncarried answer → Comes told before after answer
 
--- what a link did that was to carry this result and to deliver it
+-- what a link did when it was to carry this result and deliver it
 pub record Carries (told : EarlyUserAuthResult) (before after : LinkAt)
     (answer : Result Authorized EarlyError) : Type 0 where
   pub comes : Comes told before.log after.log answer
@@ -134,7 +134,7 @@ pub record Carries (told : EarlyUserAuthResult) (before after : LinkAt)
 
 -- ---- the whole
 
--- what comes of a decision; without one nothing is asked of the link
+-- what follows a decision; without one the link is not asked
 abbrev pub ComesOf : Result Bool PolicyError → LinkAt → LinkAt → Result Authorized EarlyError →
     Type 0
 ComesOf (Ok admitted) before after answer = Carries (told_of admitted) before after answer

@@ -1,4 +1,4 @@
--- What an exchange with its early result comes to, where nothing stands in its way.
+-- What an undisturbed exchange with its early result comes to.
 use Rattle.std.specs.Prelude.{◌≡◌, ◌<◌, ◌≤◌, ℕ, Result, Ok, Err}
 use Rattle.sspi_names.specs.declared.identity.AuthIdentity.{AuthIdentity}
 use Rattle.sspi_delegate.specs.declared.answer.DelegateError.TheVariants as errors
@@ -7,7 +7,7 @@ use Rattle.sspi_early.specs.declared.answer.Early.{Early}
 use Rattle.sspi_early.specs.declared.answer.EarlyError.{EarlyError}
 use Rattle.sspi_early.specs.declared.answer.EarlyError.TheVariants.{Delegate, InsufficientMemory}
 
--- So many messages of the client delegated this identity, and the client heard what the server
+-- This many messages of the client delegated this identity, and the client heard what the server
 -- told; or there was no memory.
 abbrev pub ComesToOkEarly : ℕ → AuthIdentity → Result Early EarlyError → Type 0
 ComesToOkEarly messages identity (Ok early) = (early.delegation.rounds ≡ messages) ×
@@ -16,14 +16,14 @@ ComesToOkEarly messages identity (Ok early) = (early.delegation.rounds ≡ messa
 ComesToOkEarly messages identity (Err InsufficientMemory) = Unit {0}
 ComesToOkEarly messages identity (Err error) = ⊥
 
--- the client may not make as many messages; or there was no memory
+-- the client may not make that many messages; or there was no memory
 abbrev pub IsCutShortEarly : Result Early EarlyError → Type 0
 IsCutShortEarly (Ok early) = ⊥
 IsCutShortEarly (Err (Delegate errors.TurnsSpent)) = Unit {0}
 IsCutShortEarly (Err InsufficientMemory) = Unit {0}
 IsCutShortEarly (Err error) = ⊥
 
--- The first where the client may make as many messages, and else the second.
+-- The first if the client may make that many messages, else the second.
 pub record AnswersEarlyIn (messages limit : ℕ) (identity : AuthIdentity)
     (answer : Result Early EarlyError) : Type 0 where
   pub comes : messages ≤ limit → ComesToOkEarly messages identity answer

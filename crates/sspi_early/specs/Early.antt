@@ -14,13 +14,13 @@ use Rattle.sspi_early.specs.declared.answer.EarlyError.TheVariants.{Insufficient
 use Rattle.sspi_early.specs.Authorizes.{Authorizes, LinkAt, link_at}
 use Rattle.sspi_early.specs.Policy.{PolicyMeaning}
 
--- what a delegation that came to no end is answered by: its own error, but out of memory is the one
--- of this call
+-- the answer to a delegation that failed: its own error, but out of memory becomes that of this
+-- call
 abbrev pub refusal_of : DelegateError → EarlyError
 refusal_of errors.InsufficientMemory = InsufficientMemory
 refusal_of error = Delegate error
 
--- what comes behind a delegation
+-- what follows a delegation
 abbrev pub ComesBehind : {Q : Type 0} → PolicyMeaning Q → Delegation → LinkAt → LinkAt → Q → Q →
     Result Early EarlyError → Type 0
 ComesBehind p delegation before after policy policy2 (Ok early) = (early.delegation ≡ delegation) ×
@@ -29,8 +29,8 @@ ComesBehind p delegation before after policy policy2 (Ok early) = (early.delegat
 ComesBehind p delegation before after policy policy2 (Err error) =
     Authorizes p delegation.credentials before after policy policy2 (Err error)
 
--- the same behind a delegation that may have come to no end: then nothing is told. `shows` is what
--- a link shows.
+-- the same after a delegation that may have failed: then nothing is told. `shows` is what a link
+-- shows.
 abbrev pub GoesOn : {L Q : Type 0} → (L → LinkAt) → PolicyMeaning Q →
     Result Delegation DelegateError → L → L → Q → Q →
     Result Early EarlyError → Type 0
@@ -51,15 +51,15 @@ module _ {C P L D : Type 0} (c : Meaning ContextSetting C) (around : Around P L 
     pub accounts : Accounts c around old limit result new
     pub stays : Stays around old limit result new
 
-  -- A delegation, and what came behind it: the two ends, the KDC and the turns are as the
-  -- delegation left them, and so is the log of the link, but for one entry at most.
+  -- A delegation, and what followed it. The two ends, the KDC and the turns are as the delegation
+  -- left them. So is the log of the link, but for one entry at most.
   pub record IsEarly {Q : Type 0} (p : PolicyMeaning Q) (old : Parties C P L D) (limit : ℕ)
       (policy : Q) (result : Result Early EarlyError)
       (new : Parties C P L D) (policy2 : Q) : Type 0 where
-    -- what the delegation came to, and the link as it left it
+    -- the result of the delegation, and the link as it left it
     pub delegated : Result Delegation DelegateError
     pub link : L
     pub delegation : IsDelegated old limit delegated (record new { link = link })
     pub goes_on : GoesOn (shown_by around) p delegated link new.link policy policy2 result
-    -- where the policy failed, the link was not asked
+    -- if the policy failed, the link was not asked
     pub untouched : result ≡ Err Policy → new.link ≡ link

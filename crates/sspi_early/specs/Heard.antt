@@ -5,8 +5,8 @@ use Rattle.sspi_delegate.specs.declared.carried.Carried.{Carried}
 use Rattle.sspi_tsreq.specs.declared.early.EarlyUserAuthResult.{EarlyUserAuthResult}
 use Rattle.sspi_tsreq.specs.Early.{early_result_text}
 
--- the server's entry that tells this result, of whose delivery no more was taken than a result has
--- bytes
+-- the server's entry that tells this result; no more bytes than those of a result were taken from
+-- its delivery
 pub record Tells (told : EarlyUserAuthResult) (e : Carried) : Type 0 where
   pub from : e.from ≡ Server
   pub sent : e.sent ≡ early_result_text told
@@ -20,7 +20,7 @@ Heard result e = take 4 e.delivered ≡ early_result_text result
 abbrev pub IsCut : Carried → Type 0
 IsCut e = (e.ended ≡ true) × (length e.delivered < 4)
 
--- four bytes came that are no result
+-- four bytes came that are not a result
 abbrev pub IsNoResult : Carried → Type 0
 IsNoResult e = (4 ≤ length e.delivered) × ((result : EarlyUserAuthResult) → Heard result e → ⊥)
 

@@ -14,29 +14,29 @@ use Rattle.sspi_early.specs.Authorizes.{CountsFault, LinkAt, HasCause}
 use Rattle.sspi_early.specs.declared.answer.Authorized.{Authorized}
 use Rattle.sspi_early.specs.declared.answer.EarlyError.{EarlyError}
 
--- this is so of the newest entry
+-- this holds of the newest entry
 abbrev pub OfNewest : (Carried → Type 0) → List Carried → Type 0
 OfNewest P [] = ⊥
 OfNewest P (e ∷ log) = P e
 
--- the four bytes that were taken of the newest delivery, or none where it ended before; or the link
--- was asked in vain
+-- the four bytes taken from the newest delivery, or none if it ended before; or the link was asked
+-- in vain
 abbrev pub Takes : List Carried → List Carried → Result (Option (List ℕ)) LinkError → Type 0
 Takes old new (Ok (Some bytes)) = Fed old new × OfNewest (λ e. e.delivered ≡ bytes) new
 Takes old new (Ok None) = Fed old new × OfNewest IsCut new
 Takes old new (Err error) = Fed old new × OfNewest IsOpen new
 
--- the result that these bytes are; none where they are no result
+-- the result that these bytes encode; none if they encode no result
 abbrev pub IsResultIn : List ℕ → Option EarlyUserAuthResult → Type 0
 IsResultIn bytes (Some result) = bytes ≡ early_result_text result
 IsResultIn bytes None = (result : EarlyUserAuthResult) → bytes ≡ early_result_text result → ⊥
 
--- a link that tells its edits does not fail to deliver
+-- a link that exposes its edits does not fail to deliver
 abbrev pub NeverFailsToDeliver : Option (List Edit) → Result Authorized EarlyError → Type 0
 NeverFailsToDeliver None answer = Unit {0}
 NeverFailsToDeliver (Some edits) answer = answer ≡ Err LinkFault → ⊥
 
--- the client read the newest delivery, of which nothing was taken before
+-- the client read the newest delivery, from which nothing was taken before
 pub record Hears (told : EarlyUserAuthResult) (before after : LinkAt)
     (answer : Result Authorized EarlyError) : Type 0 where
   pub fed : Fed before.log after.log

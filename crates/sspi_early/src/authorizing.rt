@@ -14,20 +14,20 @@ use sspi_delegate::{End, Link, LinkError};
 use sspi_names::AuthIdentity;
 use sspi_tsreq::{EARLY_USER_AUTH_RESULT_PDU_SIZE, EarlyUserAuthResult};
 
-/// What a server tells its client behind a delegation: whether the user of this identity, the
-/// delegated one, may log on.
+/// Has the server tell its client, after a delegation, whether the user of this delegated identity
+/// may log on.
 ///
-/// The policy is asked once, of this identity. What it decides is given to the link as one message
-/// of the server, whose four bytes the client takes of its delivery, and no more. Takes no memory
-/// itself. Refused:
+/// The policy is asked once, about this identity. Its decision is given to the link as one message
+/// of the server. The client takes the four bytes of it from its delivery, and no more. The call
+/// itself allocates nothing. Refused:
 ///
 /// - `Policy`: the policy failed. The link was not asked.
 /// - `LinkFault`: the link failed, to carry the message or to deliver it.
-/// - `Read`: what was delivered is no result, `UnexpectedEof` where it ended before its fourth
-///   byte, and else `InvalidData`.
-/// - `InsufficientMemory`: that of the policy, or of the link.
+/// - `Read`: what was delivered is not a result: `UnexpectedEof` if it ended before its fourth
+///   byte, else `InvalidData`.
+/// - `InsufficientMemory`: from the policy or the link.
 ///
-/// Whatever the answer, the log of the link has the message if the link took it.
+/// In every case the link's log has the message if the link took it.
 pub fn authorize<L: Link, P: Policy>(
     link: &mut L,
     policy: &mut P,
@@ -75,7 +75,7 @@ fn spelled(told: EarlyUserAuthResult) -> [u8; EARLY_USER_AUTH_RESULT_PDU_SIZE]
     told.to_u32().to_le_bytes()
 }
 
-/// What the client hears of the newest delivery, which tells this result.
+/// What the client hears from the newest delivery, which tells this result.
 fn hear<L: Link>(link: &mut L, told: EarlyUserAuthResult) -> Result<Authorized, EarlyError>
     ensures { IsUnread (L.log link.old) →
         Hears told (link_at (L.log link.old) (L.edits link.old) (L.faults link.old))

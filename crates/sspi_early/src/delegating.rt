@@ -1,4 +1,4 @@
-//! A delegation, and behind it the early user authorization result.
+//! A delegation, and after it the early user authorization result.
 
 ghost use Rattle.std.specs.Prelude.{◌≡◌, [], Err};
 ghost use Rattle.sspi_completeness.specs.Matching.{AreMatching, IsCalm, NothingDisturbs};
@@ -21,23 +21,22 @@ use sspi_delegate::{DelegateError, Delegation, Link, Transcript};
 use sspi_mech::{Kdc, Kerberos, Ntlm};
 use std::alloc::Global;
 
-/// A delegation between two ends of the plain mechanisms, and behind it what the server tells its
-/// client: whether the user whose identity was delegated may log on (MS-CSSP 3.1.5; MS-RDPBCGR
-/// 2.2.10.2).
+/// A delegation between two ends of the plain mechanisms. After it the server tells its client
+/// whether the delegated user may log on (MS-CSSP 3.1.5; MS-RDPBCGR 2.2.10.2).
 ///
-/// First comes `delegate`. Where it is Ok, the policy is asked of the delegated identity, and what
-/// it decides goes over the link as `authorize` says. Refused:
+/// First comes `delegate`. If it is Ok, the policy is asked about the delegated identity, and its
+/// decision goes over the link as in `authorize`. Refused:
 ///
-/// - `Delegate`: what `delegate` refused. Neither the policy nor the link was asked more.
-/// - `Policy`, `LinkFault`, `Read`: as of `authorize`, after a delegation that was Ok.
-/// - `InsufficientMemory`, that of either.
+/// - `Delegate`: what `delegate` refused. Neither the policy nor the link was asked further.
+/// - `Policy`, `LinkFault`, `Read`: as in `authorize`, after a delegation that was Ok.
+/// - `InsufficientMemory`: from either.
 ///
-/// Whatever the answer, the ends, the KDC and the transcript are as `delegate` left them, and the
-/// log of the link has one entry more at most. `early` holds of every call, and cites all that
-/// `delegate` promises. Matching ends that made no call, whose link disturbs nothing, neither in
-/// the delegation nor behind it, and whose proxy and policy do not fail, come to Ok, and the client
-/// hears what the server told, or there was no memory; where `limit` allows the client fewer
-/// messages than they take, the turns are spent, or there was no memory.
+/// In every case the ends, the KDC and the transcript are as `delegate` left them, and the link's
+/// log has at most one more entry. `early` holds of every call, and cites all that `delegate`
+/// promises. `matched` is about matching ends that have made no call. Their link disturbs nothing,
+/// during or after the delegation, and their proxy and policy do not fail. They come to Ok, and the
+/// client hears what the server told; or, if `limit` is too low, the turns are spent. Memory may
+/// run out instead.
 pub fn delegate_early<C: CredentialsProxy, L: Link, D: Kdc, P: Policy>(
     alloc: Global,
     client: &mut CredSspClient<Ntlm, Kerberos>,
@@ -65,9 +64,9 @@ pub fn delegate_early<C: CredentialsProxy, L: Link, D: Kdc, P: Policy>(
     tell_early(link, policy, delegated)
 }
 
-/// What comes behind a delegation that came to this: the second half of `delegate_early`, for a
-/// caller that makes the first itself and wants what it came to, whatever comes behind. Behind one
-/// that was refused nothing comes, and the link and the policy stay as they are.
+/// What follows a delegation with this result: the second half of `delegate_early`, for a caller
+/// that does the first half itself and wants to keep its result. After a refused delegation nothing
+/// follows, and the link and the policy stay as they are.
 pub fn tell_early<L: Link, P: Policy>(
     link: &mut L,
     policy: &mut P,

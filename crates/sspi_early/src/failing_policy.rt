@@ -8,7 +8,7 @@ use crate::policy::{Policy, PolicyError};
 use sspi_names::AuthIdentity;
 use std::marker::Model;
 
-/// A policy that fails whenever it is asked, and tells no names.
+/// A policy that fails whenever it is asked, and exposes no names.
 #[derive(Drop)]
 pub struct FailingPolicy {
     faults: u64,
@@ -23,7 +23,7 @@ impl Model for FailingPolicy {
 }
 
 impl FailingPolicy {
-    /// A policy that was not asked yet.
+    /// A policy that has not been asked yet.
     pub fn new() -> FailingPolicy
         ensures { result ≡ 0 }
     {

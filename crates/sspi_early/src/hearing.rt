@@ -7,8 +7,8 @@ ghost use Rattle.sspi_early.specs.Hearing.{IsResultIn, Takes};
 use sspi_delegate::{Link, LinkError};
 use sspi_tsreq::{EARLY_USER_AUTH_RESULT_PDU_SIZE, EarlyUserAuthResult};
 
-/// The bytes with which the newest delivery begins, as many as a result has and no more; none where
-/// it ends before.
+/// Takes the bytes of a result from the beginning of the newest delivery, and no more; `None` if it
+/// ends before that.
 pub(crate) fn take_result<L: Link>(
     link: &mut L,
 ) -> Result<Option<[u8; EARLY_USER_AUTH_RESULT_PDU_SIZE]>, LinkError>
@@ -30,7 +30,7 @@ pub(crate) fn take_result<L: Link>(
     Ok(Some(bytes))
 }
 
-/// The result that these bytes are, if they are one.
+/// The result that these bytes encode, if they encode one.
 pub(crate) fn result_in(bytes: [u8; EARLY_USER_AUTH_RESULT_PDU_SIZE]) -> Option<EarlyUserAuthResult>
     ensures { IsResultIn bytes result }
 {

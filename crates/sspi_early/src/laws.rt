@@ -1,4 +1,4 @@
-//! Laws of the early result, each on a function that does nothing.
+//! Laws of the early result, each stated on a function that does nothing.
 
 ghost use Rattle.std.specs.Prelude.{◌≡◌, List, length, Some, Ok, []};
 ghost use Rattle.sspi_completeness.specs.Matching.{IsCalm};
@@ -18,7 +18,7 @@ ghost use Rattle.sspi_tsreq.specs.Early.{early_result_text};
 use crate::policy::Policy;
 
 /// Over a link that edits nothing a client hears what its server told, if the policy does not fail
-/// and there is memory.
+/// and memory does not run out.
 #[tactic(auto, using(crate::proofs::Honest::honest_link))]
 pub fn a_link_without_edits_tells_the_decision<P: Policy>()
     ensures { (identity : AuthIdentity) (before after : LinkAt) (policy policy2 : P)
@@ -28,8 +28,8 @@ pub fn a_link_without_edits_tells_the_decision<P: Policy>()
         IsCalm (P.meaning.faults policy) (P.meaning.faults policy2) → IsHonest answer }
 {}
 
-/// What a list of names decides is what the server tells: success exactly where one of them is that
-/// of the identity.
+/// The server tells what a list of names decides: success exactly if the identity's name is one of
+/// them.
 #[tactic(auto, using(crate::proofs::Honest::told_by_list))]
 pub fn a_list_tells_by_its_names()
     ensures { (identity : AuthIdentity) (before after : LinkAt) (names names2 : List Name)

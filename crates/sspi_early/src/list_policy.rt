@@ -8,8 +8,8 @@ use sspi_names::{AuthIdentity, Username};
 use std::alloc::Global;
 use std::marker::Model;
 
-/// A policy by a list of names, which it tells: those who are in it may log on. It never fails and
-/// takes no memory.
+/// A policy by a list of names, which it exposes: the users in it may log on. It never fails and
+/// allocates nothing.
 #[derive(Drop)]
 pub struct ListPolicy {
     names: Vec<Username>,
@@ -33,7 +33,7 @@ impl ListPolicy {
     }
 }
 
-/// Whether the name is in the list, but for the case of ASCII letters.
+/// Whether the name is in the list, ignoring the case of ASCII letters.
 fn is_listed(names: &[Username], name: &Username) -> bool
     ensures { result ≡ is_listed names.now name.now }
 {

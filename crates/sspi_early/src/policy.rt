@@ -13,21 +13,21 @@ pub enum PolicyError {
 
 /// Which users may log on, by the names in the credentials that a client delegated.
 ///
-/// Neither the password in them nor that their name is the one that was authenticated has been
-/// checked: a client may delegate any credentials. Who lets a user in by them must log that user on
-/// with them.
+/// Neither the password in them, nor that their name is the authenticated one, has been checked: a
+/// client may delegate any credentials. Whoever lets a user in by them must log that user on with
+/// them.
 ///
-/// The count of faults never falls. A call that answers `Failed` has raised it, but for one that
-/// found it as high as it goes. A policy may tell the names of those who may log on: then its
-/// decisions are by them, and no call changes them.
+/// The count of faults never falls. A call that answers `Failed` has raised it, unless it was at
+/// its maximum. A policy may expose the names of those who may log on: then it decides by them, and
+/// no call changes them.
 pub trait Policy: Drop {
     ghost use Rattle.sspi_early.specs.Policy.{PolicyMeaning, HasDecided};
 
-    // What the policy tells of itself, and what its calls may answer.
+    // What the policy exposes about itself, and what its calls may answer.
     ghost meaning: { PolicyMeaning Self };
 
     /// Whether the user of this identity may log on. Names are compared by form, account and
-    /// domain, without the case of ASCII letters.
+    /// domain, ignoring the case of ASCII letters.
     fn admits(&mut self, identity: &AuthIdentity) -> Result<bool, PolicyError>
         ensures { HasDecided meaning self.old identity.now result self.new };
 }

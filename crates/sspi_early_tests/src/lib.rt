@@ -1,4 +1,4 @@
-//! Tests of the early result, by the calls that every caller has.
+//! Tests of the early result, through the public calls.
 #![tactic(auto)]
 
 #[cfg(test)]

@@ -1,5 +1,5 @@
-//! The early result by itself, and behind whole delegations. Through the program more of these are
-//! tried.
+//! The early result by itself, and after whole delegations. More of these are tried through the
+//! program.
 
 mod delegated;
 mod faults;

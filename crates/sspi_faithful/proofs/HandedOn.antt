@@ -1,4 +1,4 @@
--- Each turn of a delegation that nothing disturbs is given what is written of the message before it; so the delegation is faithful.
+-- An undisturbed delegation is faithful: each turn is given what was written of the message before.
 use Rattle.std.proofs.Common.{◌≡◌, ℕ, ◌<◌, ◌^◌, Bool, true, false, List, [], ◌∷◌, length, Option, None, Some, Ok, IfSome}
 use Rattle.std.proofs.Common.{sym, ap, subst, refl, arith, if◌then◌else◌}
 use Rattle.sspi_types.specs.declared.nstatus.NStatusCode.{NStatusCode}
@@ -61,7 +61,7 @@ carried_value r is = record {
 first_value : IsRequestValue first_request
 first_value = record { version = omega arith; code = tt; nonce = tt }
 
--- a message that goes back with a version of its end, and perhaps its end's nonce
+-- a message that goes back with its end's version, and perhaps its end's nonce
 value_of : (r d : TsRequest) (version : ℕ) → version < 2 ^ 32 → r.version ≡ version → r.error_code ≡ d.error_code →
     IfSome r.client_nonce (λ nonce. length nonce ≡ 32) → IsRequestValue d → IsRequestValue r
 value_of r d version small own code nonce is = record {

@@ -1,5 +1,5 @@
-//! That the premise of agreement (`sspi_play`) is met: a CredSSP delegation between matching ends
-//! that nothing disturbs is faithful (MS-CSSP 3.1.5).
+//! The premise of agreement (`sspi_play`) is met: an undisturbed CredSSP delegation between
+//! matching ends is faithful (MS-CSSP 3.1.5).
 #![tactic(auto)]
 
 ghost use Rattle.std.specs.Prelude.{ℕ, Ok};
@@ -24,9 +24,9 @@ use sspi_credssp::CredentialsProxy;
 use sspi_delegate::Link;
 use sspi_mech::Kdc;
 
-/// Where a delegation between matching ends of the plain mechanisms came to Ok and nothing
-/// disturbed it, each end has opened what its peer had sealed, in that order. It does come to Ok,
-/// or there was no memory: `sspi_completeness::delegate_plainly`.
+/// If an undisturbed delegation between matching ends of the plain mechanisms came to Ok, each end
+/// has opened what its peer sealed, in order. It comes to Ok unless its turns or memory run out:
+/// `sspi_completeness::delegate_plainly`.
 pub fn an_undisturbed_delegation_is_faithful<C: CredentialsProxy, L: Link, D: Kdc>()
     ensures { let c = either 0 ntlm_meaning kerberos_meaning in
         let around = around_by C.meaning L.log L.edits L.faults D.told D.asked D.faults in
@@ -38,7 +38,7 @@ pub fn an_undisturbed_delegation_is_faithful<C: CredentialsProxy, L: Link, D: Kd
 {}
 
 /// Each exchange that was worked by hand (`sspi_completeness::worked`) and came to Ok is such a
-/// delegation: so the premise of agreement holds of ends that a program makes.
+/// delegation. So the premise of agreement holds of ends that a program makes.
 pub fn worked_exchanges_are_faithful()
     ensures { (x : Example) (messages limit : ℕ) (delegation : Delegation)
         (new : Parties Plain TableView MemoryLinkView PlainKdcState) →

@@ -1,8 +1,8 @@
-//! Tests of scenarios by the calls that every caller has: texts that are none, with the line at
-//! fault, what each key tells, the defaults, and how a source is read.
+//! Tests of scenarios through the public calls: refused texts with their faulty line, what each key
+//! says, the defaults, and how a source is read.
 //!
-//! The parser stands in `sspi_scenario`, which is then proved once: a crate with tests is proved
-//! with them and without.
+//! The parser is in `sspi_scenario`, and so is proved only once: a crate with tests is proved with
+//! and without them.
 #![tactic(auto)]
 
 #[cfg(test)]

@@ -17,9 +17,9 @@ use std::process::Abort;
 
 type Client = CredSspClient<Ntlm, Kerberos>;
 
-/// Whom the policy admits, how many messages the client may make, what the link does with the one
-/// behind them, the answer, how many messages the link carried, what the last one was if it told
-/// the result, and how many bytes were taken of it.
+/// Whom the policy admits, how many messages the client may make, what the link does with the
+/// result, and the answer. Then how many messages the link carried; if the last one told the
+/// result, what it was, and how many bytes were taken from it.
 const LISTED: &str = "\
 DOM\\ann, / 3 / none / success success / 6 / 00000000 / 4
  / 3 / none / denied denied / 6 / 05000000 / 4
@@ -60,7 +60,7 @@ fn server(rt: &impl Abort, alloc: Global) -> CredSspServer<Ntlm, Kerberos, Table
     )
 }
 
-/// Lends both and drops them then. Generic, since to drop a value of a type parameter is one step.
+/// Lends both, then drops them. Generic, since dropping a value of a type parameter is one step.
 fn between<A: Drop, B: Drop, R, F: FnOnce(&mut A, &mut B) -> R>(first: A, second: B, act: F) -> R
     requires { F.IsAlwaysCallable act }
 {
@@ -69,7 +69,7 @@ fn between<A: Drop, B: Drop, R, F: FnOnce(&mut A, &mut B) -> R>(first: A, second
     act(&mut first, &mut second)
 }
 
-/// The same of one value.
+/// The same for one value.
 fn lend<T: Drop, R, F: FnOnce(&mut T) -> R>(value: T, act: F) -> R
     requires { F.IsAlwaysCallable act }
 {
@@ -93,7 +93,7 @@ fn delegated<C: CredentialsProxy, P: Policy>(
     })
 }
 
-/// What a line says behind whom this policy admits.
+/// A line without its first part, whom this policy admits.
 fn line<P: Policy>(rt: &impl Abort, alloc: Global, policy: P, line: &str) {
     let (limit, rest) = parted(rt, line, " / ");
     let (edit, rest) = parted(rt, rest, " / ");
@@ -151,7 +151,7 @@ fn a_delegated_user_is_told_what_a_list_decides(rt: HostRuntime) {
     }
 }
 
-// Where the turns are spent, the policy is not asked: its failure would be the answer.
+// If the turns are spent, the policy is not asked: its failure would be the answer.
 #[test]
 fn a_policy_that_fails_tells_nothing(rt: HostRuntime) {
     let alloc = rt.alloc();

@@ -7,8 +7,8 @@ use sspi_names::AuthIdentity;
 use std::alloc::Global;
 use std::process::Abort;
 
-/// A carrier that gives one zero at a time, and fails from a call of `receive` on, which is counted
-/// from 0.
+/// A carrier that gives one zero at a time, and fails from call number `from` of `receive` on,
+/// counted from 0.
 #[derive(Drop)]
 struct Failing {
     from: u64,
@@ -47,7 +47,7 @@ impl Carrier for Failing {
     }
 }
 
-/// Over a link whose delivery fails from its so-manieth byte on, counted from 0.
+/// Over a link whose delivery fails from byte `from` on, counted from 0.
 fn over_failing(rt: &impl Abort, alloc: Global, identity: &AuthIdentity, from: u64, words: &str) {
     let carrier = Failing {
         from,
@@ -61,7 +61,7 @@ fn over_failing(rt: &impl Abort, alloc: Global, identity: &AuthIdentity, from: u
     is_carried(rt, link.log(), from);
 }
 
-/// The one entry is a refusal, of which so many bytes were delivered, all four at most.
+/// The only entry is a refusal, of which `from` bytes were delivered, at most four.
 fn is_carried(rt: &impl Abort, log: &[Carried], from: u64) {
     match log {
         [entry] => {
@@ -83,7 +83,7 @@ fn a_delivery_that_fails_is_a_fault_of_the_link(rt: HostRuntime) {
     over_failing(&rt, alloc, &identity, 4, "denied success");
 }
 
-/// A policy that fails is told, and nothing goes over the link.
+/// A policy's failure is answered, and nothing goes over the link.
 fn is_unheard(rt: &impl Abort, alloc: Global, identity: &AuthIdentity) {
     let mut policy = FailingPolicy::new();
     let mut link = MemoryLink::new(alloc, Vec::new(alloc));

@@ -1,5 +1,5 @@
-//! One line an early result over a link in memory: what its list of names decides, and what comes
-//! of what the link delivers.
+//! Early results over a link in memory, one a line: what the list of names decides, and what the
+//! client makes of what the link delivers.
 
 use crate::tests::words::{
     Answer, answered, edits, given, identity, names, number, parted, unmade,
@@ -11,7 +11,7 @@ use std::alloc::Global;
 use std::process::Abort;
 
 /// Whom the policy admits, the user, what the link does, the answer, what the server sent, and how
-/// many bytes were taken of it.
+/// many bytes were taken from it.
 const RESULTS: &str = "\
 DOM\\ann, / DOM\\ann / none / success success / 00000000 / 4
  / DOM\\ann / none / denied denied / 05000000 / 4
@@ -53,7 +53,7 @@ DOM\\ann, / DOM\\ann / give 00000005 / data / 00000000 / 4
 DOM\\ann, / DOM\\ann / give 050000 / eof / 00000000 / 3
 DOM\\ann, / DOM\\ann / give 0000000500 / data / 00000000 / 4";
 
-/// The same of a message that the link does not take.
+/// The same for a message that the link does not take.
 const UNCARRIED: &str = "DOM\\ann, / DOM\\ann / fail / link";
 
 fn line(rt: &impl Abort, alloc: Global, line: &str, piece: usize) {
@@ -89,7 +89,7 @@ fn case(
     comes(rt, alloc, &found, link.log(), rest);
 }
 
-/// The answer and the log are those of these words.
+/// The answer and the log are as these words say.
 fn comes(rt: &impl Abort, alloc: Global, found: &Answer, log: &[Carried], rest: &str) {
     match rest.split_once(" / ") {
         Some((words, entry)) => carried(rt, alloc, found, words, log, entry),
@@ -116,7 +116,7 @@ fn carried(
     }
 }
 
-/// The entry is the server's, and sent these digits; so many bytes were taken of it.
+/// The entry is the server's, and sent these digits; `taken` is how many bytes were taken from it.
 pub(crate) fn told(
     rt: &impl Abort,
     alloc: Global,

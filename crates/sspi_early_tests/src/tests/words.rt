@@ -10,12 +10,12 @@ use std::process::Abort;
 
 pub(crate) type Answer = Result<Authorized, EarlyError>;
 
-/// The word is none.
+/// Fails the test.
 pub(crate) fn unmade(rt: &impl Abort) {
     assert!(rt; false);
 }
 
-/// The value of a call that is not to be refused.
+/// The value of a call that must not be refused.
 pub(crate) fn given<T, E: Drop>(rt: &impl Abort, answer: Result<T, E>) -> T {
     match answer {
         Ok(value) => value,
@@ -23,7 +23,7 @@ pub(crate) fn given<T, E: Drop>(rt: &impl Abort, answer: Result<T, E>) -> T {
     }
 }
 
-/// What stands before this mark, and what after it.
+/// The parts before and after this mark.
 pub(crate) fn parted<'a>(rt: &impl Abort, text: &'a str, mark: &str) -> (&'a str, &'a str) {
     match text.split_once(mark) {
         Some(parts) => parts,
@@ -31,7 +31,7 @@ pub(crate) fn parted<'a>(rt: &impl Abort, text: &'a str, mark: &str) -> (&'a str
     }
 }
 
-/// Names with a comma behind each.
+/// Names with a comma after each.
 pub(crate) fn names(rt: &impl Abort, alloc: Global, words: &str) -> Vec<Username> {
     let mut names = Vec::new(alloc);
     for word in words.split_terminator(',') {
@@ -51,7 +51,7 @@ pub(crate) fn identity(rt: &impl Abort, alloc: Global, user: &str) -> AuthIdenti
     }
 }
 
-/// `none`, `drop`, `fail`, `cut K`, `set K HH`, `add HEX`, `give HEX`, of this entry.
+/// `none`, `drop`, `fail`, `cut K`, `set K HH`, `add HEX`, `give HEX`, for this entry.
 pub(crate) fn edits(rt: &impl Abort, alloc: Global, entry: u32, words: &str) -> Vec<Edit> {
     let mut edits = Vec::new(alloc);
     if words != "none" {
@@ -111,7 +111,7 @@ fn answer(rt: &impl Abort, words: &str) -> Answer {
     }
 }
 
-/// The answer is that of these words.
+/// The answer is as these words say.
 pub(crate) fn answered(rt: &impl Abort, found: &Answer, words: &str) {
     assert!(rt; same(found, &answer(rt, words)), "{words}");
 }

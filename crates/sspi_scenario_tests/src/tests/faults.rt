@@ -1,4 +1,4 @@
-//! Texts that are no scenario, each with its first faulty line.
+//! Texts that are not scenarios, each with its first faulty line.
 
 use crate::tests::checks::holds;
 use sspi_scenario::{Purpose, Scenario, ScenarioError};
@@ -63,7 +63,7 @@ const FAULTS: [(&str, usize); 54] = [
     ("mode negotiate\nclient-protocol x\nmode x", 2),
 ];
 
-/// The same for a play, which has deliveries, and neither a limit of turns nor a link that changes
+/// The same for a play, which has deliveries, but neither a turn limit nor a link that changes
 /// messages.
 const FAULTS_OF_A_PLAY: [(&str, usize); 9] = [
     (
@@ -80,7 +80,7 @@ const FAULTS_OF_A_PLAY: [(&str, usize); 9] = [
     ("admit ann", 1),
 ];
 
-/// The same for an early result, which has names that are admitted, and no deliveries.
+/// The same for an early result, which admits names and has no deliveries.
 const FAULTS_OF_AN_EARLY: [(&str, usize); 4] = [
     ("admit ann\nadmit ann\nadmit\nadmit a\\b@c", 4),
     ("admits ann", 1),
@@ -88,8 +88,7 @@ const FAULTS_OF_AN_EARLY: [(&str, usize); 4] = [
     ("admit ann", 0),
 ];
 
-/// The same for the sessions of a desk, which have a limit of turns, and no link that changes
-/// messages.
+/// The same for the sessions of a desk, which have a turn limit, but no link that changes messages.
 const FAULTS_OF_SESSIONS: [(&str, usize); 4] = [
     ("turns 5\nproxy-fail 9\nedit 0 drop", 3),
     ("turns 5\ndeliver client", 2),
@@ -97,8 +96,8 @@ const FAULTS_OF_SESSIONS: [(&str, usize); 4] = [
     ("turns 5\nturns 5", 2),
 ];
 
-/// The same for a server over a channel, which has its challenge; the fewest lines that it needs
-/// are none at fault.
+/// The same for a server over a channel, which needs a challenge; if only that is missing, no line
+/// is faulty.
 const FAULTS_OF_A_SERVER: [(&str, usize); 5] = [
     ("admit ann\nturns 5\nproxy-fail 9", 3),
     ("edit 0 drop", 1),
@@ -107,7 +106,7 @@ const FAULTS_OF_A_SERVER: [(&str, usize); 5] = [
     ("mode ntlm\nuser a\npassword b\nkey 00", 0),
 ];
 
-/// The same for a client over a channel, which has its nonce.
+/// The same for a client over a channel, which needs a nonce.
 const FAULTS_OF_A_CLIENT: [(&str, usize); 4] = [
     ("proxy-fail 9", 1),
     ("admit ann\nedit 0 drop", 2),
@@ -118,7 +117,7 @@ const FAULTS_OF_A_CLIENT: [(&str, usize); 4] = [
     ),
 ];
 
-/// The line at which a text is refused; none where it is not refused for a line.
+/// The line at which a text is refused; `None` if it is not refused for a line.
 fn line_of<T: Drop>(read: Result<T, ScenarioError>) -> Option<usize> {
     match read {
         Err(ScenarioError::Line(line)) => Some(line),

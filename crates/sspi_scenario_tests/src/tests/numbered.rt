@@ -1,4 +1,4 @@
-//! Scenarios that are made of a number.
+//! Scenarios that are made from a number.
 
 use crate::tests::checks::{given, holds, lend, parsed};
 use sspi_delegate::{Edit, EditKind};
@@ -9,8 +9,8 @@ use sspi_types::Text;
 use std::alloc::{AllocError, Global};
 use std::process::Abort;
 
-/// What the text of a number has: the number, the mode, its low byte in hex, the version of both
-/// ends, and further lines, with `;` for an LF and a `|` behind each but the last.
+/// The parts of each text: the number, the mode, its low byte in hex, the version of both ends, and
+/// further lines. A `|` follows each part but the last, and `;` is an LF.
 const TOLD: &str = "0|ntlm|00|6|\n\
     1|negotiate|01|6|\n\
     2|ntlm|02|4|client-least 4;server-least 4;\n\
@@ -142,7 +142,7 @@ fn is_same(rt: &impl Abort, alloc: Global, line: &str) {
     is_told(rt, alloc, text.as_str(), number, line);
 }
 
-/// The scenario of a number is what its text tells.
+/// The scenario of a number is what its text says.
 #[test]
 fn numbers_make_what_their_texts_tell(rt: HostRuntime) {
     for line in TOLD.lines() {

@@ -1,4 +1,4 @@
-//! Why texts are no scenario, in words.
+//! Why texts are not scenarios, in words.
 
 use crate::tests::checks::{given, holds};
 use sspi_scenario::{Purpose, reason};
@@ -134,7 +134,7 @@ const REASONS: [(&str, &str); 44] = [
     ("mode ntlm\nuser a\npassword p\nkey 01\n", ""),
 ];
 
-/// The reason that is told is this one.
+/// The reason given is this one.
 fn is_refused_so(rt: &impl Abort, alloc: Global, purpose: Purpose, text: &[u8], why: &str) {
     let told = given(rt, reason(alloc, purpose, text));
     holds(rt, told.as_str() == why, why);

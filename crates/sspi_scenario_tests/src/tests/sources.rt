@@ -10,7 +10,7 @@ fn length_read<S: Source>(alloc: Global, source: &mut S) -> Result<usize, TextEr
     Ok(read_text(alloc, TEXT_LIMIT, source)?.len())
 }
 
-/// So many letters.
+/// This many letters.
 fn letters(rt: &impl Abort, alloc: Global, length: usize) -> Vec<u8> {
     given(rt, vec![in alloc; b'a'; length])
 }
@@ -21,7 +21,7 @@ fn reads(rt: &impl Abort, alloc: Global, letters: &[u8], read: Result<usize, Tex
     assert_eq!(rt; length_read(alloc, &mut source), read);
 }
 
-// Around a piece, and around the limit of 1 MiB.
+// Lengths around that of a piece, and the limit of 1 MiB.
 #[test]
 fn a_source_is_read_to_its_end(rt: HostRuntime) {
     for length in [0, 1, 1024, 1025, 1_048_576] {
@@ -44,7 +44,7 @@ fn reads_of_failing(
     assert_eq!(rt; length_read(alloc, &mut source), read);
 }
 
-// The calls 0 to 9 give some, and call 10 is the end.
+// Calls 0 to 9 give some bytes, and call 10 finds the end.
 #[test]
 fn a_fault_in_mid_stream_is_told(rt: HostRuntime) {
     let letters = letters(&rt, rt.alloc(), 10_000);

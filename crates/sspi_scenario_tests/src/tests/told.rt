@@ -1,4 +1,4 @@
-//! Texts of scenarios with what they tell.
+//! Scenario texts, with what they say.
 
 use crate::tests::checks::{lend, parsed};
 use sspi_delegate::End;
