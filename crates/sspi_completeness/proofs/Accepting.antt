@@ -23,14 +23,14 @@ use Rattle.sspi_credssp.proofs.Deliver.{bare_after}
 use Rattle.sspi_completeness.proofs.Ends.{in_context}
 
 module _ {C : Type 0} (c : Meaning ContextSetting C) (laws : IsContext c) where
-  -- what comes of the name of the peer of context y, by what its proxy tells: the context z, which is complete
+  -- naming the peer of context y, as its proxy tells, leads to context z, which is complete
   pub record IsPeer (tells : ProxyTells) (y z : C) : Type 0 where
     pub identified : (m m2 : C) → cleared c m ≡ y → IsIdentified c tells m m2 → cleared c m2 ≡ z
     pub never : (m : C) (before now : ℕ) (kind : ErrorKind) → cleared c m ≡ y → now ≡ before → before < 2 ^ 64 - 1 →
         IdentifyCause c m tells before now kind → ⊥
     pub completes : (m : C) (kind : ErrorKind) → cleared c m ≡ z → c.refuses m ToComplete kind → ⊥
 
-  -- the context came of y once its peer was named
+  -- the context came from y once its peer was named
   pub record IsNamed (tells : ProxyTells) (y m : C) : Type 0 where
     pub before : C
     pub after : C
@@ -55,7 +55,7 @@ module _ {C : Type 0} (c : Meaning ContextSetting C) (laws : IsContext c) where
       record { before = h.before; after = h.after; same = h.same; identifies = h.identifies; cleared_is = same ∙ h.cleared_is }
 
   module _ {P : Type 0} (p : ProxyMeaning P) where
-    -- all that a mode says of the step of a turn: its answer, and the context and the credentials after it
+    -- all a mode says about a turn's step: its answer, and the context and credentials after it
     pub record Takes (old : ServerView C P) (token : Option (List ℕ)) (step : Step) (y : C)
         (handle : Option CredentialsBuffers) : Type 0 where
       pub done : (h : Option CredentialsBuffers) (m0 m : C) (s : Step) →
@@ -88,7 +88,7 @@ module _ {C : Type 0} (c : Meaning ContextSetting C) (laws : IsContext c) where
       took_never h known answer error m is others (recounted m1 m2 n kn a before counted quiet) =
           took_never h known answer error m1 is others before
 
-      -- the context of a turn that came so far
+      -- the context of a turn that came this far
       pub record Left (mid : ServerView C P) (known : Knowing) : Type 0 where
         pub held : C
         pub there : mid.context ≡ Some held

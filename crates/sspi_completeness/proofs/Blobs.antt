@@ -20,14 +20,14 @@ blob_opens : (key : List ℕ) (direction : Direction) (n : ℕ) (text : List ℕ
     OpensBy (Some key) direction n (blob_of key direction n text) text
 blob_opens key direction n text = sealed_opens (Some key) direction n text (blob_of key direction n text) refl
 
--- it opens to its text alone
+-- it opens only to its text
 pub one_text : (o : Option (List ℕ)) (towards : Direction) (key : List ℕ) (direction : Direction) (n n2 : ℕ) (text text2 : List ℕ) →
     OpensBy o towards n2 (blob_of key direction n text) text2 → text2 ≡ text
 one_text o towards key direction n n2 text text2 opens =
     opened_is_body o towards n2 (blob_of key direction n text) text2 opens
     ∙ sym (opened_is_body (Some key) direction n (blob_of key direction n text) text (blob_opens key direction n text))
 
--- and is not refused at the other end where it is the next
+-- and is not refused at the other end if it is the next
 pub never_unopened : (o : Option (List ℕ)) (towards : Direction) (unsealed : ℕ) (key : List ℕ) (direction : Direction) (n : ℕ)
     (text : List ℕ) (kind : ErrorKind) →
     o ≡ Some key → towards ≡ direction → unsealed ≡ n → n < 2 ^ 64 - 1 →

@@ -66,7 +66,8 @@ module _ {C : Type 0} (c : Meaning ContextSetting C) (laws : IsContext c) where
       (unchecked, unsealed_so, acts.opened)
 
   module _ {D : Type 0} (k : KdcCalls D) where
-    -- all that a mode says of the step of a turn: its answer, the context, the credentials and the KDC after it
+    -- all a mode says about a turn's step: its answer, and the context, credentials and KDC it
+    -- leaves
     pub record Walks (old : View) (kdc : D) (token : Option (List ℕ)) (step : Step) (y : C) (handle : Option CredentialsBuffers)
         (After : D → Type 0) : Type 0 where
       pub done : (h : Option CredentialsBuffers) (log : List Asked) (kdc2 : D) (s : Step) (m : C) → k.replies kdc log kdc2 →
@@ -136,7 +137,7 @@ module _ {C : Type 0} (c : Meaning ContextSetting C) (laws : IsContext c) where
           given.begins kind
           (subst (λ (s : ClientSettings). BeginCause c (ForClient s.mode) Outbound (Some s.credentials) kind) given.is.same h)
 
-      -- a refusal is past what a turn looks at first
+      -- a refusal comes after what a turn checks first
       nego_cause : (mid : View) (kind : ErrorKind) → ClientCause c old d mid kind → kind ≢ InsufficientMemory →
           NegoCause c mid.acts.status mid kind
       nego_cause mid kind cause others =

@@ -87,7 +87,7 @@ pub never_too_long : (t : Turn) (past : List Turn) (r : TsRequest) → message_o
 never_too_long t past r is fit unfit =
     let at : fits r ≡ false = subst (λ (m : Option TsRequest). MessageFits m false) is unfit in cc
 
--- a log has an entry for each turn behind those of before
+-- a log has an entry for each turn, after the earlier ones
 pub logged_behind : (base : List Carried) (turns : List Turn) (log : List Carried) → Logged base turns log → length base ≤ length log
 logged_behind base [] log entries = omega (arith, ap length entries)
 logged_behind base (t ∷ past) [] entries = absurd entries

@@ -1,4 +1,4 @@
--- What the ends of an undisturbed exchange are between two turns, whatever their security contexts mean.
+-- The state of an undisturbed exchange's ends between two turns, for any security contexts.
 use Rattle.std.proofs.Common.{◌≡◌, ◌≢◌, ℕ, ◌-◌, ◌≤◌, ◌<◌, ◌^◌, List, [], length, Bool, true, false, Option, None, Some, refl, ap, sym}
 use Rattle.std.proofs.Common.{◌∙◌, subst, arith, eq-eqb, nat_lt}
 use Rattle.sspi_types.specs.declared.error_kind.ErrorKind.{ErrorKind}
@@ -19,14 +19,14 @@ use Rattle.sspi_credssp.specs.Noted.{differs, is_altered_in, is_old, is_old_in, 
 use Rattle.sspi_credssp.specs.declared.turn.Outcome.{Outcome}
 use Rattle.sspi_credssp.specs.declared.turn.Outcome.TheVariants.{Reply, Final, Finished, Refused}
 
--- an undisturbed turn has a message, of which this is so; or it was refused when out of memory
+-- an undisturbed turn has a message, of which this holds; or it was refused when out of memory
 abbrev pub Comes : Outcome → (TsRequest → Type 0) → Type 0
 Comes (Reply r) Q = Q r
 Comes (Final r) Q = Q r
 Comes Finished Q = ⊥
 Comes (Refused kind reply) Q = kind ≢ InsufficientMemory → ⊥
 
--- the same of the turn that ends the exchange
+-- the same for the turn that ends the exchange
 abbrev pub Ends : Outcome → Type 0 → Type 0
 Ends (Reply r) Q = ⊥
 Ends (Final r) Q = ⊥
@@ -76,7 +76,7 @@ module _ {C : Type 0} (c : Meaning ContextSetting C) where
     pub there : context ≡ Some held
     pub same : cleared c held ≡ x
 
-  -- by which messages the context x seals texts
+  -- how the context x seals texts, by the number of the message
   pub record IsMaker (x : C) (blob : ℕ → List ℕ → List ℕ) : Type 0 where
     pub made : (m : C) (n : ℕ) (text sealed : List ℕ) → cleared c m ≡ x → c.seals m n text sealed → sealed ≡ blob n text
     pub never : (m : C) (text : List ℕ) (kind : ErrorKind) → cleared c m ≡ x → (c.counts m).sealings < 2 ^ 64 - 1 →
@@ -133,7 +133,7 @@ module _ {C : Type 0} (c : Meaning ContextSetting C) where
     unsealed_is = rw fresh.context refl;
   }
 
-  -- what a client does that is given this version next: it does not refuse it, and has it pinned then
+  -- a client that is given this version next does not refuse it, and then has it pinned
   pub record Takes (v : ClientView C) (w : ℕ) : Type 0 where
     pub fits : is_altered_in v.context v.noted w ≡ false
     pub young : is_old_in v.context v.settings.least v.noted w ≡ false
@@ -210,7 +210,7 @@ module _ {C : Type 0} (c : Meaning ContextSetting C) where
     }
 
   module _ (laws : IsContext c) where
-    -- where nothing was sealed or opened, the context is this very one
+    -- if nothing was sealed or opened, the context is this very one
     pub unused_is : (m x : C) → cleared c m ≡ x → (c.counts m).sealings ≡ 0 → (c.counts m).unsealings ≡ 0 → m ≡ x
     unused_is m x is sealed unsealed =
         sym (laws.counted_counts m) ∙ ap (c.counted m) (sym (all_silent (c.counts m) sealed unsealed)) ∙ is

@@ -1,4 +1,4 @@
--- Ends that negotiate, as the examples have them.
+-- Negotiating ends, as in the examples.
 use Rattle.std.proofs.Common.{◌≡◌, ◌↔◌, ◌<◌, ◌≤◌, ◌==◌, inl, inr, ℕ, ◌++◌, Bool, true, false, IsTrue, List, [], ◌∷◌, length, codes, decimal}
 use Rattle.std.proofs.Common.{Option, None, Some, Ok, refl, sym, ap, subst, ◌∙◌, arith, option_map, if◌then◌else◌, append_assoc}
 use Rattle.std.proofs.Common.{replicate, slice_index}

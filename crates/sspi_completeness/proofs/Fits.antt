@@ -1,4 +1,4 @@
--- What messages of an exchange fit, and the proofs of the key in them.
+-- Which messages of an exchange fit, and the proofs of the key in them.
 use Rattle.std.proofs.Common.{◌≡◌, ℕ, zero, suc, ◌+◌, ◌/◌, ◌^◌, ◌≤◌, ◌<◌, Bool, true, false, List, ◌++◌, length, Option, None, Some}
 use Rattle.std.proofs.Common.{IfSome, refl, ap, arith, nat_lt, if◌then◌else◌, inl, inr}
 use Rattle.std.proofs.lemmas.Bool.{cases_lt, lt-ltb, le-leb}
@@ -44,7 +44,7 @@ same_at end true false x y key e same = absurd cc
 same_at end false true x y key e same = absurd cc
 same_at end false false x y key e same = ap (λ (n : List ℕ). sha256 (magic end ++ n ++ key)) (same refl)
 
--- ends of one kind of version owe one proof
+-- ends with versions of one kind owe the same proof
 pub same_proof : (end : EndpointType) (v w : ℕ) (x y key : List ℕ) → nat_lt v 5 ≡ nat_lt w 5 → (nat_lt v 5 ≡ false → x ≡ y) →
     prescribed end v x key ≡ prescribed end w y key
 unfolding prescribed

@@ -35,7 +35,7 @@ none_of f [] is = refl
 none_of f (x ∷ xs) is = (let zero : length (map f (x ∷ xs)) ≡ 0 = eqb-true _ _ is in absurd (omega arith))
 
 module _ {M : Type 0} (c : Meaning Origin M) (mic : List ℕ) (v v2 v3 : Values) (last : Step) (m m2 : M) where
-  -- what the step answers where there was memory
+  -- what the step answers if there was memory
   Answers : Answer → Type 0
   Answers (Done step) = VerifiesLast c m v.known v.list mic
   Answers (Ask request) = ⊥

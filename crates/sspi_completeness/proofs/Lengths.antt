@@ -98,7 +98,7 @@ pub less_kept : (b : Bool) (bytes : Option (List ℕ)) → size_of (if b then by
 less_kept true bytes = omega arith
 less_kept false bytes = omega arith
 
--- a message without an error code fits where its fields are short enough together
+-- a message without an error code fits if its fields are short enough together
 pub message_fits : (r : TsRequest) → r.error_code ≡ None →
     size_of r.nego_tokens + size_of r.auth_info + size_of r.pub_key_auth + size_of r.client_nonce ≤ 1_048_000 → fits r ≡ true
 message_fits r none short =

@@ -328,7 +328,7 @@ module _ {C D P : Type 0} (c : Meaning ContextSetting C) (laws : IsContext c) (k
       (sym token)
       (it.takes n y less at.is.same at.has.0 at.has.1)
 
-  -- a token that may be left out where it is empty
+  -- a token that may be left out if it is empty
   takes_some : (y : SView) (step : Step) (z : C) (handle : _) (token : List ℕ) → Takes c laws p y (Some token) step z handle →
       Takes c laws p y (unless_empty token) step z handle
   takes_some y step z handle [] takes = record { done = takes.done; never = takes.never }
@@ -481,7 +481,7 @@ module _ {C D P : Type 0} (c : Meaning ContextSetting C) (laws : IsContext c) (k
   none_before : 0 + j ≡ j
   none_before = omega arith
 
-  -- an authentication that is evaluated tells all that the ends make of their turns
+  -- an evaluated authentication determines all that the ends make of their turns
   pub known : IsKnown c k p a b kdc_first (suc (suc j)) identity
   known = record {
     Round = Round j;

@@ -41,7 +41,7 @@ pub record AreAlike {C P : Type 0} (a : ClientView C) (b : ServerView C P) (text
   pub text_short : length text ≤ 294972
   pub delegates : delegated_identity text ≡ Ok identity
 
--- the server's last step: where its authentication ends early, the one before the client's proof comes
+-- the server's last step; if its authentication ends early, the one before the client's proof comes
 abbrev pub last_step : Bool → ℕ → ℕ
 last_step true j = j
 last_step false j = suc j

@@ -39,7 +39,7 @@ use Rattle.sspi_completeness.proofs.NeverRefusing.{sum_never, taking_never, seen
 abbrev IsOther : ErrorKind → Type 0
 IsOther kind = kind ≢ DowngradeDetected
 
--- a step is refused so only where its mechanism refuses so
+-- a step is refused so only if its mechanism refuses so
 abbrev Any : Values → Type 0
 Any v = Unit {0}
 

@@ -1,4 +1,4 @@
--- What the contexts of plain NTLM make of steps, names and messages, counts of these apart.
+-- What the contexts of plain NTLM make of steps, names and messages, apart from their counts.
 use Rattle.std.proofs.Common.{◌≡◌, ℕ, ◌<◌, ◌-◌, ◌^◌, List, Option, None, Some, Ok, refl, ap, sym, ◌∙◌, subst}
 use Rattle.sspi_types.specs.declared.credential_use.CredentialUse.{CredentialUse}
 use Rattle.sspi_types.specs.declared.credential_use.CredentialUse.TheVariants.{Inbound, Outbound}

@@ -90,7 +90,7 @@ acquires_buffers cr i handle is h =
     let e : acquired Outbound (Some (credentials.AuthIdentity i)) ≡ Ok handle = subst
     (λ (x : Credentials). acquired Outbound (Some x) ≡ Ok handle) is h in cc
 
--- an object that waits for the identity of that claim, beside a proxy that tells its entries
+-- an object that waits for the identity of that claim, with a proxy that exposes its entries
 module _ (tells : ProxyTells) (entries : List AuthIdentity) (i : AuthIdentity) (challenge : List ℕ) (told : tells.entries ≡ Some entries)
     (has : HasEntry entries i) (y : NtlmState) (stage : y.stage ≡ Claimed (claim_by i challenge)) (sent : y.challenge ≡ challenge) where
   pub name_is : (name : Name) → name_at y.stage ≡ Some name → name ≡ i.username

@@ -1,4 +1,4 @@
--- What the steps of plain NTLM come to, where each end is given the other's message.
+-- What the steps of plain NTLM come to, when each end is given the other's message.
 use Rattle.std.proofs.Common.{◌≡◌, ℕ, ◌+◌, ◌≤◌, ◌<◌, ◌^◌, List, [], ◌∷◌, length, map, filter, find, Bool, true, false, Option, None}
 use Rattle.std.proofs.Common.{Some, Ok, option_map, refl, ap, sym, ◌∙◌, arith}
 use Rattle.std.proofs.lemmas.Bool.{le-ltb}
@@ -78,7 +78,7 @@ claimed n proof is short long =
 
 -- ---- the identity that the server finds
 
--- what passes a test begins with the first that does
+-- the elements that pass a test begin with the first that does
 pub first_found : {A : Type 0} (test : A → Bool) (xs : List A) (x : A) → find test xs ≡ Some x → (rest : List A) ×
     (filter test xs ≡ x ∷ rest)
 first_found test [] x found = absurd cc
@@ -96,7 +96,7 @@ key_found : (challenge : List ℕ) (claim : Claim) (e : AuthIdentity) (rest : Li
     (key_of challenge claim.text e.password.value)
 key_found challenge claim e rest right = rw right refl
 
--- the key of the claim, where the first candidate has the client's password
+-- the key of the claim, if the first candidate has the client's password
 pub key_is : (challenge : List ℕ) (claim : Claim) (password : List ℕ) (e : AuthIdentity) (rest : List AuthIdentity) →
     claim.proof ≡ proof_of challenge claim.text password → e.password.value ≡ password →
     claimed_key challenge claim (filter has_password (map credentials.AuthIdentity (e ∷ rest))) ≡ Ok (key_of challenge claim.text password)

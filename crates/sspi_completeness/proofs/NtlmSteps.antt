@@ -152,7 +152,7 @@ module _ (config : NegotiateConfig) (i : AuthIdentity) (is : IsIdentity i) (shor
   abbrev pub args_with : List ℕ → NegTokenTarg → StepArgs
   args_with target token = client_args (handle_of i) target (Some (targ_text token))
 
-  -- its first step, where it begins with NTLM
+  -- its first step, if it begins with NTLM
   pub begins : (kerberos : Bool) (target own : List ℕ) →
       runs (client_at states.Initial (v_of protocols.Ntlm (record { ntlm = true; kerberos = kerberos }) states.Initial [] true)
       (first_args target)) (hands.Ntlm (ntlm_with own)) ≡
@@ -304,7 +304,7 @@ module _ (config : NegotiateConfig) (entries : List AuthIdentity) where
     some_found : (e : AuthIdentity) (rest : List AuthIdentity) → (length (map credentials.AuthIdentity (e ∷ rest)) == 0) ≡ false
     some_found e rest = ne_eqb _ 0 (λ none. omega (arith, none))
 
-    -- the client's MIC is verified, and the own one is made
+    -- the client's MIC is verified, and the server's own is made
     closes : runs (verifies (mic_of (key i challenge) FromClient 0 kept_text) working (completes_signed working []))
         (keyed_by i challenge 0 0) ≡
         Ends (server_values protocols.Ntlm states.Ok kept_list)
@@ -385,7 +385,7 @@ module _ (config : NegotiateConfig) (entries : List AuthIdentity) (i : AuthIdent
         (challenged i (challenge_of o)))
         (targ_spelled (challenge_token (Some ntlm_ssp) (challenge_of o)) (some_challenge_little (challenge_of o) eight))
 
-    -- it picks NTLM of what a client offers that began with Kerberos, and drops the token
+    -- it picks NTLM from the offer of a client that began with Kerberos, and drops the token
     pub server_changes :
         pick (offer protocols.Kerberos true) (packages_in config) (hand_of (made_of o)) ≡ Some
         (record { choice = choices.Ntlm; index = 2 }) →

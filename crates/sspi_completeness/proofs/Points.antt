@@ -1,4 +1,4 @@
--- Where the ends of an undisturbed exchange stand in each round, once it is known what they make of their turns.
+-- The state of an undisturbed exchange's ends in each round, from what they make of their turns.
 use Rattle.std.proofs.Common.{◌≡◌, ◌-◌, ℕ, suc, ◌≤◌, ◌<◌, ◌^◌, Bool, true, false, List, [], ◌∷◌, Some, refl, ap, sym, ◌∙◌}
 use Rattle.std.proofs.Common.{subst, arith, length}
 use Rattle.sspi_names.specs.declared.identity.AuthIdentity.{AuthIdentity}
@@ -71,9 +71,9 @@ module _ {C D P : Type 0} (c : Meaning ContextSetting C) (k : KdcCalls D) (p : P
   abbrev SView : Type 0
   SView = ServerView C P
 
-  -- What is known of an exchange that ends after the client's message of the number `last`, from 0 on: in each round the
-  -- client makes a message of what it is given and the server takes it; but in the last the server makes another, and in the
-  -- last it ends with this identity.
+  -- What is known of an exchange that ends after the client's message number `last`, from 0 on. In
+  -- each round the client makes a message from what it is given. In all rounds but the last the
+  -- server takes it and makes a message; in the last it ends with this identity.
   pub record IsKnown (last : ℕ) (identity : AuthIdentity) : Type 1 where
     pub Round : Type 0
     pub start : Round
@@ -233,7 +233,7 @@ module _ {C D P : Type 0} (c : Meaning ContextSetting C) (k : KdcCalls D) (p : P
         (subst (known.ClientAt (known.next i) x) (sym same_kdc) (client is)))
         server count (delivered_is base past log _ t.delivered sent n.entries n.whole n.delivered) e made proxy calm
 
-    -- ---- where the ends stand once it went on
+    -- ---- the state of the ends once it went on
 
     pub stands_on : (t : Turn) (past : List Turn) (x2 : CView) (kdc2 : D) (y2 : SView) → GoesOn t.outcome → TurnIs t past x2 kdc2 y2 →
         Stands (t ∷ past) x2 kdc2 y2

@@ -6,7 +6,7 @@ use Rattle.sspi_credssp.specs.declared.turn.Outcome.{Outcome}
 use Rattle.sspi_credssp.specs.declared.turn.Outcome.TheVariants.{Reply, Final, Finished, Refused}
 use Rattle.sspi_completeness.proofs.Ends.{Comes}
 
--- The round of a token that asks for more, with the number of those that follow it, of the client's proof, and the last.
+-- A token that asks for more, with its number and how many follow it; the client's proof; the last.
 pub data Round (j : ℕ) : Type 0 where
   Token : (n rest : ℕ) → n + rest ≡ j → Round j
   Proof : Round j

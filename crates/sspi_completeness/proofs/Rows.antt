@@ -50,7 +50,7 @@ OfKerberos ntlm choices.Ntlm picked = (ntlm ≡ true) × (picked ≡ record { ch
 OfKerberos ntlm choices.Kerberos picked = ⊥
 OfKerberos ntlm choices.MsKerberos picked = picked ≡ record { choice = choices.MsKerberos; index = 0 }
 
--- of what a client offers that begins with this mechanism, and may use NTLM or not
+-- from the offer of a client that begins with this mechanism, and may use NTLM or not
 abbrev pub IsPick : Protocol → Bool → Picked → Type 0
 IsPick Ntlm ntlm picked = (ntlm ≡ true) × (picked ≡ record { choice = choices.Ntlm; index = 0 })
 IsPick Kerberos ntlm picked = OfKerberos ntlm picked.choice picked

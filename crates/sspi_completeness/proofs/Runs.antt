@@ -1,4 +1,4 @@
--- What comes of a plan while the plain mechanisms follow it, evaluated.
+-- The result of a plan when the plain mechanisms follow it, evaluated.
 use Rattle.std.proofs.Common.{◌≡◌, ◌≢◌, ◌==◌, ◌^◌, ◌-◌, ℕ, Bool, true, false, filter, take, List, Option, None, Some, Result, Ok, Err}
 use Rattle.std.proofs.Common.{refl, ap, sym, ◌∙◌, subst, if◌then◌else◌}
 use Rattle.std.specs.Result.{result_err}
@@ -160,9 +160,9 @@ runs (Verifies mic text v p) m =
     unless_refused (verify_refusal (protection_of m).key (peer_direction m) (protection_of m).verifications mic text)
     (runs p (verified_once m))
 
--- ---- it is what comes of the plan
+-- ---- it is the result of the plan
 
--- out of memory may come in place of each answer
+-- out of memory may come in place of any answer
 abbrev pub IsDecided : Answer → Type 0
 IsDecided r = (error : Error) → r ≡ Refused error → error.error_type ≢ InsufficientMemory
 

@@ -54,7 +54,7 @@ module _ {C P : Type 0} (c : Meaning ContextSetting C) (laws : IsContext c) (p :
   abbrev View : Type 0
   View = ServerView C P
 
-  -- what a turn is given that answers the client's proof: that proof, which the peer's context sealed as its first message
+  -- input of a turn that answers the client's proof: that proof, its peer's first sealed message
   pub record ProofGiven (b : View) (w : ℕ) (d : TsRequest) (z : C) (own peers : ℕ → List ℕ → List ℕ) : Type 0 where
     pub maker : IsMaker c z own
     pub taker : IsTaker c z peers
@@ -187,7 +187,7 @@ module _ {C P : Type 0} (c : Meaning ContextSetting C) (laws : IsContext c) (p :
   module _ (b old : View) (w : ℕ) (d : TsRequest) (step : Step) (y z : C) (handle : Option CredentialsBuffers)
       (given : NegoGiven c laws p b old w d step y handle)
       (peer : IsPeer c laws (p.told old.proxy) y z) (over : IsOver (Some step.status)) where
-    -- a refusal is past the peer's name and the context's end
+    -- a refusal comes after the peer's name and the context's end
     over_after : (mid : View) (kind : ErrorKind) → p.faults mid.proxy ≡ p.faults old.proxy → p.faults old.proxy < 2 ^ 64 - 1 →
         OverCause c p step.status old d mid kind →
         Holds c mid.context z × (mid.output ≡ step.output) × AfterCause c d.pub_key_auth d.client_nonce mid kind
@@ -207,7 +207,7 @@ module _ {C P : Type 0} (c : Meaning ContextSetting C) (laws : IsContext c) (p :
           after,
         )
 
-    -- behind a reply its context is left so, and the version stays pinned
+    -- after a reply its context is left so, and the version stays pinned
     replied : (mid : View) (r : TsRequest) → ServerMakes c p old d (outcome.Reply r) mid →
         Holds c mid.context z × (mid.output ≡ step.output) × (mid.noted ≡ Some w)
     replied mid r makes =

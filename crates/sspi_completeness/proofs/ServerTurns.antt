@@ -1,5 +1,5 @@
--- The turns of a server's authentication in an undisturbed exchange that send a token: each but the last asks for more, and
--- the last one asks for the client's proof where that did not come yet.
+-- The turns of a server's authentication in an undisturbed exchange that send a token. Each but the
+-- last asks for more, and the last asks for the client's proof if that has not come yet.
 use Rattle.std.proofs.Common.{◌≡◌, ◌<◌, ◌-◌, ◌^◌, ◌≢◌, ℕ, true, false, Option, None, Some, IsSome, refl, ap, sym, ◌∙◌, subst}
 use Rattle.sspi_types.specs.declared.error_kind.ErrorKind.{ErrorKind}
 use Rattle.sspi_types.specs.declared.error_kind.ErrorKind.TheVariants.{MessageAltered, DowngradeDetected, InsufficientMemory}
@@ -53,7 +53,7 @@ module _ {C P : Type 0} (c : Meaning ContextSetting C) (laws : IsContext c) (p :
     unsealed_is = unsealed_is;
   }
 
-  -- a refusal is past what a turn looks at first
+  -- a refusal comes after what a turn checks first
   pub cause_past : (b old mid : View) (w : ℕ) (d : TsRequest) (state : CredSspState) (sealed unsealed : ℕ) (kind : ErrorKind) →
       ServerIs c b old w state sealed unsealed → d.version ≡ w →
       (old.context ≡ None → MakeCause c p b.settings.mode old.proxy mid.proxy kind → ⊥) →

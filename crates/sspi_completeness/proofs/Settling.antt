@@ -39,8 +39,8 @@ use Rattle.sspi_completeness.proofs.Points.{IsKnown, IsCalmAt, wrong_end, server
 use Rattle.sspi_completeness.proofs.Points.{client_turn, server_turn, server_end as ends_here, stands, stands_on, newest_turn}
 use Rattle.sspi_credssp.specs.Turn.{message_of}
 
--- what an undisturbed exchange is settled by: Ok after this many messages of the client, or it may not make as many, or
--- there was no memory
+-- how an undisturbed exchange is settled: Ok after this many messages of the client, or it may not
+-- make that many, or there was no memory
 abbrev pub Settled : ℕ → ℕ → AuthIdentity → Result Delegation DelegateError → Type 0
 Settled count limit identity (Ok delegation) = (delegation.rounds ≡ count) × (delegation.credentials ≡ identity)
 Settled count limit identity (Err errors.TurnsSpent) = limit < count
@@ -57,7 +57,7 @@ carry_never : (log : List Carried) (message : Option TsRequest) → CarryFails [
 carry_never log None h = h
 carry_never log (Some r) h = cc
 
--- ---- what is so over an undisturbed link
+-- ---- what holds over an undisturbed link
 
 abbrev NoLinkFault : Result Delegation DelegateError → Type 0
 NoLinkFault (Ok delegation) = Unit {0}
@@ -92,7 +92,7 @@ ends_calm base log limit start now (Err errors.LinkFault) turns calm ends = omeg
 ends_calm base log limit start now (Err errors.TurnsSpent) turns calm ends = tt
 ends_calm base log limit start now (Err errors.InsufficientMemory) turns calm ends = tt
 
--- a log without edits is whole, and the other way round
+-- a log without edits is whole, and conversely
 unedited_whole : (count : ℕ) (log : List Carried) → FollowsEdits [] log → AreWholePast count log
 unedited_whole count [] follows = tt
 unedited_whole count (e ∷ log) follows = ((λ past. follows.0), unedited_whole count log follows.1)
@@ -101,7 +101,7 @@ pub whole_unedited : (log : List Carried) → AreWholePast 0 log → FollowsEdit
 whole_unedited [] whole = tt
 whole_unedited (e ∷ log) whole = (whole.0 (omega arith), whole_unedited log whole.1)
 
--- the log of a link without edits follows none
+-- the log of a link without edits follows no edits
 unedited_log : (edits edits2 : Option (List Edit)) (log log2 : List Carried) → edits ≡ Some [] → AreWholePast 0 log →
     StaysTold edits edits2 log log2 → FollowsEdits [] log2
 unedited_log edits edits2 log log2 none whole stays =

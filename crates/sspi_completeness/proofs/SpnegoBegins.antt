@@ -48,7 +48,7 @@ hand_is (InPlaceOfNtlm url kdcs computer) = refl
 pub first_is : (origin : Origin) (o : Result Origin ErrorKind) (m : M) → o ≡ Ok origin → IsFirst h o m → m ≡ made_of origin
 first_is origin o m is first = made_is origin m (subst (λ (x : Result Origin ErrorKind). IsFirst h x m) is first)
 
--- Kerberos takes the place of an NTLM where a KDC serves the domain of the client's name
+-- Kerberos takes the place of NTLM if a KDC serves the domain of the client's name
 abbrev pub taken : Option (List ℕ) → NegotiateConfig → Origin → Origin
 taken None config origin = origin
 taken (Some url) config origin = InPlaceOfNtlm (Some url) config.kdcs config.client_computer_name
@@ -89,7 +89,7 @@ never_unserved (hands.Kerberos m) kind refuses = cc (refuses)
 
 -- ---- what a client begins with
 
--- where the target is named by its IP address, and NTLM may be used, NTLM is selected and Kerberos may not be used
+-- a target named by its IP address, if NTLM may be used, selects NTLM and rules out Kerberos
 abbrev pub hand_first : Bool → Protocol → Protocol
 hand_first true protocol = Ntlm
 hand_first false protocol = protocol
@@ -231,7 +231,7 @@ begins_allowed ip config o url first begins =
 
 -- ---- what a server has selected
 
--- once it picked NTLM, the one that it had or one in the place of a Kerberos
+-- once it picked NTLM: the one that it had, or one in place of Kerberos
 pub ntlm_taken : (o : Origin) (computer : List ℕ) (rest : Plan) →
     runs (in_ntlm (hand_of (made_of o)) computer rest) (made_of o) ≡ runs rest (hands.Ntlm (ntlm_with (challenge_of o)))
 ntlm_taken (Configured (configs.Ntlm config)) computer rest = refl
@@ -323,7 +323,7 @@ module _ (config : NegotiateConfig) (i : AuthIdentity) (is : IsIdentity i) where
       at true = refl
       at false = refl
 
-  -- nor where Kerberos is selected and stays there
+  -- nor if Kerberos is selected and stays so
   pub led_kerberos : (ip : Bool) (packages : PackageListConfig) (state : NegotiateState) (list : List (List ℕ)) (need : Bool)
       (args : StepArgs) (m : M) → is_closed Client state Idle ≡ false → args.handle ≡ handle_of i → (ip && packages.ntlm) ≡ false →
       runs (spnego_client ip (client_values Kerberos packages state list need) args) m

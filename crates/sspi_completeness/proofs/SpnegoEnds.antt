@@ -1,4 +1,4 @@
--- What the contexts of negotiations make of steps and messages, counts of these apart, whichever mechanism is selected.
+-- What the contexts of negotiations make of steps and messages, apart from their counts.
 use Rattle.std.proofs.Common.{◌≡◌, ◌≢◌, ◌↔◌, ℕ, ◌<◌, ◌-◌, ◌^◌, Bool, IsTrue, List, [], ◌∷◌, Option, None, Some, Result, Ok, Err}
 use Rattle.std.proofs.Common.{refl, ap, sym, ◌∙◌, subst, arith}
 use Rattle.sspi_types.specs.declared.credential_use.CredentialUse.TheVariants.{Inbound, Outbound}
@@ -228,7 +228,7 @@ server_at s args r (contexts.Negotiate s2) decided accepts = moved (spnego_serve
 server_at s args r (contexts.Ntlm y) decided accepts = absurd accepts
 server_at s args r (contexts.Kerberos y) decided accepts = absurd accepts
 
--- ---- a client's step, with the replies of a KDC that tells them
+-- ---- a client's step, with the replies of a KDC that exposes them
 
 -- A step by this plan comes to a step, values and mechanism: at once; or after one reply, which the KDC has for its call of that
 -- number.
@@ -254,7 +254,7 @@ as_used (Kerberos y) x rest =
     )
 
 module _ {D : Type 0} (told : D → Option (ℕ → NetworkRequest → Reply)) (calls faults : D → ℕ) where
-  -- the KDC tells what it told, and this is the number of its next call
+  -- the KDC exposes the same replies, and this is the number of its next call
   pub record KdcIs (first : D) (call : ℕ) (kdc : D) : Type 0 where
     pub same : told kdc ≡ told first
     pub called : calls kdc ≡ call
@@ -295,7 +295,7 @@ module _ {D : Type 0} (told : D → Option (ℕ → NetworkRequest → Reply)) (
     abbrev IsOver : ℕ → D → Answer → C → Type 0
     IsOver n kdc2 r z = (r ≡ Done step) × (cleared c z ≡ holding v2 m2) × KdcIs first n kdc2
 
-    -- one reply on
+    -- after one reply
     resumes_so : (log : List Asked) (kdc1 kdc2 : D) (question : NetworkRequest) (reply : Reply) (r : Answer) (z z2 : C) → IsDecided r →
         HasCome log kdc1 (Ask question) z → HasReplied told calls faults kdc1 question reply kdc2 → c.resumes z reply r z2 →
         IsOver call2 kdc2 r z2

@@ -28,7 +28,7 @@ use Rattle.sspi_completeness.proofs.Lengths.{size_of}
 
 -- ---- the list of mechanisms
 
--- what a client offers that begins with this mechanism, and may use NTLM or not
+-- the offer of a client that begins with this mechanism, and may use NTLM or not
 abbrev pub offer : Protocol → Bool → List (List ℕ)
 offer protocol ntlm = offered protocol (record { ntlm = ntlm; kerberos = false })
 

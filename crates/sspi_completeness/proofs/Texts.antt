@@ -1,4 +1,4 @@
--- The text that a client delegates of short credentials, and the identity that is read of it.
+-- The text that a client delegates for short credentials, and the identity that is read from it.
 use Rattle.std.proofs.Common.{◌≡◌, ℕ, ◌+◌, ◌≤◌, List, [], length, Some, Ok, refl, ap, ◌∙◌, arith}
 use Rattle.std.proofs.lemmas.Str.{IsUtf8-nil, chars-nil}
 use Rattle.sspi_names.specs.declared.credentials.Credentials.TheVariants as credentials

@@ -151,7 +151,7 @@ module _ {K P : Type 0} (k : Meaning Setting K) (p : ProxyMeaning P) where
       (exchange_alone u.acts.checked u.acts.proved has))
   three_of_server first now (t ∷ u ∷ v ∷ past) ntlm fresh others has history = omega arith
 
--- ---- as many turns of the client
+-- ---- the number of the client's turns
 
 abbrev ahead : End → ℕ
 ahead Client = 0

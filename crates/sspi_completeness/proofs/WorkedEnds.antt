@@ -1,4 +1,4 @@
--- Ends made as an example has them match, and come to its answer.
+-- Ends made as in an example match, and come to its answer.
 use Rattle.std.proofs.Common.{◌≡◌, ℕ, List, [], ◌∷◌, length, Option, None, Some, Result, Ok, Err, refl, ap, sym, ◌∙◌, subst}
 use Rattle.std.specs.Prelude.{IfOk}
 use Rattle.std.proofs.Common.{arith}
@@ -106,7 +106,7 @@ module _ {C : Type 0} (told : Option (ℕ → NetworkRequest → Reply)) (call m
       (subst (λ (d : CredSspMode). AnswersIn (messages_in matched) limit (delegated_as d x.identity) answer) client_is.delegation
       (answers matched))
 
--- what so made ends, which were run over a link without edits, leave
+-- what such ends leave when run over a link without edits
 pub worked_out : (x : Example) (messages limit : ℕ) (client : ClientView Plain) (server : ServerView Plain TableView) (kdc : PlainKdcState) →
     IsClientOf x client → IsServerOf x server → Matches (kdc_told kdc) kdc.asked messages x → (link : MemoryLinkView) (edits : List Edit) →
     link ≡ record { log = []; edits = edits; faults = 0; most = None } → edits ≡ [] →
@@ -134,7 +134,7 @@ worked_out x messages limit client server kdc client_is server_is matches link e
       answers = answered told kdc.asked messages x client server client_is server_is matches limit answer (λ m. answers m calm);
     }
 
--- what holds of each value holds of that of a result
+-- what holds of every value holds of a result's value
 pub of_each : {A E : Type 0} (P : A → Type 0) (made : Result A E) → ((x : A) → P x) → IfOk made P
 of_each P (Ok x) all = all x
 of_each P (Err error) all = tt

@@ -1,4 +1,4 @@
--- To what ends that match come, and the examples.
+-- What matching ends come to, and the examples.
 use Rattle.std.specs.Prelude.{ℕ, ◌<◌, ◌≤◌, List, codes, Result}
 use Rattle.sspi_names.specs.declared.identity.AuthIdentity.{AuthIdentity}
 use Rattle.sspi_names.specs.Name.{Name, down_level, principal}
@@ -6,8 +6,8 @@ use Rattle.sspi_delegate.specs.declared.answer.Delegation.{Delegation}
 use Rattle.sspi_delegate.specs.declared.answer.DelegateError.{DelegateError}
 use Rattle.sspi_completeness.specs.Matching.{ComesToOkIn, IsCutShort}
 
--- Ok after this many messages of the client, with this identity, where it may make as many, and
--- else the turns are spent; or there was no memory.
+-- Ok after this many messages of the client, with this identity, if it may make that many, else the
+-- turns are spent; or there was no memory.
 pub record AnswersIn (messages limit : ℕ) (identity : AuthIdentity)
     (answer : Result Delegation DelegateError) : Type 0 where
   pub comes : messages ≤ limit → ComesToOkIn messages identity answer

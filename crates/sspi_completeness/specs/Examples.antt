@@ -1,4 +1,4 @@
--- Ends that negotiate, as the examples by hand have them.
+-- Negotiating ends, as in the examples by hand.
 use Rattle.std.specs.Prelude.{ℕ, List, [], ◌∷◌, codes, replicate, Option, None, Some}
 use Rattle.sspi_names.specs.declared.identity.AuthIdentity.{AuthIdentity}
 use Rattle.sspi_names.specs.declared.network.NetworkRequest.{NetworkRequest}
@@ -9,7 +9,7 @@ use Rattle.sspi_negotiate.specs.declared.negotiate_config.NegotiateConfig.{Negot
 use Rattle.sspi_negotiate.specs.declared.protocol_config.ProtocolConfig.{ProtocolConfig}
 use Rattle.sspi_negotiate.specs.declared.protocol_config.ProtocolConfig.TheVariants as configs
 
--- a target that is named by no IP address
+-- a target that is not named by an IP address
 abbrev pub example_target : List ℕ
 example_target = codes "TERMSRV/host.example.com"
 
@@ -42,6 +42,6 @@ example_ticket ticket computer =
     (record { kdc_url = None; kdcs = []; client_computer_name = computer })
     (record { ticket = Some ticket })) computer
 
--- a plain KDC that knows the client alone, and answers as it usually does
+-- a plain KDC that knows only the client, and answers as usual
 abbrev pub example_kdc : AuthIdentity → Option (ℕ → NetworkRequest → Reply)
 example_kdc identity = Some (told_by (inner_of identity.username ∷ []) [])

@@ -1,4 +1,4 @@
--- What a server answers on the MIC that its negotiation waits for, and why it refuses one (RFC
+-- What a server answers to the MIC that its negotiation waits for, and why it refuses one (RFC
 -- 4178, section 5).
 use Rattle.std.specs.Prelude.{◌≡◌, ◌≢◌, ℕ, List, [], Option, Some, None, map, option_and_then}
 use Rattle.sspi_types.specs.declared.error_kind.ErrorKind.{ErrorKind}
@@ -25,8 +25,8 @@ mic_in input = option_and_then (λ token. token.mech_list_mic) (targ_of input)
 abbrev pub found_by : Name → List AuthIdentity → List Credentials
 found_by name known = map credentials.AuthIdentity (named name known)
 
--- c: what the selected mechanism means; m: as it is before the step; known: the identities that the
--- server knows; list: the list of mechanisms as it is kept
+-- c: the meaning of the selected mechanism; m: its state before the step; known: the identities
+-- that the server knows; list: the list of mechanisms as it is kept
 module _ {M : Type 0} (c : Meaning Origin M) (m : M) (known : List AuthIdentity)
     (list : List (List ℕ)) (mic : List ℕ) where
   -- the mechanism was given the identities of its peer's name, and found the MIC to be that of the
@@ -48,7 +48,7 @@ module _ {M : Type 0} (c : Meaning Origin M) (m : M) (known : List AuthIdentity)
     -- the server knows nobody of that name
     unknown : (name : Name) → c.names m ≡ Some name → named name known ≡ [] → kind ≡ NoCredentials →
         RefusesLast kind
-    -- the mechanism takes none of those that it knows
+    -- the mechanism takes none of those that the server knows
     unidentified : (name : Name) → c.names m ≡ Some name →
         c.refuses m (ToIdentify (found_by name known)) kind → RefusesLast kind
     -- the list has no encoding within the limit
@@ -58,7 +58,7 @@ module _ {M : Type 0} (c : Meaning Origin M) (m : M) (known : List AuthIdentity)
         c.identifies m (found_by name known) identified → spelled_list list ≡ Some text →
         c.refuses identified (ToVerify mic text) kind → RefusesLast kind
 
-  -- the step is made by a MIC that verified, or refused for one of these reasons; or there was no
+  -- the step is made on a MIC that verified, or refused for one of these reasons; or there was no
   -- memory
   abbrev pub AnswersLast : Answer → Type 0
   AnswersLast (Done step) = VerifiesLast

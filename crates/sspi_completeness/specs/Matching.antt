@@ -1,5 +1,5 @@
 -- Two ends that match, with plain NTLM or a negotiation, over a link that disturbs nothing, and
--- what comes of their exchange.
+-- what their exchange comes to.
 use Rattle.std.specs.Prelude.{◌≡◌, ℕ, ◌-◌, ◌^◌, ◌<◌, ◌≤◌, List, [], ◌∷◌, length, Option, Some}
 use Rattle.std.specs.Prelude.{Result, Ok, Err, nat_lt}
 use Rattle.sspi_names.specs.declared.credentials.Credentials.TheVariants as credentials
@@ -28,7 +28,7 @@ abbrev pub IsNtlmServer : ServerMode → Type 0
 IsNtlmServer (server_mode.Ntlm config) = Unit {0}
 IsNtlmServer (server_mode.Negotiate config) = ⊥
 
--- the first entry of the identity's name, but for the case of ASCII letters, has its password
+-- the first entry with the identity's name, ignoring the case of ASCII letters, has its password
 pub record HasEntry (entries : List AuthIdentity) (identity : AuthIdentity) : Type 0 where
   pub entry : AuthIdentity
   pub found : entry_of entries identity.username ≡ Some entry
@@ -69,10 +69,10 @@ messages_of told call target identity (client_mode.Ntlm config) (server_mode.Neg
 messages_of told call target identity (client_mode.Negotiate config) (server_mode.Ntlm config2)
     modes = absurd modes
 
--- Both come to one plain mechanism, with one key and one kind of proof, and each takes the other's
--- version; the client has an identity whose password the server's proxy tells. `told` and `call`
--- are what the client's KDC tells of its replies, and the number of its next call. The last fields
--- say what is so of every client and server that is made.
+-- Both come to one plain mechanism, with one key and one kind of proof, and each accepts the
+-- other's version. The client has an identity whose password the server's proxy gives. `told` and
+-- `call` are the replies that the client's KDC exposes, and the number of its next call. The last
+-- fields hold of every client and server that is made.
 pub record AreMatching {C D P : Type 0} (p : ProxyMeaning P)
     (told : Option (ℕ → NetworkRequest → Reply)) (call : ℕ)
     (client : ClientView C) (server : ServerView D P) : Type 0 where
@@ -103,32 +103,32 @@ messages_in {C = C} {D = D} {P = P} {p = p} {told = told} {call = call} {client 
     messages_of told call client.settings.target matching.identity client.settings.mode
     server.settings.mode matching.modes
 
--- a count of faults that did not rise, and that does not stand at its last value
+-- a count of faults that did not rise, and that is not at its maximum
 pub record IsCalm (before now : ℕ) : Type 0 where
   pub same : now ≡ before
   pub counted : before < 2 ^ 64 - 1
 
--- no look-up failed: the proxy tells which calls fail, and there are none; or its count of faults
+-- no look-up failed: the proxy exposes which calls fail, and there are none; or its count of faults
 -- shows it
 pub data NoneFailed (failing : Option (List ℕ)) (before now : ℕ) : Type 0 where
   none_told : failing ≡ Some [] → before < 2 ^ 64 - 1 → NoneFailed failing before now
   none_counted : IsCalm before now → NoneFailed failing before now
 
--- each entry of a log, but the oldest `count`, delivers what was sent: a beginning of it, and the
--- whole where the delivery has ended
+-- each entry of a log, but the oldest `count`, delivers what was sent: a prefix of it, and the
+-- whole if the delivery has ended
 abbrev pub AreWholePast : ℕ → List Carried → Type 0
 AreWholePast count [] = Unit {0}
 AreWholePast count (e ∷ log) = (count ≤ length log → Delivers (Some e.sent) e) ×
     AreWholePast count log
 
--- The link changed nothing: it tells its edits, there are none, and its log shows none; or the
--- entries that came behind those of before show it, and no call failed.
+-- The link changed nothing: it exposes its edits, there are none, and its log shows none; or the
+-- entries after the earlier ones show it, and no call failed.
 pub data IsUndisturbed (edits : Option (List Edit)) (old new : List Carried) (before now : ℕ) : Type
     0 where
   unedited : edits ≡ Some [] → AreWholePast 0 old → IsUndisturbed edits old new before now
   shown : AreWholePast (length old) new → IsCalm before now → IsUndisturbed edits old new before now
 
--- fresh ends, a link that changes nothing, and a proxy of which no look-up fails
+-- fresh ends, a link that changes nothing, and a proxy whose look-ups do not fail
 pub record NothingDisturbs {C P L D : Type 0} (around : Around P L D)
     (old new : Parties C P L D) : Type 0 where
   pub fresh : IsFresh old.client old.server
@@ -144,7 +144,7 @@ ComesToOkIn messages identity (Ok delegation) = (delegation.rounds ≡ messages)
 ComesToOkIn messages identity (Err errors.InsufficientMemory) = Unit {0}
 ComesToOkIn messages identity (Err error) = ⊥
 
--- the client may not make as many messages; or there was no memory
+-- the client may not make that many messages; or there was no memory
 abbrev pub IsCutShort : Result Delegation DelegateError → Type 0
 IsCutShort (Ok delegation) = ⊥
 IsCutShort (Err errors.TurnsSpent) = Unit {0}

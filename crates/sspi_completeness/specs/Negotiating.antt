@@ -1,5 +1,5 @@
--- Two ends that negotiate (RFC 4178; MS-SPNG 3.1.5), each by a mechanism of its own, and what they
--- need to come to their end.
+-- Two ends that negotiate (RFC 4178; MS-SPNG 3.1.5), each with a mechanism of its own, and what
+-- they need to complete.
 use Rattle.std.specs.Prelude.{◌≡◌, ◌↔◌, ◌&&◌, ◌||◌, ℕ, Bool, false, IsTrue, List, length, replicate}
 use Rattle.std.specs.Prelude.{is_some}
 use Rattle.std.specs.Prelude.{Option, None, Some, Ok, if◌then◌else◌}
@@ -37,9 +37,9 @@ protocol_of (Configured (configs.Kerberos config)) = Kerberos
 protocol_of (Configured (configs.KerberosServer config server)) = Kerberos
 protocol_of (InPlaceOfNtlm url kdcs computer) = Kerberos
 
--- What a client begins with, by the mechanism that is selected when it is made and the URL of a KDC
--- for the domain of its name: NTLM, where its target is named by its IP address and NTLM may be
--- used; else Kerberos, where it is selected, or may be used and there is such a KDC.
+-- What a client begins with, by its initially selected mechanism and the URL of a KDC for the
+-- domain of its name. It is NTLM if the target is named by its IP address and NTLM may be used;
+-- else Kerberos, if it is selected, or may be used and there is such a KDC.
 abbrev pub begins_with : Bool → PackageListConfig → Protocol → Option (List ℕ) → Protocol
 begins_with ip packages first url =
     if ip && packages.ntlm then Ntlm
@@ -55,7 +55,7 @@ kdc_url config (Configured (configs.KerberosServer kerberos server)) name =
     url_by kerberos.kdc_url kerberos.kdcs name
 kdc_url config (InPlaceOfNtlm url kdcs computer) name = url_by url kdcs name
 
--- the challenge that a server's NTLM sends: eight zeros, where it takes the place of a Kerberos
+-- the challenge that a server's NTLM sends: eight zeros, if it takes the place of Kerberos
 abbrev pub challenge_of : Origin → List ℕ
 challenge_of (Configured (configs.Ntlm config)) = config.challenge
 challenge_of (Configured (configs.Kerberos config)) = replicate 8 0
@@ -71,15 +71,14 @@ ticket_of (InPlaceOfNtlm url kdcs computer) = None
 
 -- ---- what they need
 
--- NTLM: the client is no guest, whose negotiation would go unprotected, and the server's challenge
--- has 8 bytes
+-- NTLM: the client is not a guest, whose negotiation would go unprotected, and the server's
+-- challenge has 8 bytes
 pub record SuitNtlm (server : Origin) (identity : AuthIdentity) : Type 0 where
   pub no_guest : is_guest_text (text_of (buffers_of identity).user) ≡ false
   pub challenge : length (challenge_of server) ≡ 8
 
--- The first step of Kerberos: the client has the URL of a KDC, which tells its replies by the
--- number of the call and the request, and which at its next call has a first key for the client's
--- name.
+-- The first step of Kerberos: the client has the URL of a KDC. The KDC exposes its replies by call
+-- number and request. At its next call it has a first key for the client's name.
 pub record HasFirstKey (told : Option (ℕ → NetworkRequest → Reply)) (call : ℕ)
     (url : Option (List ℕ)) (name : Name) : Type 0 where
   pub at : List ℕ
@@ -90,8 +89,8 @@ pub record HasFirstKey (told : Option (ℕ → NetworkRequest → Reply)) (call 
   pub key_length : length key ≡ 32
   pub reply : replies call (request_at at (as_request (inner_of name))) ≡ Answered (as_reply key)
 
--- Kerberos to its end: the server holds a ticket, for which, beside that first key, the KDC has a
--- session key at the call after.
+-- All of Kerberos: the server holds a ticket, and besides that first key the KDC has a session key
+-- for it at the following call.
 pub record HasSessionKey (told : Option (ℕ → NetworkRequest → Reply)) (call : ℕ)
     (url : Option (List ℕ)) (name : Name)
     (ticket : Option (List ℕ)) : Type 0 where
@@ -115,9 +114,9 @@ module _ (told : Option (ℕ → NetworkRequest → Reply)) (call : ℕ) where
   Needs Kerberos choices.MsKerberos url server identity =
       HasSessionKey told call url identity.username (ticket_of server)
 
-  -- Each end has a selected mechanism at first, the server picks of what the client offers, and
-  -- what they need is there. The KDC tells its replies by the number of the call, and this is the
-  -- number of its next one.
+  -- Each end has an initially selected mechanism, the server picks from what the client offers, and
+  -- they have what they need. The KDC exposes its replies by the number of the call, and `call` is
+  -- the number of the next one.
   pub record AreNegotiating (client server : NegotiateConfig) (target : List ℕ)
       (identity : AuthIdentity) : Type 0 where
     pub client_hand : Origin

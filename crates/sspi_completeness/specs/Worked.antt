@@ -1,5 +1,5 @@
--- Exchanges worked by hand: what the two ends of each are made of, that they match, and what comes
--- of them.
+-- Exchanges worked by hand: what the two ends of each are made of, that they match, and what they
+-- come to.
 use Rattle.std.specs.Prelude.{◌≡◌, ℕ, ◌^◌, ◌<◌, ◌≤◌, List, [], ◌∷◌, length, codes, replicate}
 use Rattle.std.specs.Prelude.{nat_lt, Option, None, Some}
 use Rattle.sspi_names.specs.declared.credentials.Credentials.TheVariants as credentials
@@ -28,8 +28,8 @@ use Rattle.sspi_completeness.specs.Matching.{MatchModes, messages_of, IsShort, k
 
 -- ---- what an exchange is made of
 
--- The key of the channel, whom the client authenticates and the server knows, whether the client
--- delegates its credentials, the versions, the least that both ends take, and how each end
+-- The channel's key, the client's identity, which the server knows, and whether the client
+-- delegates its credentials. Then the versions, the lowest that both ends accept, and how each end
 -- authenticates.
 pub record Example : Type 0 where
   pub key : List ℕ
@@ -53,7 +53,7 @@ pub record IsClientOf {C : Type 0} (x : Example) (client : ClientView C) : Type 
   pub target : client.settings.target ≡ example_target
   pub nonce : length client.settings.nonce ≡ 32
 
--- its server, to which nothing was delivered, and whose proxy knows the client alone
+-- its server, to which nothing was delivered, and whose proxy knows only the client
 pub record IsServerOf {C : Type 0} (x : Example) (server : ServerView C TableView) : Type 0 where
   pub fresh : IsFreshServer server
   pub public_key : server.settings.public_key ≡ x.key
@@ -67,8 +67,8 @@ pub record IsServerOf {C : Type 0} (x : Example) (server : ServerView C TableVie
   pub least : server.settings.least ≡ x.least
   pub mode : server.settings.mode ≡ x.server
 
--- The ends match, and the client makes this many messages; `told` and `call` are what its KDC
--- tells, and the number of its next call.
+-- The ends match, and the client makes this many messages; `told` and `call` are the replies that
+-- its KDC exposes, and the number of its next call.
 pub record Matches (told : Option (ℕ → NetworkRequest → Reply)) (call messages : ℕ)
     (x : Example) : Type 0 where
   pub identity_is : IsIdentity x.identity
@@ -97,7 +97,7 @@ server_ntlm = record { client_computer_name = None; challenge = replicate 8 0 }
 abbrev pub realm_table : List KdcEntry
 realm_table = record { realm = codes "EXAMPLE.COM"; url = codes "tcp://kdc" } ∷ []
 
--- a KDC that knows ann@example.com alone, and was not asked yet
+-- a KDC that knows only ann@example.com, and has not been asked yet
 abbrev pub realm_kdc : PlainKdcState
 realm_kdc = record { users = codes "ann@example.com" ∷ []; script = []; asked = 0; faults = 0 }
 
@@ -121,7 +121,7 @@ realm_kerberos = record { kdc_url = None; kdcs = realm_table; client_computer_na
 abbrev pub with_kerberos : NegotiateConfig
 with_kerberos = negotiation (configs.Kerberos realm_kerberos) None realm_table
 
--- a server with Kerberos selected and a ticket, and one that may use NTLM alone
+-- a server with Kerberos selected and a ticket, and one that may use only NTLM
 abbrev pub with_ticket : NegotiateConfig
 with_ticket =
     negotiation (configs.KerberosServer realm_kerberos
@@ -156,8 +156,7 @@ negotiated key identity version least client server = record {
   server = server_mode.Negotiate server;
 }
 
--- NTLM without a negotiation; at versions below 5; and of a client that keeps its credentials
--- a negotiation of NTLM at version 4; over the key of a channel, of 270 bytes
+-- a negotiation of NTLM at version 4, and one with a channel key of 270 bytes
 abbrev pub negotiated_at_version_4 : Example
 negotiated_at_version_4 = negotiated (1 ∷ 2 ∷ 3 ∷ []) ann 4 4 (with_ntlm client_ntlm)
     (with_ntlm server_ntlm)
@@ -167,7 +166,7 @@ negotiated_with_a_long_key =
     negotiated (replicate 270 0x3B) (ann_of_realm (codes "fourteenletter")) 6 5
     (with_ntlm client_ntlm) (with_ntlm server_ntlm)
 
--- a negotiation that the client begins with Kerberos: the server picks it, or may use NTLM alone
+-- a negotiation that the client begins with Kerberos: the server picks it, or may use only NTLM
 abbrev pub user_to_user : Example
 user_to_user = negotiated (1 ∷ 2 ∷ 3 ∷ []) (ann_of_realm (codes "pw")) 6 5 with_kerberos with_ticket
 

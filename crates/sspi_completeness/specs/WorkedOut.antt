@@ -1,5 +1,5 @@
--- What an exchange that was worked by hand leaves: both ends, its KDC, its link and its transcript,
--- and that they are those of a run.
+-- What an exchange worked by hand leaves: both ends, its KDC, its link and its transcript, and that
+-- they are those of a run.
 use Rattle.std.specs.Prelude.{ℕ, Option, Some, Result}
 use Rattle.sspi_names.specs.declared.network.NetworkRequest.{NetworkRequest}
 use Rattle.sspi_mech.specs.declared.step.Reply.{Reply}
@@ -23,27 +23,27 @@ use Rattle.sspi_completeness.specs.Answered.{AnswersIn}
 use Rattle.sspi_completeness.specs.Matching.{AreMatching, NothingDisturbs}
 use Rattle.sspi_completeness.specs.Worked.{Example, IsClientOf, IsServerOf}
 
--- what either end has as its context, and what that means
+-- the context of either end, and its meaning
 abbrev pub Plain : Type 0
 Plain = SspiContext NtlmState KerberosState
 
 abbrev pub plain_meaning : Meaning ContextSetting Plain
 plain_meaning = either 0 ntlm_meaning kerberos_meaning
 
--- what a plain KDC tells of its replies
+-- the replies that a plain KDC exposes
 abbrev pub kdc_told : PlainKdcState → Option (ℕ → NetworkRequest → Reply)
 kdc_told kdc = Some (told_by kdc.users kdc.script)
 
--- what is round both ends: a proxy with a table, a link in memory and a plain KDC
+-- what surrounds both ends: a proxy with a table, a link in memory and a plain KDC
 abbrev pub in_memory : Around TableView MemoryLinkView PlainKdcState
 in_memory =
     around_by table_meaning (λ link. link.log) (λ link. Some link.edits) (λ link. link.faults)
     kdc_told (λ kdc. kdc.asked)
     (λ kdc. kdc.faults)
 
--- Those that took part had been made as the example has them, and match, and nothing disturbed
--- them. What they left is a delegation's, whose turns and log are a run (`IsRun`); and the answer
--- is the one that was worked by hand.
+-- The participants were made as in the example, they match, and nothing disturbed them. What they
+-- left is a delegation's, whose turns and log are a run (`IsRun`). The answer is the one that was
+-- worked by hand.
 pub record WorkedOut (x : Example) (messages limit : ℕ) (answer : Result Delegation DelegateError)
     (new : Parties Plain TableView MemoryLinkView PlainKdcState) : Type 0 where
   pub old : Parties Plain TableView MemoryLinkView PlainKdcState
@@ -54,7 +54,7 @@ pub record WorkedOut (x : Example) (messages limit : ℕ) (answer : Result Deleg
   pub delegates : Delegates plain_meaning in_memory old limit answer new
   pub answers : AnswersIn messages limit (delegated_as x.delegation x.identity) answer
 
--- the same of what was handed out
+-- the same for what was returned
 abbrev pub IsWorked : Example → ℕ → ℕ → Exchanged (ClientView Plain) (ServerView Plain TableView) →
     Type 0
 IsWorked x messages limit it = WorkedOut x messages limit it.answer

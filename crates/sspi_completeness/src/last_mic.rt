@@ -1,4 +1,4 @@
-//! What a server answers on the MIC that its negotiation waits for.
+//! What a server answers to the MIC that its negotiation waits for.
 
 ghost use Rattle.std.specs.Prelude.{◌≡◌, ℕ, List, Some, Result};
 ghost use Rattle.sspi_types.specs.declared.error.Error.{Error};
@@ -15,14 +15,14 @@ ghost use Rattle.sspi_completeness.specs.LastMic.{mic_in, AnswersLast};
 
 use sspi_mech::Mechanism;
 
-/// What a server answers on the MIC that its negotiation waits for (RFC 4178, section 5), whatever
-/// its two mechanisms are. The step is made only by a MIC that the selected mechanism verified,
-/// once it was given the identities that the server knows by its peer's name.
+/// What a server answers to the MIC that its negotiation waits for (RFC 4178, section 5), for any
+/// two mechanisms. The step is made only on a MIC that the selected mechanism verified. That was
+/// first given the identities that the server knows by its peer's name.
 ///
-/// A refusal has the mechanism's own kind where that does not name its peer, takes none of the
-/// identities, or does not verify the MIC. It is `NoCredentials` where the server knows nobody of
-/// that name, and `InternalError` where the list of mechanisms is too long. `InsufficientMemory`
-/// may come in the place of any of them.
+/// A refusal has the mechanism's own kind if the mechanism does not name its peer, takes none of
+/// the identities, or does not verify the MIC. It is `NoCredentials` if the server knows nobody of
+/// that name, and `InternalError` if the list of mechanisms is too long. `InsufficientMemory` may
+/// come in place of any of them.
 pub fn last_mic_is_answered<N: Mechanism, K: Mechanism>()
     ensures { (old new : Negotiation (NegotiatedProtocol N K)) (args : AcceptArgs)
         (result : Result Step Error) (mic : List ℕ) →

@@ -1,5 +1,5 @@
-//! What holds of a context of plain NTLM or plain Kerberos, and of one that negotiates; and that
-//! ends which negotiate can match.
+//! Laws of contexts of plain NTLM or plain Kerberos, and of those that negotiate; and that
+//! negotiating ends can match.
 ghost use Rattle.std.specs.Prelude.{◌≡◌, ◌≤◌, ◌<◌, ◌^◌, ℕ, List, Option, length, false, nat_lt};
 ghost use Rattle.std.specs.Prelude.{Some};
 ghost use Rattle.sspi_names.specs.declared.identity.AuthIdentity.{AuthIdentity};
@@ -29,15 +29,15 @@ ghost use Rattle.sspi_types.specs.declared.error_kind.ErrorKind.TheVariants.{Dow
 
 use sspi_mech::Mechanism;
 
-/// A context of plain NTLM or of plain Kerberos refuses nothing as `DowngradeDetected`, nor does
-/// one over any two mechanisms that do not, also where it negotiates them: so an end of it refuses
-/// so exactly where its peer is below the least version.
+/// A context of plain NTLM or plain Kerberos refuses nothing as `DowngradeDetected`. Nor does one
+/// over any two mechanisms that do not, even if it negotiates them. So an end with such a context
+/// gives this refusal exactly if its peer is below the least version.
 pub fn contexts_refuse_no_version<N: Mechanism, K: Mechanism>()
     // Of the plain mechanisms, and of a context that has either or negotiates them.
     ensures ntlm { NeverRefuses ntlm_meaning DowngradeDetected }
     ensures kerberos { NeverRefuses kerberos_meaning DowngradeDetected }
     ensures plain { NeverRefuses (either 0 ntlm_meaning kerberos_meaning) DowngradeDetected }
-    // Of any two.
+    // Of any two mechanisms.
     ensures negotiation { (requests : ℕ) → NeverRefuses N.meaning DowngradeDetected →
         NeverRefuses K.meaning DowngradeDetected →
         NeverRefuses (negotiate requests N.meaning K.meaning) DowngradeDetected }
@@ -46,9 +46,9 @@ pub fn contexts_refuse_no_version<N: Mechanism, K: Mechanism>()
         NeverRefuses (either requests N.meaning K.meaning) DowngradeDetected }
 {}
 
-/// Ends that negotiate and match, as examples have them: both with Kerberos selected; the client
-/// with Kerberos and the server with NTLM; both with NTLM. What each pair needs is there, for every
-/// client but a guest of NTLM, and the number of messages that end it.
+/// The negotiating ends of the examples match: both with Kerberos selected; the client with
+/// Kerberos and the server with NTLM; both with NTLM. Each pair has what it needs, for every client
+/// but a guest of NTLM, and completes after the stated number of messages.
 pub fn negotiations_match()
     ensures kerberos { (identity : AuthIdentity) → (url ticket computer : List ℕ) →
         length ticket ≡ 32 →
@@ -67,25 +67,24 @@ pub fn negotiations_match()
         example_target identity) × (messages_by ends.begins ends.picked.choice ≡ 4) }
 {}
 
-/// The ends of the exchanges that are worked by hand match, with as many messages of the client as
-/// each is told to take: so what is promised of matching ends is promised of some. `C` is what an
-/// end has as its context.
+/// The ends of the exchanges worked by hand match, with the stated number of the client's messages.
+/// So what is promised of matching ends is promised of some. `C` is the type of an end's context.
 pub fn worked_ends_match<C>()
-    // Whatever matches as an example does so as two ends that are made of it.
+    // An example that matches also does so as two ends that are made from it.
     ensures ends { (told : Option (ℕ → NetworkRequest → Reply)) → (call messages : ℕ) →
         (x : Example) → (client : ClientView C) →
         (server : ServerView C TableView) → IsClientOf x client → IsServerOf x server →
         Matches told call messages x →
         (matching : AreMatching table_meaning told call client server) ×
         (messages_in matching ≡ messages) }
-    // NTLM alone, of a client that delegates its credentials or keeps them, at any two versions
-    // that take each other.
+    // NTLM alone, with a client that delegates its credentials or keeps them, at any two versions
+    // that accept each other.
     ensures ntlm { (told : Option (ℕ → NetworkRequest → Reply)) → (call : ℕ) →
         (delegation : CredSspMode) → (client server least : ℕ) →
         nat_lt client 5 ≡ nat_lt server 5 → least ≤ server → least ≤ client → client < 2 ^ 32 →
         server < 2 ^ 32 →
         Matches told call 3 (ntlm_example delegation client server least) }
-    // Negotiations: of NTLM, of Kerberos, and one that is begun with Kerberos and comes to NTLM.
+    // Negotiations: of NTLM, of Kerberos, and one that begins with Kerberos and comes to NTLM.
     ensures version_4 { (told : Option (ℕ → NetworkRequest → Reply)) → (call : ℕ) →
         Matches told call 4 negotiated_at_version_4 }
     ensures long_key { (told : Option (ℕ → NetworkRequest → Reply)) → (call : ℕ) →

@@ -1,8 +1,8 @@
-//! Completeness: what comes of a CredSSP delegation that nothing disturbs (MS-CSSP 3.1.5), between
-//! ends of the plain mechanisms.
+//! Completeness: what an undisturbed CredSSP delegation between ends of the plain mechanisms comes
+//! to (MS-CSSP 3.1.5).
 //!
-//! `specs/Matching.antt` says which ends match, `specs/Negotiating.antt` which of them that
-//! negotiate (MS-SPNG 3.1.5), and when a link disturbs nothing.
+//! `specs/Matching.antt` says which ends match and when a link disturbs nothing, and
+//! `specs/Negotiating.antt` which negotiating ends match (MS-SPNG 3.1.5).
 #![tactic(auto)]
 
 pub mod last_mic;

@@ -1,4 +1,4 @@
-//! `delegate` between ends of the plain mechanisms, with what matching ends come to.
+//! `delegate` between ends of the plain mechanisms, and what matching ends come to.
 
 ghost use Rattle.std.specs.Prelude.{◌≤◌, [], IfOk};
 ghost use Rattle.sspi_credssp.specs.Context.{either};
@@ -16,18 +16,18 @@ use sspi_delegate::{DelegateError, Delegation, Link, Transcript, delegate};
 use sspi_mech::{Kdc, Kerberos, Ntlm};
 use std::alloc::Global;
 
-/// `delegate` between two ends whose mechanisms are the plain ones: its promises, and what is so of
-/// these ends alone.
+/// `delegate` between two ends of the plain mechanisms: its promises, and what holds of these ends
+/// alone.
 ///
-/// Where the server does not negotiate, ends that made no call come to Ok only after three messages
-/// of the client, whatever the link delivers.
+/// If the server does not negotiate, ends that have made no call come to Ok only after three
+/// messages of the client. That holds whatever the link delivers.
 ///
-/// Where the ends match and made no call, the link disturbs nothing and no look-up of the proxy
-/// fails, it is Ok with the identity that the client seals, or there was no memory. The client then
-/// makes three messages without a negotiation. In a negotiation it makes four, where the server
-/// picks the mechanism that the client began with, be that NTLM or Kerberos, and five, where the
-/// client began with Kerberos and the server picks NTLM. Where `limit` allows the client fewer
-/// messages, the turns are spent, or there was no memory.
+/// Suppose the ends match and have made no call, the link disturbs nothing and no look-up of the
+/// proxy fails. Then the answer is Ok with the identity that the client seals. Without a
+/// negotiation the client makes three messages. In a negotiation it makes four if the server picks
+/// the mechanism that the client began with. It makes five if that was Kerberos and the server
+/// picks NTLM. If `limit` allows the client fewer messages, the turns are spent. Memory may run out
+/// instead.
 pub fn delegate_plainly<C: CredentialsProxy, L: Link, D: Kdc>(
     alloc: Global,
     client: &mut CredSspClient<Ntlm, Kerberos>,
@@ -50,7 +50,7 @@ pub fn delegate_plainly<C: CredentialsProxy, L: Link, D: Kdc>(
     ensures stays { Stays (around_by C.meaning L.log L.edits L.faults D.told D.asked D.faults)
         (parties client.old server.old link.old kdc.old []) limit result
         (parties client.new server.new link.new kdc.new transcript.new.turns) }
-    // How many messages are too few, and to what ends that match come.
+    // How many messages are too few, and what matching ends come to.
     ensures three { IsNtlmServer server.old.settings.mode → IsFresh client.old server.old →
         IfOk result (λ delegation. 3 ≤ delegation.rounds) }
     ensures matched { (matching : AreMatching C.meaning (D.told kdc.old) (D.asked kdc.old)

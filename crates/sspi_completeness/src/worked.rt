@@ -1,11 +1,11 @@
 //! Exchanges worked by hand, one for each way to `Ok`.
 //!
 //! Each makes its two ends and the KDC that the client may ask, and carries their messages in
-//! memory, of which the client may make `limit`. It hands out what it made: both ends, the KDC, the
-//! link and the transcript, which are those of a run. Its answer is `Ok` after the number of
-//! messages that its contract has, with the identity that is delegated, or the turns are spent
-//! where they are fewer; or there was no memory. The call itself is refused only where there is no
-//! memory to make the ends.
+//! memory. The client may make `limit` of them. It returns what it made: both ends, the KDC, the
+//! link and the transcript, which are those of a run. Its answer is `Ok` with the delegated
+//! identity, after the number of messages in its contract. If `limit` is lower, the turns are
+//! spent; or there was no memory. The call itself is refused only if there is no memory to make the
+//! ends.
 
 ghost use Rattle.std.specs.Prelude.{◌≡◌, ◌≤◌, ℕ, Some, IfOk, IsSome, nat_lt};
 ghost use Rattle.sspi_names.specs.Name.{parse_name};
@@ -28,7 +28,7 @@ use sspi_mech::PlainKdc;
 use sspi_names::AuthIdentity;
 use std::alloc::{AllocError, Global};
 
-/// What the two ends of an exchange are given, beside how each authenticates.
+/// What the two ends of an exchange are given, besides how each authenticates.
 #[derive(Clone, Copy)]
 struct Given<'a> {
     key: &'a [u8],
@@ -40,7 +40,7 @@ struct Given<'a> {
     least: u32,
 }
 
-/// What most of them are given.
+/// What most exchanges are given.
 const USUAL: Given<'static> = Given {
     key: &[1, 2, 3],
     name: "ann@example.com",
@@ -51,7 +51,7 @@ const USUAL: Given<'static> = Given {
     least: 5,
 };
 
-/// Whom the client authenticates, and the server knows.
+/// The identity of the client, which the server knows.
 fn who(alloc: Global, given: &Given<'_>) -> Result<AuthIdentity, AllocError>
     requires { IsSome (parse_name given.now.name.now) }
     ensures { (identity : AuthIdentity) → parse_name given.now.name.now ≡ Some identity.username →
@@ -61,7 +61,7 @@ fn who(alloc: Global, given: &Given<'_>) -> Result<AuthIdentity, AllocError>
     identity_of(alloc, given.name, given.password)
 }
 
-/// An exchange of two ends that are given this, and authenticate so.
+/// An exchange of two ends that are given this, and authenticate in these modes.
 fn exchange(
     alloc: Global,
     given: &Given<'_>,
@@ -109,7 +109,7 @@ pub fn by_ntlm(alloc: Global, limit: u32) -> Result<Worked, AllocError>
     by_ntlm_at(alloc, CredSspMode::WithCredentials, 6, 6, 5, limit)
 }
 
-/// Three messages: the same at versions 2 and 4, whose proofs are the key and one more than it.
+/// Three messages: the same at versions 2 and 4, whose proofs are the key and the key plus one.
 pub fn by_ntlm_of_old(alloc: Global, limit: u32) -> Result<Worked, AllocError>
     ensures { IfOk result (IsWorked (examples.ntlm_example CredSspMode.WithCredentials 2 4 0)
         3 limit) }
@@ -117,7 +117,7 @@ pub fn by_ntlm_of_old(alloc: Global, limit: u32) -> Result<Worked, AllocError>
     by_ntlm_at(alloc, CredSspMode::WithCredentials, 2, 4, 0, limit)
 }
 
-/// Three messages: the same at versions 5 and 6 of a client that keeps its credentials.
+/// Three messages: the same at versions 5 and 6, with a client that keeps its credentials.
 pub fn without_credentials(alloc: Global, limit: u32) -> Result<Worked, AllocError>
     ensures { IfOk result (IsWorked (examples.ntlm_example CredSspMode.CredentialLess 5 6 5)
         3 limit) }
@@ -151,8 +151,7 @@ fn by_ntlm_at(
     exchange(alloc, &given, client, server, realm_kdc(alloc), limit)
 }
 
-/// Four messages: a negotiation of NTLM at version 4, where the server's proof is one more than the
-/// key.
+/// Four messages: a negotiation of NTLM at version 4, where the server's proof is the key plus one.
 pub fn negotiated_at_version_4(alloc: Global, limit: u32) -> Result<Worked, AllocError>
     ensures { IfOk result (IsWorked examples.negotiated_at_version_4 4 limit) }
 {
@@ -192,8 +191,8 @@ pub fn user_to_user(alloc: Global, limit: u32) -> Result<Worked, AllocError>
     exchange(alloc, &USUAL, client, server, realm_kdc(alloc), limit)
 }
 
-/// Five messages: a negotiation that the client begins with Kerberos, to a server that may use NTLM
-/// alone.
+/// Five messages: a negotiation that the client begins with Kerberos, with a server that may use
+/// only NTLM.
 pub fn given_up_for_ntlm(alloc: Global, limit: u32) -> Result<Worked, AllocError>
     ensures { IfOk result (IsWorked examples.given_up_for_ntlm 5 limit) }
 {

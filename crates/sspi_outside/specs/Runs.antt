@@ -71,7 +71,7 @@ stepped_with envelope (Some due) = Some (record { mechanism = due.mechanism; tok
 
 -- ---- the laws
 
--- a server's first step, on the offer that was handed in
+-- a server's first step, on the offer that was passed in
 abbrev pub OfferIsStepped : Type 0
 OfferIsStepped = (v : Values) (args : AcceptArgs) (offer : NegTokenInit) (envelope : List ℕ) →
     v.role ≡ Server →

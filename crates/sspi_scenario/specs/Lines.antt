@@ -24,6 +24,6 @@ before_space text = before_first is_space text
 unfoldable pub after_space : List ℕ → List ℕ
 after_space text = after_first is_space text
 
--- both, where there is a space
+-- both, if there is a space
 unfoldable pub parted : List ℕ → Option (List ℕ × List ℕ)
 parted text = if list_any is_space text then Some (before_space text, after_space text) else None

@@ -1,4 +1,4 @@
-//! The ends of an exchange, and one that is run between them.
+//! The ends of an exchange, and how one is run between them.
 
 ghost use Rattle.std.specs.Prelude.{◌≡◌, ◌∷◌, [], ℕ, Ok, IfOk};
 ghost use Rattle.sspi_names.specs.declared.identity.AuthIdentity.{AuthIdentity};
@@ -18,7 +18,7 @@ pub type Client = CredSspClient<Ntlm, Kerberos>;
 /// The server of an example, whose proxy is a table.
 pub type Server = CredSspServer<Ntlm, Kerberos, TableProxy>;
 
-/// Both values, or that there was no memory for one of them.
+/// Both values, or an error if there was no memory for one of them.
 pub(crate) fn pair<A: Drop, B: Drop>(
     first: Result<A, AllocError>,
     second: Result<B, AllocError>,
@@ -28,7 +28,7 @@ pub(crate) fn pair<A: Drop, B: Drop>(
     Ok((first?, second?))
 }
 
-/// A client of these parts, with a nonce of zeros.
+/// A client made from these parts, with a nonce of zeros.
 pub(crate) fn client_of(
     alloc: Global,
     key: Result<Vec<u8>, AllocError>,
@@ -59,7 +59,7 @@ pub(crate) fn client_of(
     Ok(client.with_least_version(least))
 }
 
-/// A server of these parts, whose proxy knows this identity alone.
+/// A server made from these parts, whose proxy knows only this identity.
 pub(crate) fn server_of(
     alloc: Global,
     key: Result<Vec<u8>, AllocError>,
@@ -78,7 +78,7 @@ pub(crate) fn server_of(
     Ok(server.with_least_version(least))
 }
 
-/// A proxy that knows this identity alone, of which no call fails.
+/// A proxy that knows only this identity, and whose calls never fail.
 fn proxy_of(
     alloc: Global,
     identity: Result<AuthIdentity, AllocError>,
@@ -95,7 +95,7 @@ fn proxy_of(
     Ok(TableProxy::new(alloc, entries, Vec::new(alloc)))
 }
 
-/// A list of this value alone.
+/// A list of only this value.
 pub(crate) fn alone<T: Drop>(
     alloc: Global,
     value: Result<T, AllocError>,
@@ -109,7 +109,7 @@ pub(crate) fn alone<T: Drop>(
     Ok(list)
 }
 
-/// An exchange that was run: what it came to, and what took part in it as it is then.
+/// An exchange that was run: its answer, and the final state of what took part in it.
 #[derive(Drop)]
 pub struct Exchanged<C, S> {
     pub answer: Result<Delegation, DelegateError>,
@@ -120,10 +120,10 @@ pub struct Exchanged<C, S> {
     pub transcript: Transcript,
 }
 
-/// An exchange that was worked by hand.
+/// An exchange worked by hand.
 pub type Worked = Exchanged<Client, Server>;
 
-/// What an exchange is run between: both ends, and the KDC that the client may ask.
+/// What an exchange is run between: both ends, with the KDC that the client may ask.
 #[derive(Drop)]
 struct Ends<C, S> {
     client: C,
@@ -131,7 +131,7 @@ struct Ends<C, S> {
     kdc: PlainKdc,
 }
 
-/// All three, or that there was no memory for one of them.
+/// All three, or an error if there was no memory for one of them.
 fn make_ends<C: Drop, S: Drop>(
     client: Result<C, AllocError>,
     server: Result<S, AllocError>,
@@ -179,8 +179,8 @@ fn carry_out(alloc: Global, ends: Ends<Client, Server>, limit: u32) -> Worked
     }
 }
 
-/// An exchange of these two ends in memory, over a link that changes nothing; or there was no
-/// memory for one of them.
+/// An exchange of these two ends in memory, over a link that changes nothing; an error if there was
+/// no memory for one of them.
 pub(crate) fn run(
     alloc: Global,
     client: Result<Client, AllocError>,

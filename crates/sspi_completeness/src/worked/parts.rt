@@ -20,7 +20,7 @@ use sspi_negotiate::{NegotiateConfig, ProtocolConfig};
 use sspi_types::{Secret, Text};
 use std::alloc::{AllocError, Global};
 
-// ---- who
+// ---- identities
 
 fn name_of(alloc: Global, text: &str) -> Result<Username, AllocError>
     requires { IsSome (parse_name text.now) }
@@ -73,14 +73,14 @@ fn server_ntlm() -> NtlmConfig
     }
 }
 
-/// A client by NTLM alone.
+/// A client that uses only NTLM.
 pub(crate) fn ntlm_client(alloc: Global) -> Result<ClientMode, AllocError>
     ensures { IfOk result (λ mode. mode ≡ ClientMode.Ntlm client_ntlm) }
 {
     Ok(ClientMode::Ntlm(client_ntlm(alloc)?))
 }
 
-/// A server by NTLM alone.
+/// A server that uses only NTLM.
 pub(crate) fn ntlm_server() -> Result<ServerMode, AllocError>
     ensures { IfOk result (λ mode. mode ≡ ServerMode.Ntlm server_ntlm) }
 {
@@ -185,14 +185,14 @@ pub(crate) fn server_with_ticket(alloc: Global) -> Result<ServerMode, AllocError
     Ok(ServerMode::Negotiate(config))
 }
 
-/// A list of packages.
+/// A list of packages with only NTLM.
 fn ntlm_alone(alloc: Global) -> Result<Option<Text>, AllocError>
     ensures { IfOk result (λ packages. packages ≡ Some (codes "ntlm")) }
 {
     Ok(Some(Text::from_text(alloc, "ntlm")?))
 }
 
-/// A server that may use NTLM alone.
+/// A server that may use only NTLM.
 pub(crate) fn server_with_ntlm_alone(alloc: Global) -> Result<ServerMode, AllocError>
     ensures { IfOk result (λ mode. mode ≡ ServerMode.Negotiate with_ntlm_alone) }
 {
@@ -201,7 +201,7 @@ pub(crate) fn server_with_ntlm_alone(alloc: Global) -> Result<ServerMode, AllocE
     Ok(ServerMode::Negotiate(config))
 }
 
-/// A KDC that knows ann@example.com alone.
+/// A KDC that knows only ann@example.com.
 pub(crate) fn realm_kdc(alloc: Global) -> Result<PlainKdc, AllocError>
     ensures { IfOk result (λ kdc. kdc ≡ realm_kdc) }
 {
