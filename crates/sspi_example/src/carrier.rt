@@ -10,8 +10,8 @@ use sspi_mech::{FailingKdc, Mechanism};
 use sspi_types::{Error, ErrorKind, Reason};
 use std::alloc::{AllocError, Global};
 
-/// Hands each message to the other end in the same process. Between two machines `send` writes to a
-/// socket and `receive` reads from one; each that fails counts one fault.
+/// Passes each message to the other end in the same process. Between two machines `send` writes to
+/// a socket and `receive` reads from one; each failure counts as one fault.
 #[derive(Drop)]
 pub struct Loopback {
     alloc: Global,
@@ -23,7 +23,7 @@ pub struct Loopback {
 impl Carrier for Loopback {
     ghost faults = { λ carrier. carrier.faults };
 
-    // of what its calls make of it this carrier claims nothing
+    // this carrier claims nothing of what its calls do to it
     ghost sends = { λ _ _ _ _. Unit {0} };
 
     ghost receives = { λ _ _ _ _. Unit {0} };

@@ -31,7 +31,7 @@ pub(crate) fn ntlm_config(alloc: Global) -> Result<NtlmConfig, AllocError> {
     Ok(NtlmConfig::new(Text::from_text(alloc, "HOST")?))
 }
 
-/// The nonce is the client's own: take fresh random bytes for each.
+/// The nonce is the client's own: use fresh random bytes for each.
 pub(crate) fn client<M: Mechanism>(alloc: Global) -> Result<CredSspClient<M, M>, Error> {
     let key = key(alloc)?;
     let target = String::from_str(alloc, "TERMSRV/host")?;
@@ -59,7 +59,7 @@ pub(crate) fn server<M: Mechanism>(
     Ok(CredSspServer::new(alloc, key, proxy, ServerMode::Ntlm(config)))
 }
 
-/// What the peer reads of a message, once its bytes went over the channel.
+/// What the peer reads of a message, once its bytes have passed over the channel.
 pub(crate) fn carried(alloc: Global, message: &TsRequest) -> Result<TsRequest, Error> {
     let mut wire = VecSink::new(alloc);
     message.encode_ts_request(&mut wire)?;
@@ -78,7 +78,7 @@ fn message_of<N: Mechanism, K: Mechanism>(
     }
 }
 
-/// A round: the client's message to the server, and what that makes of it.
+/// A round: the client's message to the server, and the server's answer.
 fn round<N: Mechanism, K: Mechanism, C: CredentialsProxy>(
     alloc: Global,
     client: &mut CredSspClient<N, K>,

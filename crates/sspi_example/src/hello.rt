@@ -15,7 +15,7 @@ use sspi_types::{
 };
 use std::alloc::Global;
 
-/// One end. A client tells its name and is done with the answer, a server is done at once. A blob
+/// One end. A client sends its name and is done after the answer; a server is done at once. A blob
 /// is sixteen zeros and the text.
 #[derive(Drop)]
 pub struct Hello {

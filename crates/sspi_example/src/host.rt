@@ -112,7 +112,7 @@ impl Context {
     }
 }
 
-/// What is sent of the call that was made, with the text sealed that the end made.
+/// The message to send for the call that was made, with the text that the end made sealed.
 pub(crate) fn sealed(context: &Context, last: &Last, acts: Acts) -> Result<TsRequest, Error> {
     let owed = last.owed(acts);
     let blob = match last.text(owed) {
@@ -125,7 +125,7 @@ pub(crate) fn sealed(context: &Context, last: &Last, acts: Acts) -> Result<TsReq
     }
 }
 
-/// The client's turn: a step where a token is due, and the server's proof opened where that is.
+/// The client's turn: a step if a token is due, and the server's proof opened if that is due.
 fn client_turn(
     context: &mut Context,
     end: &mut ClientEnd<Outside, Outside>,

@@ -21,13 +21,13 @@ fn context(alloc: Global) -> Result<Context, Error> {
     Ok(SspiContext::Ntlm(Ntlm::make(alloc, &MechConfig::Ntlm(&config))?))
 }
 
-/// The handle by which the client's steps know its credentials.
+/// The handle through which the client's steps get its credentials.
 fn acquire(alloc: Global, client: &mut Context) -> Result<Option<CredentialsBuffers>, Error> {
     let ann = Credentials::AuthIdentity(ann(alloc)?);
     client.acquire_credentials_handle(CredentialUse::Outbound, Some(&ann))
 }
 
-/// The client's token for that of the server, which is empty at first.
+/// The client's token in answer to the server's, which is empty at first.
 fn initialize<'a>(
     client: &mut Context,
     handle: &'a Option<CredentialsBuffers>,
@@ -76,7 +76,7 @@ fn identify(alloc: Global, server: &mut Context) -> Result<(), Error> {
     server.custom_set_auth_identity(Credentials::AuthIdentity(ann(alloc)?))
 }
 
-/// Both have a key then.
+/// Both have a key afterwards.
 fn authenticate(alloc: Global, client: &mut Context, server: &mut Context) -> Result<(), Error> {
     let handle = acquire(alloc, client)?;
     exchange(alloc, client, server, &handle)?;

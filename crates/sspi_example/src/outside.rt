@@ -13,7 +13,7 @@ use sspi_negotiate::{NegotiateConfig, ProtocolConfig};
 use sspi_types::{Error, ErrorKind, Reason, Text};
 use std::alloc::{AllocError, Global};
 
-/// A KDC behind a channel. It tells nothing of its replies, and counts its calls and those that
+/// A KDC behind a channel. It exposes nothing of its replies, and counts its calls and those that
 /// fail.
 #[derive(Drop)]
 pub struct RemoteKdc {
@@ -43,7 +43,7 @@ impl Kdc for RemoteKdc {
     }
 }
 
-/// A directory of users, which knows `ann` alone. It tells nothing of its entries, and counts its
+/// A directory of users, which knows only `ann`. It exposes nothing of its entries, and counts its
 /// calls; none of them fails.
 #[derive(Drop)]
 pub struct Directory {

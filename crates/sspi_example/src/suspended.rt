@@ -15,8 +15,8 @@ use std::alloc::{AllocError, Global};
 /// How many messages the client may send: a negotiation of Kerberos needs four.
 const MESSAGES: u32 = 5;
 
-/// What comes of a client's request to its KDC. One that was not reached is an answer too: the
-/// mechanism decides what its step makes of that.
+/// The outcome of a client's request to its KDC. A KDC that was not reached is an outcome too: the
+/// mechanism decides what its step does then.
 fn reply_to<D: Kdc>(kdc: &mut D, request: &NetworkRequest) -> Result<Reply, Error> {
     match kdc.ask(request) {
         Ok(reply) => Ok(Reply::Answered(Bytes::from_vec(reply))),
@@ -31,7 +31,7 @@ fn message_in(state: ClientState) -> TsRequest {
     }
 }
 
-/// The client's next message. While its turn is suspended the KDC is asked, and the turn goes on.
+/// The client's next message. While its turn is suspended, the KDC is asked and the turn resumed.
 fn message_of<N: Mechanism, K: Mechanism, D: Kdc>(
     client: &mut CredSspClient<N, K>,
     kdc: &mut D,
