@@ -49,8 +49,8 @@ pub record IsTagged (tag : ℕ) (text inner : List ℕ) : Type 0 where
   pub spelled : text ≡ tag ∷ (len ++ inner)
   pub measured : IsLength len number
 
--- content bytes that represent a nonnegative number: the highest bit, the sign, is clear (X.690
--- 8.3.3)
+-- content bytes that represent a nonnegative number: the highest bit, the sign, is clear
+-- (X.690 8.3.3)
 abbrev pub IsNotNegative : List ℕ → Type 0
 IsNotNegative [] = ⊥
 IsNotNegative (high ∷ rest) = high < 0x80

@@ -50,7 +50,7 @@ pub fn universal_identifier(tag: Tag, pc: Pc) -> u8
     tag as u8 + pc as u8
 }
 
-/// The identifier octet of a context-specific tag, which has the low five bits of `tagnum`.
+/// The identifier octet of a context-specific tag, with the low five bits of `tagnum`.
 pub fn contextual_identifier(tagnum: u8, pc: Pc) -> u8
     ensures { result ≡ contextual_identifier tagnum pc }
 {

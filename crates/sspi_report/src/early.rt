@@ -13,7 +13,7 @@ use std::alloc::{AllocError, Global};
 /// the first entry first, and the line of the early result.
 ///
 /// Each line ends with LF. There is nothing if the delegation failed, if the policy failed or if
-/// memory ran out in either. Fails only when out of memory.
+/// the exchange ran out of memory. Fails only when out of memory.
 pub fn early_report(
     alloc: Global,
     entries: &[Carried],

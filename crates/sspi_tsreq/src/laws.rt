@@ -78,7 +78,7 @@ pub fn fault_is_of_the_body()
         → fault bytes ≡ Some Ended }
 {}
 
-/// A content that is refused as `InvalidData` is refused so whatever more it has.
+/// A content that is refused as `InvalidData` stays refused so, whatever is appended to it.
 #[tactic(auto, using(crate::proofs::Faults::body_stays))]
 pub fn invalid_is_final()
     ensures { (body more : List ℕ) → body_fault body ≡ Some Invalid →
@@ -92,7 +92,7 @@ pub fn end_is_settled()
     ensures { (body : List ℕ) → (count : ℕ) × (body_fault (body ++ zeros count) ≡ Some Ended → ⊥) }
 {}
 
-/// A byte after the last field that begins no optional field hides all that follows it in the
+/// A byte after the last field, if it begins no optional field, hides all that follows it in the
 /// content.
 #[tactic(auto, using(crate::proofs::Tails::tail_ignored))]
 pub fn tail_is_ignored()

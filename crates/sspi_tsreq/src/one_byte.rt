@@ -1,4 +1,4 @@
-//! Reads one byte of a request's content, which updates the reader in place.
+//! Reads one byte of a request's content, and updates the reader in place.
 
 ghost use Rattle.std.specs.Prelude.{◌≡◌, ◌<◌, [], ◌∷◌, ◌++◌, Some, IsOk, OnOk, OnErr};
 ghost use Rattle.sspi_tsreq.specs.Walks.{WentOn, with_text};

@@ -73,8 +73,8 @@ fn a_delivery_with_more_behind(rt: HostRuntime) {
     reads_more_behind(&rt, rt.alloc(), (front, "00", 65536, "\n"));
 }
 
-/// At most 1048581 bytes of a delivery are read, as many as the longest message has: of three bytes
-/// after one, none is read.
+/// At most 1048581 bytes of a delivery are read, the size of the longest message: of three bytes
+/// after such a message, none is read.
 #[test]
 fn a_delivery_past_the_limit(rt: HostRuntime) {
     let front = "mode ntlm\nuser DOM\\ann\nkey 010203\nedit 4 add 070707\npassword ";

@@ -164,8 +164,8 @@ const KERBEROS: &str =
     server-protocol kerberos\nkdc EXAMPLE.COM tcp://kdc\nkdc-user ann@example.com\n\
     ticket 1111111111111111111111111111111111111111111111111111111111111111\n";
 
-/// If the KDC fails before the client has sent anything, the client takes NTLM; if it fails later,
-/// the client refuses, and has sent the server one message.
+/// If the KDC fails before the client has sent anything, the client falls back to NTLM; if it fails
+/// later, the client refuses, having sent the server one message.
 const FAILING_KDCS: &str =
     "the KDC fails at once|0 8|;ok 4 user=ann@example.com password=pw;|4 4 1|kdc-answer fail;\n\
     the KDC fails at its second call|1 3|;client NoAuthenticatingAuthority;|2 1 0|kdc-answer usual;kdc-answer fail;";

@@ -35,9 +35,9 @@ fn both_ends_agree_on_kerberos(rt: HostRuntime) {
     reports_whole(&rt, rt.alloc(), "delegate", KERBEROS, REPORT);
 }
 
-/// Before its first message the client gives up Kerberos for NTLM if the KDC is unknown, cannot be
-/// asked, or refuses with one of four kinds; without NTLM, that is its refusal. Later, and for any
-/// other kind, it is its refusal too.
+/// Before its first message the client falls back to NTLM if the KDC is unknown, cannot be asked,
+/// or refuses with one of four kinds; without NTLM, that is its refusal. Later, and for any other
+/// kind, it is its refusal too.
 const REPLIES: &str =
     "0 8|kdc-answer usual;|> 3049a003020106a1423040303ea03c043a603806062b0601050502a02e302ca024302206092a864882f71201020206\
      092a864886f712010202060a2b06010401823702020aa20404024b31;|;ok 4 user=ann@example.com password=pw;\n\

@@ -1,4 +1,4 @@
-//! What standard error is told, by the command, the text and the status.
+//! What is written to standard error, by the command, the text and the status.
 
 use crate::tests::{no_memory, words_of};
 use sspi_ber::VecSink;
