@@ -123,7 +123,7 @@ fn wrote(rt: &impl Abort, size: Result<usize, WireKind>, expected: Result<usize,
 
 const HELLO: [u8; 7] = [0x04, 0x05, 0x68, 0x65, 0x6c, 0x6c, 0x6f];
 
-// A writer that takes one byte a call gets all of them, in their order.
+// A writer that takes one byte per call gets all of them, in order.
 #[test]
 fn a_writer_that_takes_one_byte(rt: HostRuntime) {
     let mut writer = choppy(rt.alloc(), 1, 99);

@@ -8,7 +8,7 @@ use sspi_tokens::{MechTypeList, NegTokenInit, Oid, encode_mech_types};
 use std::alloc::Global;
 use std::process::Abort;
 
-/// The token has this list and this token of the mechanism.
+/// The token has this list and this mechanism token.
 fn offers(rt: &impl Abort, alloc: Global, bytes: &[u8], oids: &[&[u8]], mech_token: Option<&[u8]>) {
     let token = given(rt, NegTokenInit::decode(alloc, bytes));
     lists(rt, &token, oids);
