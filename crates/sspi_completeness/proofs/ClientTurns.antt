@@ -66,8 +66,7 @@ module _ {C : Type 0} (c : Meaning ContextSetting C) (laws : IsContext c) where
       (unchecked, unsealed_so, acts.opened)
 
   module _ {D : Type 0} (k : KdcCalls D) where
-    -- all a mode says about a turn's step: its answer, and the context, credentials and KDC it
-    -- leaves
+    -- all a mode says of a turn's step: the answer, and the context, credentials and KDC after it
     pub record Walks (old : View) (kdc : D) (token : Option (List ℕ)) (step : Step) (y : C) (handle : Option CredentialsBuffers)
         (After : D → Type 0) : Type 0 where
       pub done : (h : Option CredentialsBuffers) (log : List Asked) (kdc2 : D) (s : Step) (m : C) → k.replies kdc log kdc2 →

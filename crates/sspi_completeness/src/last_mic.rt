@@ -16,11 +16,11 @@ ghost use Rattle.sspi_completeness.specs.LastMic.{mic_in, AnswersLast};
 use sspi_mech::Mechanism;
 
 /// What a server answers to the MIC that its negotiation waits for (RFC 4178, section 5), for any
-/// two mechanisms. The step is made only on a MIC that the selected mechanism verified. That was
-/// first given the identities that the server knows by its peer's name.
+/// two mechanisms. The step is made only on a MIC that the selected mechanism verified. The
+/// mechanism was first given the identities that the server knows by its peer's name.
 ///
-/// A refusal has the mechanism's own kind if the mechanism does not name its peer, takes none of
-/// the identities, or does not verify the MIC. It is `NoCredentials` if the server knows nobody of
+/// If the mechanism does not name its peer, takes none of the identities, or does not verify the
+/// MIC, the refusal has the mechanism's kind. It is `NoCredentials` if the server knows nobody of
 /// that name, and `InternalError` if the list of mechanisms is too long. `InsufficientMemory` may
 /// come in place of any of them.
 pub fn last_mic_is_answered<N: Mechanism, K: Mechanism>()

@@ -44,8 +44,8 @@ ReadsSoFar limit before after (Err TooLong) = TakesJust (limit + 1) before after
 ReadsSoFar limit before after (Err Failed) = Unit {0}
 ReadsSoFar limit before after (Err InsufficientMemory) = Unit {0}
 
--- what reading says of the source's count of faults: it rises at a failure, and is unchanged at any
--- other result
+-- what reading says of the source's count of faults: a failure raises it, or finds it at its
+-- maximum; any other result leaves it unchanged
 abbrev pub TextCause : ℕ → ℕ → Result (Vec ℕ) TextError → Type 0
 TextCause before now (Ok text) = now ≡ before
 TextCause before now (Err TooLong) = now ≡ before

@@ -36,8 +36,7 @@ proxy_table [] accounts.Own own = own ∷ []
 proxy_table [] accounts.None own = []
 proxy_table (told ∷ more) word own = told ∷ more
 
--- the values of a text without lines; those of the user, the password and the keys never reach a
--- scenario
+-- the values of a text without lines; every scenario replaces those of user, password and keys
 abbrev pub defaults : Values
 defaults = record {
   scenario = record {
