@@ -51,8 +51,8 @@ pub record KdcStays {D : Type 0} (told : D → Option (ℕ → NetworkRequest �
 
 module _ {C D : Type 0} (c : Meaning ContextSetting C) (k : KdcCalls D) where
   -- The client took d and came to this, by one call and a resume with each reply of its KDC. This
-  -- says what `ClientCall` does, but something may have been asked, newest first. No refused resume
-  -- was tried again.
+  -- is all that `ClientCall` says, except that the KDC may have been asked, newest question first.
+  -- No refused resume was tried again.
   pub record ClientTakes (old : ClientView C) (kdc : D) (d : TsRequest)
       (result : Result Progress Error) (new : ClientView C)
       (kdc2 : D) : Type 0 where

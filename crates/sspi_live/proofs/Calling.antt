@@ -30,7 +30,7 @@ use Rattle.sspi_live.specs.Steps.{AnswersTold, ReadsDue, WritesNewest}
 use Rattle.sspi_live.proofs.Stepping.{own_clients, own_servers}
 use Rattle.std.proofs.Common.{[], ◌∷◌}
 
--- ---- what fails beside an end is no refusal of it
+-- ---- what fails outside an end is not its refusal
 
 pub read_is_no_refusal : (to : End) (left rest : Option (List ℕ)) (before now : ℕ) (error : DelegateError) →
     Reads to left rest before now (Err error) → IsNoRefusal error
@@ -69,7 +69,7 @@ module _ {C P : Type 0} (c : Meaning ContextSetting C) (p : ProxyMeaning P) wher
       subst (λ (l : List Turn). ServerRoundPast c p first result l now) (own_servers new new_whose)
       (calls (subst (λ (l : List Turn). ServerHistory c p first l was) (sym (own_servers old old_whose)) history))
 
-  -- where there was no memory for what tells of a refusal, its turn was made all the same
+  -- if memory ran out for the message of a refusal, its turn was still made
   pub told_past : (first now : ServerView C P) (turns : List Turn) (error : Error) (told : Result (Unit {0}) DelegateError)
       (answer : DelegateError) → AnswersTold error told answer → ServerStopped c p first error turns now →
       ServerHalfStops c p first answer turns now
@@ -88,7 +88,7 @@ module _ {C D : Type 0} (c : Meaning ContextSetting C) (k : KdcCalls D) where
       subst (λ (l : List Turn). ClientRoundPast c k request first kdc result l now kdc2) (own_clients new new_whose)
       (calls (subst (λ (l : List Turn). ClientHistory c k first kdc l was kdc1) (sym (own_clients old old_whose)) history))
 
-  -- where there was no memory for the turn or for a reply of the KDC
+  -- if memory ran out for the turn or for a reply of the KDC
   pub lost_past : (d : TsRequest) (first was now : ClientView C) (kdc kdc1 kdc2 : D) (old new : List Turn) (begun a b : Channel) →
       AreOf Client old → SoFar Client old begun a → Carries a b (read_for Client old d) [] → IsOwn Client old d → new ≡ old →
       ClientHistory c k first kdc old was kdc1 →

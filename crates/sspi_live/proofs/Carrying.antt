@@ -129,7 +129,7 @@ one_written end (Some m) a b done w left reading = record {
   writing = w.2;
 }
 
--- ---- a message that there was no memory for
+-- ---- a message for which memory ran out
 
 spelled_some : (m : TsRequest) → spelled m ≡ [] → ⊥
 unfolding spelled element header

@@ -36,7 +36,7 @@ use Rattle.sspi_live.proofs.Stepping.{own_servers}
 use Rattle.sspi_credssp.specs.declared.turn.End.{End}
 use Rattle.sspi_types.specs.declared.error_kind.ErrorKind.{ErrorKind}
 
--- ---- at every answer each turn but the newest went on
+-- ---- at every answer, each turn but the newest went on
 
 refuses_others : (end : End) (kind : ErrorKind) (turns : List Turn) (before after : Channel) → Refuses end kind turns before after →
     OthersGoOn turns
@@ -79,7 +79,7 @@ connects_others limit before after (Err error) turns s = stops_others Client lim
 
 -- ---- the server
 
--- nothing of a KDC is asked of a server
+-- a server asks no KDC
 no_kdc : KdcCalls (Unit {0})
 no_kdc = record { replies = λ a asked b. Unit {0}; lost = λ a b. Unit {0} }
 
@@ -137,11 +137,11 @@ ok_sealed : {C : Type 0} (c : Meaning ContextSetting C) (e : ClientEnd C) (limit
 ok_sealed c e limit before after (Ok rounds) turns s each = newest_sealed c e turns s.1.newest each
 ok_sealed c e limit before after (Err error) turns s each = tt
 
--- nothing of a proxy is asked of a client
+-- a client asks no proxy
 no_proxy : ProxyMeaning (Unit {0})
 no_proxy = record { told = λ x. record { entries = None; answers = λ name. None; failing = None }; calls = λ x. 0; faults = λ x. 0 }
 
--- an exchange that stopped where its client has this history
+-- the answer of an exchange whose client has the same history
 stopped_as : Result ℕ DelegateError → Result Delegation DelegateError
 stopped_as (Ok rounds) = Err errors.TurnsSpent
 stopped_as (Err error) = Err error

@@ -58,7 +58,7 @@ write_stops end limit errors.InsufficientMemory turns first c f = for_a_message 
 
 -- ---- the end refused its turn
 
--- a server has a message that tells of its refusal
+-- a server has a message that reports its refusal
 told_message : (kind : ErrorKind) (out : Outcome) → IsServerRefusal kind out → (m : TsRequest) × (message_of out ≡ Some m)
 told_message kind (outcome.Reply reply) r = absurd r
 told_message kind (outcome.Final reply) r = absurd r
@@ -100,7 +100,7 @@ refusal_stops Server limit error answer turns first c (inl memory) r =
     rw memory.1 (of_the_end (subst (λ (k : ErrorKind). Refuses Server k turns first c) memory.0 r))
 refusal_stops Server limit error answer turns first c (inr refusal) r = rw refusal.1 (refl, refusal.0, r)
 
--- what tells of a refusal was written, or why not
+-- the message of a refusal was written, or why not
 pub told_stops : (limit : ℕ) (error : Error) (told : Result (Unit {0}) DelegateError) (answer : DelegateError) (turns : List Turn)
     (first c : Channel) → AnswersTold error told answer →
     NewestIs Server (IsServerRefusal error.error_type) turns × WritesMessage Server turns first c told →
@@ -112,7 +112,7 @@ told_stops limit error told answer turns first c (inl memory) r =
 told_stops limit error told answer turns first c (inr (had, answers)) r =
     refusal_stops Server limit error answer turns first c answers (r.0, told, had, r.1)
 
--- ---- no memory for a turn
+-- ---- out of memory for a turn
 
 pub is_due : (end : End) (d : TsRequest) (turns : List Turn) (first a b : Channel) → SoFar end turns first a →
     Carries a b (read_for end turns d) [] → IsOwn end turns d → IsDue end turns first b d

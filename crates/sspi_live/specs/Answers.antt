@@ -26,11 +26,11 @@ use Rattle.sspi_live.specs.Writing.{Writes}
 abbrev pub IsLast : Outcome → Type 0
 IsLast outcome = is_ended outcome ≡ true
 
--- a client stops behind its last message, so none of these turns made one
+-- a client stops after its last message, so none of these turns made one
 abbrev pub GoesOnBehind : End → List Turn → Type 0
 GoesOnBehind end turns = end ≡ Client → any_ended turns ≡ false
 
--- ---- how far the channel has come
+-- ---- how far the channel has got
 
 -- Each turn went on and its message was written, and no turn ended the exchange.
 pub record SoFar (end : End) (turns : List Turn) (before now : Channel) : Type 0 where
@@ -38,7 +38,7 @@ pub record SoFar (end : End) (turns : List Turn) (before now : Channel) : Type 0
   pub unended : GoesOnBehind end turns
   pub carried : Carries before now (received_by end turns) (messages_in turns)
 
--- The same of all turns but the newest, whose request was read.
+-- The same for all turns but the newest, whose request was read.
 pub record IsTurned (end : End) (turns : List Turn) (before now : Channel) : Type 0 where
   pub going : OthersGoOn turns
   pub unended : GoesOnBehind end (earlier turns)
@@ -73,7 +73,7 @@ pub record FailsToRead (end : End) (limit : ℕ) (error : DelegateError) (turns 
   pub written : Keeps now.written after.written
   pub writing : after.write_faults ≡ now.write_faults
 
--- Writing the newest turn's message came to this. Nothing is read then.
+-- Writing the newest turn's message had this result. Nothing is read then.
 pub record WritesMessage (end : End) (turns : List Turn) (before after : Channel)
     (result : Result (Unit {0}) DelegateError) : Type 0 where
   pub now : Channel
@@ -90,14 +90,15 @@ abbrev pub FailsToWrite : End → DelegateError → List Turn → Channel → Ch
 FailsToWrite end error turns before after = AllGoOn turns ×
     WritesMessage end turns before after (Err error)
 
--- what came of telling a client was no out of memory
+-- informing a client did not run out of memory
 abbrev pub HadMemory : Result (Unit {0}) DelegateError → Type 0
 HadMemory (Ok done) = Unit {0}
 HadMemory (Err errors.InsufficientMemory) = ⊥
 HadMemory (Err error) = Unit {0}
 
--- The newest turn was refused with this kind. A server's client was told: all of that was written,
--- or it does not fit, or the sink failed, and its count of faults rose. No one else is told.
+-- The newest turn was refused with this kind. A server informed its client: the message was written
+-- whole, or it does not fit, or the sink failed and its count of faults rose. A client informs no
+-- one.
 abbrev pub Refuses : End → ErrorKind → List Turn → Channel → Channel → Type 0
 Refuses Client kind turns before after = NewestIs Client (IsClientRefusal kind) turns ×
     IsTurned Client turns before after
@@ -105,15 +106,15 @@ Refuses Server kind turns before after = NewestIs Server (IsServerRefusal kind) 
     × (result : Result (Unit {0}) DelegateError) × HadMemory result ×
     WritesMessage Server turns before after result
 
--- a server refused its newest turn with this kind, and there was no memory for what tells its
--- client
+-- a server refused its newest turn with this kind, and memory ran out for the message that informs
+-- its client
 abbrev pub RefusesUntold : End → ErrorKind → List Turn → Channel → Channel → Type 0
 RefusesUntold Client kind turns before after = ⊥
 RefusesUntold Server kind turns before after =
     NewestIs Server (IsServerRefusal kind) turns ×
     WritesMessage Server turns before after (Err errors.InsufficientMemory)
 
--- where there was no memory
+-- where memory ran out
 pub data Lacks (end : End) (limit : ℕ) (turns : List Turn) (before after : Channel) : Type 0 where
   for_a_request : FailsToRead end limit errors.InsufficientMemory turns before after →
       Lacks end limit turns before after
@@ -154,7 +155,7 @@ Serves limit before after (Ok delegation) turns =
     IsTurned Server turns before after
 Serves limit before after (Err error) turns = Stops Server limit error turns before after
 
--- The last message was written, behind those of all turns before.
+-- The last message was written, after those of all turns before.
 pub record IsDelegated (turns : List Turn) (before after : Channel) : Type 0 where
   pub newest : NewestIs Client IsLast turns
   pub going : AllGoOn turns

@@ -6,7 +6,7 @@ use Rattle.sspi_tsreq.specs.declared.request.TsRequest.{TsRequest}
 use Rattle.sspi_tsreq.specs.Spelling.{fits, spelled}
 use Rattle.sspi_framing.specs.Front.{AreRequests}
 
--- the bytes that are left and that were written, where they are told, and the counts of faults
+-- the bytes that are left and that were written, if they are exposed, and the counts of faults
 pub record Channel : Type 0 where
   pub left : Option (List ℕ)
   pub read_faults : ℕ
@@ -23,7 +23,7 @@ channel left read_faults written write_faults source sink =
       write_faults = write_faults sink;
     }
 
--- the encodings of these messages, one behind the other
+-- the encodings of these messages, one after the other
 abbrev pub encodings : List TsRequest → List ℕ
 encodings [] = []
 encodings (m ∷ later) = spelled m ++ encodings later

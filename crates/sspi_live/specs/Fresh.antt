@@ -1,4 +1,4 @@
--- What holds of an end that was fresh, whoever is at the other side of its channel.
+-- What holds of an end that was fresh, whoever is at the other end of its channel.
 use Rattle.std.specs.Prelude.{◌≡◌, ℕ, ◌≤◌, true, List, [], ◌∷◌, Result, Err, IfOk, OnOk}
 use Rattle.sspi_types.specs.declared.error.Error.{Error}
 use Rattle.sspi_mech.specs.Meaning.{Meaning}

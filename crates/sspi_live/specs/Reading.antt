@@ -1,4 +1,4 @@
--- What reading the next request of an end comes to.
+-- The result of reading the next request of an end.
 use Rattle.std.specs.Prelude.{◌≡◌, ℕ, ◌≤◌, ◌⊎◌, List, [], Option, Result, Ok, Err}
 use Rattle.std.specs.Io.KnownBytes.{Consumes, IsAtEnd}
 use Rattle.sspi_ber.specs.Outside.{Rose}
@@ -11,15 +11,15 @@ use Rattle.sspi_framing.specs.Taking.{IsBad, TakesToFault, TakesWanted}
 use Rattle.sspi_delegate.specs.declared.answer.DelegateError.{DelegateError}
 use Rattle.sspi_delegate.specs.declared.answer.DelegateError.TheVariants as errors
 
--- nothing is left, or what is left begins with no request; and no byte was taken behind those that
--- show it
+-- nothing is left, or what is left does not begin with a request; and no byte was taken after those
+-- that show it
 abbrev pub HasNone : Option (List ℕ) → Option (List ℕ) → WireKind → Type 0
 HasNone before after kind =
     ((kind ≡ kinds.UnexpectedEof) × IsAtEnd after × Consumes before after []) ⊎
     (IsBad before kind × TakesToFault kind before after)
 
--- A request and no byte behind it was taken by this end, or why none was; the counts of the
--- source's faults are those before and now.
+-- This end took a request and no byte after it, or why it took none; the counts of the source's
+-- faults are those before and now.
 abbrev pub Reads : End → Option (List ℕ) → Option (List ℕ) → ℕ → ℕ →
     Result TsRequest DelegateError → Type 0
 Reads to left rest before now (Ok d) = ((text : List ℕ) × IsText text d × Consumes left rest text) ×

@@ -1,4 +1,4 @@
--- Which requests the turns of one end were given, and which messages they made. The turns are the
+-- Which requests the turns of one end were given, and which messages they made. Turns are listed
 -- newest first.
 use Rattle.std.specs.Prelude.{◌≡◌, List, [], ◌∷◌, ◌++◌, Option, None, Some}
 use Rattle.sspi_tsreq.specs.declared.request.TsRequest.{TsRequest}
@@ -18,13 +18,13 @@ BeginsItself [] = Unit {0}
 BeginsItself (t ∷ []) = t.delivered ≡ first_request
 BeginsItself (t ∷ u ∷ past) = BeginsItself (u ∷ past)
 
--- what is read for a turn on this request, behind these: nothing for a client's first
+-- what is read for a turn on this request, after these turns: nothing for a client's first
 abbrev pub read_for : End → List Turn → TsRequest → List TsRequest
 read_for Client [] d = []
 read_for Client (t ∷ past) d = d ∷ []
 read_for Server past d = d ∷ []
 
--- the requests that were read for these turns, in their order
+-- the requests that were read for these turns, in order
 abbrev pub received_by : End → List Turn → List TsRequest
 received_by end [] = []
 received_by end (t ∷ past) = received_by end past ++ read_for end past t.delivered
@@ -33,7 +33,7 @@ abbrev pub one_or_none : Option TsRequest → List TsRequest
 one_or_none None = []
 one_or_none (Some message) = message ∷ []
 
--- the messages of these turns, in their order
+-- the messages of these turns, in order
 abbrev pub messages_in : List Turn → List TsRequest
 messages_in [] = []
 messages_in (t ∷ past) = messages_in past ++ one_or_none (message_of t.outcome)

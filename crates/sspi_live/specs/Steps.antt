@@ -1,4 +1,4 @@
--- What one turn over a channel promises the loop round it.
+-- What one turn over a channel promises the loop around it.
 use Rattle.std.specs.Prelude.{◌≡◌, ◌⊎◌, ℕ, Bool, true, false, List, [], ◌∷◌, Option, None, Some}
 use Rattle.std.specs.Prelude.{Result, Ok, Err}
 use Rattle.std.specs.Io.KnownBytes.{Keeps}
@@ -28,8 +28,8 @@ abbrev pub refusal_by : End → Error → DelegateError
 refusal_by Client error = errors.Client error
 refusal_by Server error = errors.Server error
 
--- The answer to a server's refusal, by what came of telling its client: where there was no memory
--- for that, it is out of memory.
+-- The answer to a server's refusal, by the result of informing its client: if memory ran out for
+-- that, it is out of memory.
 abbrev pub AnswersTold : Error → Result (Unit {0}) DelegateError → DelegateError → Type 0
 AnswersTold error told answer = ((told ≡ Err errors.InsufficientMemory) ×
     (answer ≡ errors.InsufficientMemory))
@@ -40,7 +40,7 @@ abbrev pub newest_is_last : List Turn → Bool
 newest_is_last [] = false
 newest_is_last (t ∷ past) = is_ended t.outcome
 
--- what is read for a turn behind these, unless the request is the client's own
+-- what is read for a turn after these, unless the request is the client's own
 abbrev pub ReadsDue : End → List Turn → Option (List ℕ) → Option (List ℕ) → ℕ → ℕ →
     Result TsRequest DelegateError → Type 0
 ReadsDue Client [] left rest before now (Ok d) = IsOwn Client [] d × Keeps left rest ×
@@ -49,7 +49,7 @@ ReadsDue Client [] left rest before now (Err error) = ⊥
 ReadsDue Client (t ∷ past) left rest before now result = Reads Client left rest before now result
 ReadsDue Server past left rest before now result = Reads Server left rest before now result
 
--- what comes of the newest turn's message, if it has one
+-- what becomes of the newest turn's message, if it has one
 abbrev pub WritesNewest : End → Option TsRequest → Option (List ℕ) → Option (List ℕ) → ℕ → ℕ →
     Result (Unit {0}) DelegateError → Type 0
 WritesNewest from None old new before now (Ok done) = Keeps old new × (now ≡ before)

@@ -1,4 +1,4 @@
--- What writing a message of an end comes to.
+-- The result of writing a message of an end.
 use Rattle.std.specs.Prelude.{◌≡◌, ℕ, ◌≤◌, true, false, List, Option, Result, Ok, Err}
 use Rattle.std.specs.Io.KnownBytes.{Appends, Keeps}
 use Rattle.sspi_ber.specs.Outside.{Rose, WroteFront}

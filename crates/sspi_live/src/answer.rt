@@ -7,7 +7,7 @@ use sspi_credssp::End;
 use sspi_delegate::DelegateError;
 use sspi_types::{Error, ErrorKind};
 
-/// The answer to a refusal of this end: out of memory is no refusal.
+/// The answer to a refusal of this end: out of memory is not a refusal.
 pub(crate) fn refusal_of(end: End, error: Error) -> DelegateError
     ensures { IsAnswerTo error.error_type (refusal_by end error) result }
 {
@@ -20,7 +20,7 @@ pub(crate) fn refusal_of(end: End, error: Error) -> DelegateError
     }
 }
 
-/// The answer of a server that refused, by what came of telling its client.
+/// The answer of a server that refused, by the result of informing its client.
 pub(crate) fn refusal_told(told: Result<(), DelegateError>, error: Error) -> DelegateError
     ensures { AnswersTold error told result }
 {

@@ -26,32 +26,32 @@ use std::alloc::Global;
 /// Delegates the client's credentials over a channel (MS-CSSP 3.1.5): writes its messages and reads
 /// what the server answers, for at most `limit` turns of the client.
 ///
-/// The first turn takes a default request; each other one takes the next request of `source`, and
-/// no byte behind it: what follows on the channel belongs to the next protocol. The message of a
-/// turn is written to `sink`, in one piece, before the next request is read. Where the client's
-/// context asks a KDC, `kdc` is asked and the turn goes on with its reply; a call that fails goes
-/// on as `Reply::Failed`.
+/// The first turn takes a default request; every other one takes the next request of `source`, and
+/// no byte after it: what follows on the channel belongs to the next protocol. The message of a
+/// turn is written to `sink`, in one piece, before the next request is read. If the client's
+/// context asks a KDC, `kdc` is asked and the turn goes on with its reply, or with `Reply::Failed`
+/// if the call fails.
 ///
-/// Ok comes once the last message was written, which has the credentials, and gives how many turns
-/// the client made. What the server makes of that message is not known then. Refused:
+/// Ok is returned once the last message, which has the credentials, was written. It gives the
+/// number of the client's turns. What the server makes of that message is not known then. Errors:
 ///
-/// - `Client`: the client refused its turn, with this error. Nothing tells the server.
-/// - `Read`, of the client: what came is no request. The kind is `UnexpectedEof` where the source
-///   ended, also in front of a request, or a header is at fault, and else `InvalidData`.
-/// - `Write`, of the client: its message has a content past `sspi_ber::MAX_CONTENT`, 1048576
+/// - `Client`: the client refused its turn, with this error. The server is not informed.
+/// - `Read`, of the client: what came is not a request. The kind is `UnexpectedEof` if the source
+///   ended, also before a request, or if a header is at fault, otherwise `InvalidData`.
+/// - `Write`, of the client: the content of its message exceeds `sspi_ber::MAX_CONTENT`, 1048576
 ///   octets. None of it was written.
-/// - `LinkFault`: the source or the sink failed. Of a message that was due a prefix was written,
+/// - `LinkFault`: the source or the sink failed. Of a message that was due, a prefix was written,
 ///   never all of it.
 /// - `TurnsSpent`: the client made `limit` turns, and the message of each was written, but not the
-///   last one of a delegation; at once where `limit` is 0.
-/// - `InsufficientMemory`, that of the client or of the KDC among it; a prefix of a message that
-///   was due may have been written.
+///   last one of a delegation; immediately if `limit` is 0.
+/// - `InsufficientMemory`, also that of the client or of the KDC; a prefix of a message that was
+///   due may have been written.
 ///
-/// `Server` does not come: where the server tells of its refusal, the client refuses its turn. The
-/// transcript lets go of the turns that it held before. Whatever the answer, it then has each turn
-/// that was made, a refused one too, and the client is as its last turn left it. Where there was no
-/// memory for a reply of the KDC, the client waits for it in one further turn, on the request that
-/// was due, which has no record.
+/// `Server` is never returned: if the server reports its refusal, the client refuses its turn. The
+/// transcript drops the turns that it held before. Whatever the answer, it then has every turn that
+/// was made, refused ones too, and the client is as its last turn left it. If memory ran out for a
+/// reply of the KDC, the client has begun one further turn, on the request that was due: it waits
+/// for that reply, and the turn is not recorded.
 pub fn connect<N: Mechanism, K: Mechanism, D: Kdc, S: Source, W: Sink>(
     alloc: Global,
     client: &mut CredSspClient<N, K>,
@@ -92,8 +92,8 @@ pub fn connect<N: Mechanism, K: Mechanism, D: Kdc, S: Source, W: Sink>(
     Err(DelegateError::TurnsSpent)
 }
 
-/// A turn of the client on the request that is due; whether its message was the last one of a
-/// delegation.
+/// A turn of the client on the request that is due; answers whether its message was the last one of
+/// a delegation.
 fn connect_turn<N: Mechanism, K: Mechanism, D: Kdc, S: Source, W: Sink>(
     alloc: Global,
     client: &mut CredSspClient<N, K>,
@@ -135,7 +135,7 @@ fn connect_turn<N: Mechanism, K: Mechanism, D: Kdc, S: Source, W: Sink>(
     }
 }
 
-/// The request of the next turn: the client's first one is its own, each other one is read.
+/// The request of the next turn: the client's first one is its own, any other one is read.
 fn due_request<S: Source>(
     alloc: Global,
     source: &mut S,

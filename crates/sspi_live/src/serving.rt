@@ -25,30 +25,30 @@ use std::alloc::Global;
 /// Takes the client's credentials over a channel (MS-CSSP 3.1.5): reads its requests and writes
 /// what the server answers, for at most `limit` turns of the server.
 ///
-/// Each turn takes the next request of `source`, and no byte behind it: what follows on the channel
+/// Each turn takes the next request of `source`, and no byte after it: what follows on the channel
 /// belongs to the next protocol. Its answer is written to `sink`, in one piece, before the next
 /// request is read.
 ///
-/// Ok gives the identity that the server opened, and how many turns it made; nothing is written for
-/// the last one. Refused:
+/// Ok gives the identity that the server opened, and the number of its turns; nothing is written
+/// for the last one. Errors:
 ///
-/// - `Server`: the server refused its turn, with this error. What tells its client was written
-///   whole, unless it does not fit or the sink failed, whose count of faults rose; that changes no
-///   answer.
-/// - `Read`, of the server: what came is no request. The kind is `UnexpectedEof` where the source
-///   ended, also in front of a request, or a header is at fault, and else `InvalidData`.
-/// - `Write`, of the server: its message has a content past `sspi_ber::MAX_CONTENT`, 1048576
+/// - `Server`: the server refused its turn, with this error. The message to its client was written
+///   whole, unless it does not fit, or the sink failed and its count of faults rose. The answer is
+///   the same in each case.
+/// - `Read`, of the server: what came is not a request. The kind is `UnexpectedEof` if the source
+///   ended, also before a request, or if a header is at fault, otherwise `InvalidData`.
+/// - `Write`, of the server: the content of its message exceeds `sspi_ber::MAX_CONTENT`, 1048576
 ///   octets. None of it was written.
-/// - `LinkFault`: the source or the sink failed. Of a message that was due a prefix was written,
+/// - `LinkFault`: the source or the sink failed. Of a message that was due, a prefix was written,
 ///   never all of it.
 /// - `TurnsSpent`: the server made `limit` turns, each was answered, and none of them ended the
-///   exchange; at once where `limit` is 0. Nothing more is then read.
-/// - `InsufficientMemory`, that of the server among it; a prefix of a message that was due may have
-///   been written. It comes too where there was no memory for what tells the client of a refusal:
-///   that turn is then the newest of the transcript.
+///   exchange; immediately if `limit` is 0. Nothing more is then read.
+/// - `InsufficientMemory`, also that of the server; a prefix of a message that was due may have
+///   been written. It is also the answer if memory ran out for the message that informs the client
+///   of a refusal: that turn is then the newest of the transcript.
 ///
-/// `Client` does not come. The transcript lets go of the turns that it held before. Whatever the
-/// answer, it then has each turn that was made, a refused one too, and the server is as its last
+/// `Client` is never returned. The transcript drops the turns that it held before. Whatever the
+/// answer, it then has every turn that was made, refused ones too, and the server is as its last
 /// turn left it.
 pub fn serve<N: Mechanism, K: Mechanism, C: CredentialsProxy, S: Source, W: Sink>(
     alloc: Global,
@@ -84,7 +84,7 @@ pub fn serve<N: Mechanism, K: Mechanism, C: CredentialsProxy, S: Source, W: Sink
     Err(DelegateError::TurnsSpent)
 }
 
-/// A turn of the server on the next request; the credentials, once it has them.
+/// A turn of the server on the next request; answers the credentials, once it has them.
 fn serve_turn<N: Mechanism, K: Mechanism, C: CredentialsProxy, S: Source, W: Sink>(
     alloc: Global,
     server: &mut CredSspServer<N, K, C>,

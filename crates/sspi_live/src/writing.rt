@@ -12,7 +12,7 @@ use sspi_delegate::{DelegateError, Transcript};
 use sspi_tsreq::TsRequest;
 use std::alloc::Global;
 
-/// Writes the message in one piece, for which it takes memory before a byte is written.
+/// Writes the message in one piece, which is allocated before a byte is written.
 fn write_encoded<W: Sink>(alloc: Global, sink: &mut W, message: &TsRequest) -> Result<(), WireKind>
     ensures wrote { WritesIf (fits message.now) W.written sink.old sink.new result
         (spelled message.now) }

@@ -1,4 +1,4 @@
--- The identity that a server came to over its channel.
+-- The identity that a server got over its channel.
 use Rattle.std.specs.Prelude.{Option, Some, None, Result, Ok, Err}
 use Rattle.sspi_names.specs.declared.identity.AuthIdentity.{AuthIdentity}
 use Rattle.sspi_delegate.specs.declared.answer.Delegation.{Delegation}

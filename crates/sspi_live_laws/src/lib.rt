@@ -1,5 +1,5 @@
-//! What two ends agree on that ran over channels, whoever carried between them. Each law is the
-//! contract of a call that does nothing.
+//! What two ends that ran over channels agree on, whoever carried the bytes between them. Each law
+//! is the contract of a call that does nothing.
 #![tactic(auto)]
 
 ghost use Rattle.std.specs.Prelude.{◌≡◌, ℕ, List, Result, length};
@@ -21,11 +21,11 @@ ghost use Rattle.sspi_play.specs.Agreement.{AgreesIfFaithful};
 use sspi_credssp::CredentialsProxy;
 use sspi_mech::Mechanism;
 
-/// `serve` of a fresh server and `connect` of a fresh client, of the turns of both in whatever
-/// order they were made: if the mechanism is faithful in these turns, the ends agree on key and
-/// nonce, and the identity that `serve` answers is the one that this client sealed. The clauses
-/// `answer`, `history` and `fresh` of both calls are the premises, and that the nonce of a client
-/// has 32 bytes.
+/// A fresh server ran `serve` and a fresh client `connect`, and the turns of both are in any order.
+/// If the mechanism is faithful in these turns, the ends agree on key and nonce; and the identity
+/// that `serve` answers is the one that this client sealed. The premises are the clauses `answer`,
+/// `history` and `fresh` of `serve`; the client's run, which the clause `fresh` of `connect` gives;
+/// and that the client's nonce has 32 bytes.
 pub fn two_ends_agree<N: Mechanism, K: Mechanism, C: CredentialsProxy>()
     ensures { let c = either N.REQUESTS N.meaning K.meaning in
         (server server2 : ServerView (SspiContext N K) C) (limit : ℕ) (before after : Channel) →

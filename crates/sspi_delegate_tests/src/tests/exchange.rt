@@ -45,7 +45,7 @@ fn mixed_messages() -> [&'static str; 4] {
     ]
 }
 
-/// What two ends are made of, and what their link does.
+/// What two ends are made from, and what their link does.
 #[derive(Clone, Copy)]
 struct Setting {
     /// The user's name is this text, repeated.
@@ -62,7 +62,7 @@ struct Setting {
     piece: usize,
 }
 
-/// What an exchange is to answer.
+/// What an exchange must answer.
 #[derive(Clone, Copy)]
 enum Wanted {
     /// The credentials of `DOM\ann`, after this many turns of the client.
@@ -73,7 +73,7 @@ enum Wanted {
     Other(DelegateError),
 }
 
-/// An exchange, and what it comes to.
+/// An exchange, and its result.
 #[derive(Clone, Copy)]
 struct Row {
     setting: Setting,
@@ -82,11 +82,11 @@ struct Row {
     turns: usize,
     /// How many of the messages are in the log.
     sent: usize,
-    /// How many bytes were delivered of the last one.
+    /// How many bytes of the last one were delivered.
     delivered: usize,
 }
 
-/// What came of an exchange, but for its log.
+/// The result of an exchange, except for its log.
 #[derive(Drop)]
 struct Exchanged {
     answer: Result<Delegation, DelegateError>,
@@ -164,7 +164,7 @@ fn memory_link(alloc: Global, setting: &Setting) -> Result<MemoryLink, AllocErro
     Ok(link)
 }
 
-/// Both, where there are both. Generic, since to drop a value of a type parameter is one step.
+/// Both, if there are both. Generic, since dropping a value of a type parameter is one step.
 fn both<A: Drop, B>(first: A, second: Result<B, Error>) -> Result<(A, B), Error> {
     match second {
         Ok(second) => Ok((first, second)),
@@ -195,7 +195,7 @@ fn carry<N: Mechanism, K: Mechanism, C: CredentialsProxy, L: Link>(
     }
 }
 
-/// Lends both and drops them then. Generic, since to drop a value of a type parameter is one step.
+/// Lends both, then drops them. Generic, since dropping a value of a type parameter is one step.
 fn between<A: Drop, B: Drop, R, F: FnOnce(&mut A, &mut B) -> R>(first: A, second: B, act: F) -> R
     requires { F.IsAlwaysCallable act }
 {
@@ -417,7 +417,7 @@ fn an_altered_proof_is_told_to_the_client(rt: HostRuntime) {
 }
 
 /// The server tells its client that its version is too old, and the client's own least version is
-/// not asked.
+/// not consulted.
 #[test]
 fn an_old_client_is_told_so(rt: HostRuntime) {
     let setting = Setting {

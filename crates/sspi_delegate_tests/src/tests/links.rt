@@ -7,7 +7,7 @@ use sspi_types::Bytes;
 use std::alloc::{AllocError, Global};
 use std::process::Abort;
 
-/// What was made. Generic, since to drop a value of a type parameter is one step.
+/// What was made. Generic, since dropping a value of a type parameter is one step.
 pub fn given<T, E: Drop>(rt: &impl Abort, made: Result<T, E>) -> T {
     match made {
         Ok(value) => value,
@@ -130,7 +130,7 @@ fn edits_change_what_is_delivered(rt: HostRuntime) {
     }
 }
 
-/// The lengths of the pieces in which `abc` comes where four bytes are asked for at once.
+/// The lengths of the pieces in which `abc` comes when four bytes are asked for at once.
 fn piece_lengths(link: &mut MemoryLink) -> [usize; 4] {
     let mut lengths = [9; 4];
     if link.carry(End::Client, b"abc").is_ok() {
@@ -163,7 +163,7 @@ fn carry_or_keep(link: &mut MemoryLink, from: End, sent: &[u8]) -> Result<(), Li
     link.carry(from, sent)
 }
 
-/// Hands out the next bytes. Each refusal leaves a link in memory as it was.
+/// Reads the next bytes. Each refusal leaves a link in memory as it was.
 fn piece_or_keep(link: &mut MemoryLink, into: &mut [u8]) -> Result<usize, LinkError>
     ensures { OnErr result (link.new ≡ link.old) }
 {
@@ -194,7 +194,7 @@ fn an_edit_fails_the_carry(rt: HostRuntime) {
     }
 }
 
-/// Hands back what it was sent.
+/// Returns what it was sent.
 #[derive(Drop)]
 pub struct Echo {
     text: Bytes,

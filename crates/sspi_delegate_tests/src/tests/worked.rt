@@ -1,4 +1,4 @@
-//! Ends that are made to match do, and their exchange ends well where there is memory.
+//! Ends that are made to match do match, and their exchange succeeds if there is memory.
 
 use sspi_completeness::worked::{
     Exchanged, by_ntlm, by_ntlm_of_old, given_up_for_ntlm, negotiated_at_version_4,
@@ -8,7 +8,7 @@ use sspi_delegate::DelegateError;
 use std::alloc::AllocError;
 use std::process::Abort;
 
-/// It took this many messages of the client, and this is who was delegated, with which password.
+/// It took this many messages of the client, and this user was delegated, with this password.
 fn comes_to<C: Drop, S: Drop>(
     rt: &impl Abort,
     made: Result<Exchanged<C, S>, AllocError>,

@@ -12,7 +12,7 @@ use sspi_types::{ErrorKind, NStatusCode};
 use std::alloc::Global;
 use std::process::Abort;
 
-/// What was written is the first so many messages of the client.
+/// What was written is the first `count` messages of the client.
 fn wrote(rt: &impl Abort, alloc: Global, messages: &[&str], written: &[u8], count: usize) {
     let wanted = given(rt, bytes(alloc, messages, count, b""));
     assert!(rt; written == wanted.as_slice());
@@ -28,7 +28,7 @@ fn in_pieces(rt: &impl Abort, alloc: Global, most: usize, behind: &[u8]) {
     wrote(rt, alloc, PLAIN.client, sink.written(), 3);
 }
 
-/// A server that refuses says so behind the last message: it is not read.
+/// A server that refuses says so after the last message: that is not read.
 #[test]
 fn pieces_and_what_is_behind(rt: HostRuntime) {
     for most in [1usize, 2, 7, 4096] {
@@ -43,7 +43,7 @@ fn pieces_and_what_is_behind(rt: HostRuntime) {
     }
 }
 
-/// The server tells its refusal by a code, which is the client's own error then.
+/// The server reports its refusal by a code, which then is the client's own error.
 #[test]
 fn a_refusal_is_heard(rt: HostRuntime) {
     let alloc = rt.alloc();
@@ -56,7 +56,7 @@ fn a_refusal_is_heard(rt: HostRuntime) {
     wrote(&rt, alloc, MIXED.client, sink.written(), 2);
 }
 
-/// The stream ends after so many bytes.
+/// The stream ends after `len` bytes.
 fn cut(rt: &impl Abort, alloc: Global, sent: &[u8], len: usize) {
     let (front, _) = sent.split_at(len.min(sent.len()));
     let mut source = SliceSource::new(front);
@@ -81,7 +81,7 @@ fn streams_that_end(rt: HostRuntime) {
     }
 }
 
-/// The call of this number fails; each of the two requests takes three.
+/// The call with this number fails; each of the two requests takes three.
 fn failing_source(rt: &impl Abort, alloc: Global, sent: &[u8], call: u64)
     requires { call < 10 }
 {
@@ -102,7 +102,7 @@ fn sources_that_fail(rt: HostRuntime) {
     }
 }
 
-/// The write of this number fails; each message takes one.
+/// The write with this number fails; each message takes one.
 fn failing_sink(rt: &impl Abort, alloc: Global, sent: &[u8], call: u64)
     requires { call < 10 }
 {
@@ -123,7 +123,7 @@ fn sinks_that_fail(rt: HostRuntime) {
     }
 }
 
-/// So many turns are allowed.
+/// At most `limit` turns are allowed.
 fn limited(rt: &impl Abort, alloc: Global, sent: &[u8], limit: u32) {
     let mut source = SliceSource::new(sent);
     let mut sink = VecSink::new(alloc);

@@ -2,7 +2,7 @@
 
 use sspi_ber::{SliceSource, Source, SourceError};
 
-/// A source over bytes in memory, each call of which gives at most so many.
+/// A source over bytes in memory, each call of which gives at most `most` bytes.
 #[derive(Drop)]
 pub struct Pieces<'a> {
     pub source: SliceSource<'a>,

@@ -1,4 +1,4 @@
-//! Both ends over two pipes of memory, by turns: where the client reads and nothing is there, its
+//! Both ends over two pipes in memory, taking turns: if the client reads and nothing is there, its
 //! server makes a turn.
 
 use crate::tests::recorded::PLAIN;
@@ -13,7 +13,7 @@ use std::alloc::Global;
 use std::cell::Cell;
 use std::rc::Rc;
 
-/// What was written and not taken yet.
+/// What was written and not yet taken.
 #[derive(Drop)]
 struct Pipe {
     alloc: Global,
@@ -44,7 +44,7 @@ impl Sink for Pipe {
     }
 }
 
-/// What its server wrote; where all of that was read, the server makes a turn first.
+/// What its server wrote; if all of that was read, the server makes a turn first.
 #[derive(Drop)]
 struct AtHand<N: Mechanism, K: Mechanism, C: CredentialsProxy> {
     pipe: Pipe,
@@ -85,7 +85,7 @@ impl<N: Mechanism, K: Mechanism, C: CredentialsProxy> Source for AtHand<N, K, C>
     }
 }
 
-/// What the client came to, and its server with the client's last message.
+/// The result of the client, and that of its server with the client's last message.
 #[derive(Drop)]
 struct Both {
     client: Came<u32>,

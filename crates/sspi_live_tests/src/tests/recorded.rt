@@ -2,7 +2,7 @@
 
 use std::alloc::{AllocError, Global};
 
-/// What an exchange's ends are, and what each of them sent, in its order.
+/// What an exchange's ends are, and what each of them sent, in order.
 #[derive(Clone, Copy)]
 pub struct Recorded {
     /// The bytes of the key are the numbers from the first to before the second, modulo 251.
@@ -54,7 +54,7 @@ pub const MIXED: Recorded = Recorded {
     ],
 };
 
-/// The bytes of the first so many messages, and then some that belong to none.
+/// The bytes of the first `count` messages, then some that belong to none.
 pub fn bytes(
     alloc: Global,
     messages: &[&str],
@@ -86,7 +86,7 @@ fn push_hex(all: &mut Vec<u8>, text: &str) -> Result<(), AllocError> {
     Ok(())
 }
 
-/// How many of these messages stand whole in so many bytes.
+/// How many of these messages are whole within the first `len` bytes.
 pub fn whole(messages: &[&str], len: usize) -> usize {
     let mut left = len;
     for (count, text) in messages.iter().enumerate() {

@@ -20,7 +20,7 @@ const BEHIND: [&[u8]; 4] = [
     b"\x03\0\0\x13",
 ];
 
-/// What was written is the first so many messages of the server.
+/// What was written is the first `count` messages of the server.
 fn wrote(rt: &impl Abort, alloc: Global, recorded: &Recorded, written: &[u8], count: usize) {
     let wanted = given(rt, bytes(alloc, recorded.server, count, b""));
     assert!(rt; written == wanted.as_slice());
@@ -64,7 +64,7 @@ fn a_refusal_is_told(rt: HostRuntime) {
     }
 }
 
-/// The stream ends after so many bytes.
+/// The stream ends after `len` bytes.
 fn cut(rt: &impl Abort, alloc: Global, sent: &[u8], len: usize) {
     let (front, _) = sent.split_at(len.min(sent.len()));
     let mut source = SliceSource::new(front);
@@ -90,8 +90,8 @@ fn streams_that_end(rt: HostRuntime) {
     }
 }
 
-/// The call of this number fails. The requests take three, four and three calls, one for each byte
-/// of a header and one for the rest.
+/// The call with this number fails. The requests take three, four and three calls, one for each
+/// byte of a header and one for the rest.
 fn failing_source(rt: &impl Abort, alloc: Global, sent: &[u8], call: u64)
     requires { call < 10 }
 {
@@ -117,7 +117,7 @@ fn sources_that_fail(rt: HostRuntime) {
     }
 }
 
-/// The write of this number fails; each message takes one.
+/// The write with this number fails; each message takes one.
 fn failing_sink(rt: &impl Abort, alloc: Global, recorded: &Recorded, call: u64) -> FaultySink
     requires { call < 10 }
 {
@@ -145,7 +145,7 @@ fn sinks_that_fail(rt: HostRuntime) {
     }
 }
 
-/// So many turns are allowed.
+/// At most `limit` turns are allowed.
 fn limited(rt: &impl Abort, alloc: Global, sent: &[u8], limit: u32) {
     let mut source = SliceSource::new(sent);
     let mut sink = VecSink::new(alloc);
@@ -170,7 +170,7 @@ fn few_turns(rt: HostRuntime) {
     }
 }
 
-/// A whole element that is no request: its version is missing.
+/// A whole element that is not a request: its version is missing.
 #[test]
 fn no_request(rt: HostRuntime) {
     let mut source = SliceSource::new(b"\x30\x02\x05\0\x30");

@@ -14,7 +14,7 @@ use sspi_types::{Error, ErrorKind, NStatusCode, Secret, Text};
 use std::alloc::{AllocError, Global};
 use std::process::Abort;
 
-/// What was made. Generic, since to drop a value of a type parameter is one step.
+/// What was made. Generic, since dropping a value of a type parameter is one step.
 pub fn given<T, E: Drop>(rt: &impl Abort, made: Result<T, E>) -> T {
     match made {
         Ok(value) => value,
@@ -22,7 +22,7 @@ pub fn given<T, E: Drop>(rt: &impl Abort, made: Result<T, E>) -> T {
     }
 }
 
-/// Lends the value and drops it then. Generic, since to drop a value of a type parameter is one
+/// Lends the value, then drops it. Generic, since dropping a value of a type parameter is one
 /// step.
 pub fn lend<A: Drop, R, F: FnOnce(&mut A) -> R>(value: A, act: F) -> R
     requires { F.IsAlwaysCallable act }
@@ -31,7 +31,7 @@ pub fn lend<A: Drop, R, F: FnOnce(&mut A) -> R>(value: A, act: F) -> R
     act(&mut value)
 }
 
-/// Lends both and drops them then. Generic for the same reason.
+/// Lends both, then drops them. Generic for the same reason.
 pub fn between<A: Drop, B: Drop, R, F: FnOnce(&mut A, &mut B) -> R>(
     first: A,
     second: B,
@@ -96,7 +96,7 @@ pub fn server_of(
     Ok(server.with_least_version(recorded.least))
 }
 
-/// What came of one end, and how many turns it made.
+/// The result of one end, and the number of its turns.
 #[derive(Drop)]
 pub struct Came<T> {
     pub answer: Result<T, DelegateError>,
@@ -170,7 +170,7 @@ pub fn connected<S: Source, W: Sink>(
     )
 }
 
-/// The credentials of `DOM\ann` came, in so many turns.
+/// The credentials of `DOM\ann` came, in this many turns.
 pub fn delegates(rt: &impl Abort, came: &Came<Delegation>, turns: usize) {
     assert_eq!(rt; came.turns, turns);
     match &came.answer {
@@ -192,7 +192,7 @@ pub fn sends_all(rt: &impl Abort, came: &Came<u32>) {
     }
 }
 
-/// This error came, after so many turns.
+/// This error came, after this many turns.
 pub fn stops<T>(rt: &impl Abort, came: &Came<T>, turns: usize, wanted: DelegateError) {
     assert_eq!(rt; came.turns, turns);
     match &came.answer {

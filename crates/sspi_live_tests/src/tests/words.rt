@@ -1,5 +1,5 @@
-//! One end of a scenario over a channel, with the early result behind its delegation, and the line
-//! that says what it came to.
+//! One end of a scenario over a channel, with the early result after its delegation, and the line
+//! that gives its result.
 
 use crate::tests::recorded::{MIXED, PLAIN, bytes};
 use crate::tests::stage::given;
@@ -25,7 +25,7 @@ const CONNECT: &str = "mode ntlm\nuser DOM\\ann\npassword pw\nkey 010203\n\
 const SERVE_MIXED: &str =
     "mode ntlm\nuser DOM\\ann\npassword pw\nkey 010203\nchallenge 0000000000000000\nserver-least 4\n";
 
-/// What an end came to: its exit status and its line.
+/// The result of an end: its exit status and its line.
 #[derive(Drop)]
 struct Told {
     status: u8,
@@ -57,8 +57,8 @@ fn is(rt: &impl Abort, came: &Told, status: u8, line: &str) {
     assert!(rt; came.line.as_slice() == line.as_bytes());
 }
 
-/// A server with these lines more takes the recorded messages and what is behind them; what it
-/// writes, and what it leaves.
+/// A server with these further lines takes the recorded messages and what follows them; checks what
+/// it writes, and what it leaves.
 fn serves(rt: &impl Abort, alloc: Global, more: &str, written: &[u8], status: u8, line: &str) {
     let sent = given(rt, bytes(alloc, PLAIN.client, 3, b"\x03\0"));
     let mut source = Counted::new(SliceSource::new(&sent));
@@ -100,8 +100,8 @@ fn a_server_tells_whom_it_admits(rt: HostRuntime) {
     );
 }
 
-/// A client with these lines more takes the recorded answers and these octets; how many of them it
-/// leaves.
+/// A client with these further lines takes the recorded answers and these octets; checks how many
+/// of them it leaves.
 fn connects(
     rt: &impl Abort,
     alloc: Global,
@@ -170,7 +170,7 @@ fn a_client_hears_the_early_result(rt: HostRuntime) {
     );
 }
 
-/// A text that is no scenario for the end touches nothing.
+/// A text that is not a scenario for the end touches nothing.
 fn refused(rt: &impl Abort, alloc: Global, end: End, lines: [&str; 2], line: &str) {
     let mut source = Counted::new(SliceSource::new(b"\x30"));
     let mut sink = Counted::new(VecSink::new(alloc));
@@ -237,8 +237,7 @@ fn a_server_that_refuses_says_why(rt: HostRuntime) {
     is(&rt, &came, 1, "server MessageAltered\n");
 }
 
-/// A call of the channel that fails: in a read, in a write, and where the early result is heard or
-/// told.
+/// A call of the channel that fails: in a read, in a write, and in the write of the early result.
 #[test]
 fn channels_that_fail(rt: HostRuntime) {
     let alloc = rt.alloc();
@@ -264,7 +263,7 @@ fn channels_that_fail(rt: HostRuntime) {
     }
 }
 
-/// The calls of a client's source: six for two requests, and then the octets of the early result.
+/// The calls of a client's source: six for two requests, then the octets of the early result.
 #[test]
 fn an_early_result_that_cannot_be_read(rt: HostRuntime) {
     let alloc = rt.alloc();
@@ -283,7 +282,7 @@ fn an_early_result_that_cannot_be_read(rt: HostRuntime) {
     assert_eq!(&rt; source.faults, 1);
 }
 
-/// A file that fails at this call, or not at all, and what its end comes to.
+/// A file that fails at this call, or not at all, and the result of its end.
 fn by_file(rt: &impl Abort, alloc: Global, call: u64, left: usize, status: u8, line: &str) {
     let sent = given(rt, bytes(alloc, PLAIN.client, 3, b""));
     let mut file = FaultySource::new(SERVE.as_bytes(), call);
@@ -323,8 +322,8 @@ fn ends_without_a_text(rt: HostRuntime) {
     assert!(&rt; told.written() == b"error: read\nearly read InvalidData\n".as_slice());
 }
 
-/// A name is its peer's: what would make a line of its own is told by number. Nothing of the
-/// password stands in the line.
+/// A name comes from the peer: what would begin a new line is written as a number. Nothing of the
+/// password is in the line.
 #[test]
 fn a_name_stays_on_its_line(rt: HostRuntime) {
     let alloc = rt.alloc();
@@ -345,7 +344,7 @@ fn a_name_stays_on_its_line(rt: HostRuntime) {
     assert!(&rt; line.as_slice() == wanted.as_bytes());
 }
 
-/// The end that these words ask for, and how long the name of its file is.
+/// The end that these words ask for, and the length of its file's name.
 fn asked(rt: &impl Abort, alloc: Global, word: &str, file: &str) -> Option<(End, usize)> {
     let mut words = Vec::new(alloc);
     given(rt, words.push(given(rt, String::from_str(alloc, word))));

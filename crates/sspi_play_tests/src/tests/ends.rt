@@ -15,7 +15,7 @@ pub trait Test: Abort + Alloc<A = Global> {}
 
 impl<R: Abort + Alloc<A = Global>> Test for R {}
 
-/// The value of a call that is not to be refused.
+/// The value of a call that must not be refused.
 pub fn given<T, E: Drop>(rt: &impl Abort, answer: Result<T, E>) -> T {
     match answer {
         Ok(value) => value,
@@ -23,8 +23,8 @@ pub fn given<T, E: Drop>(rt: &impl Abort, answer: Result<T, E>) -> T {
     }
 }
 
-/// Lends a value, and drops it then. Generic, since to drop a value of a type parameter is one step
-/// of a proof, and to drop an end is many.
+/// Lends a value, then drops it. Generic, since dropping a value of a type parameter is one step of
+/// a proof, and dropping an end is many.
 pub fn lend<A: Drop, R, F: FnOnce(&mut A) -> R>(value: A, act: F) -> R
     requires { F.IsAlwaysCallable act }
 {
@@ -145,7 +145,7 @@ pub fn server(
     CredSspServer::new(rt.alloc(), key, proxy, mode)
 }
 
-/// The turns that these words make, by which the ends come to stand so.
+/// The turns that these words make, which leave the ends in these states.
 pub fn turns_of(
     rt: &impl Test,
     client: &mut CredSspClient<Ntlm, Ntlm>,
@@ -170,8 +170,8 @@ pub fn turns_of(
 
 const ANN: Account = ("DOM\\ann", "pw");
 
-/// How the ends stand after a play, by the server's key, the words for the deliveries and the ends
-/// of the turns.
+/// Checks the states of the ends after a play, by the server's key, the words for the deliveries
+/// and the ends of the turns.
 pub fn comes_to(
     rt: &impl Test,
     digits: &str,
@@ -187,7 +187,7 @@ pub fn comes_to(
     assert!(rt; made_by(transcript.turns(), turns), "{words}");
 }
 
-/// Whether the turns are those of these ends, in their order.
+/// Whether the turns are those of these ends, in order.
 pub fn made_by(turns: &[Turn], ends: &str) -> bool {
     let ends = if ends == "-" {
         [].as_slice()
@@ -201,7 +201,7 @@ pub fn made_by(turns: &[Turn], ends: &str) -> bool {
             .all(|(turn, end)| (turn.end == End::Client) == (*end == b'c'))
 }
 
-/// That a play came to this.
+/// Checks that a play had this result.
 fn stands(
     rt: &impl Abort,
     played: Result<Played, DelegateError>,

@@ -28,7 +28,7 @@ s:308190a003020106a2650463867716124342cfd5d01da6fa98840c6f3051a003020101a14a0448
 0000000000000000000000000000000000000000000000000000000000000000
 ";
 
-/// The same until the client's MIC, where the server is offered one mechanism more than the client
+/// The same up to the client's MIC, but the server is offered one mechanism more than the client
 /// offered.
 const LONGER_OFFER: &str = "
 c:
@@ -54,8 +54,8 @@ fn mode(rt: &impl Test) -> NegotiateConfig {
     NegotiateConfig::new(protocol, None, computer, KdcTable::new(rt.alloc()))
 }
 
-/// The turns of these words, after which the server stands so and has opened an identity of this
-/// name.
+/// The turns of these words, after which the server is in this state and has opened an identity of
+/// this name.
 fn negotiates(
     rt: &impl Test,
     words: &str,
@@ -76,7 +76,7 @@ fn exchange(rt: &impl Test) -> Transcript {
     transcript
 }
 
-/// What stands before and behind a mark.
+/// The text before and after a mark.
 fn halves<'a>(rt: &impl Abort, text: &'a str, mark: char) -> (&'a str, &'a str) {
     match text.split_once(mark) {
         Some(parts) => parts,
@@ -86,7 +86,7 @@ fn halves<'a>(rt: &impl Abort, text: &'a str, mark: char) -> (&'a str, &'a str) 
 
 // ---- the texts
 
-/// The text that a turn opened and the one that it sealed, or `-`, a line a turn.
+/// The text that a turn opened and the one that it sealed, or `-`, one line per turn.
 const TEXTS: &str = "
 - -
 - -
@@ -118,7 +118,7 @@ fn sealed(turn: &Turn) -> Option<&Bytes> {
     }
 }
 
-/// That this text stands behind the blob's tag, or that there is no blob.
+/// Checks that this text follows the blob's tag, or that there is no blob.
 fn is_behind_tag(rt: &impl Test, blob: Option<&Bytes>, text: &str) {
     match blob {
         Some(blob) => {
@@ -142,7 +142,7 @@ fn texts(rt: &impl Test, turns: &[Turn]) {
     }
 }
 
-/// Each text that an end opens its peer had sealed in the turn before.
+/// Each text that an end opens was sealed by its peer in the turn before.
 #[test]
 fn each_text_was_sealed_before(rt: HostRuntime) {
     let transcript = exchange(&rt);
@@ -151,8 +151,8 @@ fn each_text_was_sealed_before(rt: HostRuntime) {
 
 // ---- the MICs
 
-/// The last octets of each token, a line a turn: the offer and its answer without a MIC, and the
-/// MIC of each end. Then come no tokens.
+/// The last octets of each token, one line per turn: the offer and its answer without a MIC, and
+/// the MIC of each end. The turns after these have no tokens.
 const TOKENS: &str = r"
 a00e300c060a2b06010401823702020aa20404024e31
 a20c040a4e320000000000000000
@@ -209,7 +209,7 @@ fn another_list_is_refused(rt: HostRuntime) {
 // ---- the hashes
 
 /// An end's label, the nonce, and the hash of both and the key. The server's first two turns are
-/// handed no nonce.
+/// given no nonce.
 const HASHES: &str = "
 CredSSP Client-To-Server Binding Hash|0000000000000000000000000000000000000000000000000000000000000000|57f88c6173ea7\
 461fac10d490730c714bdac8550b6679d73945e037ddf2e8518
@@ -241,7 +241,7 @@ fn hashes(rt: &impl Test) {
     }
 }
 
-/// The text that this turn sealed is the hash of that line.
+/// The text that this turn sealed is the hash in that line.
 fn seals_hash(rt: &impl Test, turn: &Turn, line: usize) {
     let fields = HASHES.trim().lines().nth(line).unwrap_or("");
     let (_, rest) = halves(rt, fields, '|');
@@ -260,7 +260,7 @@ fn proofs_are_hashes(rt: &impl Test, turns: &[Turn]) {
     }
 }
 
-/// No two of the texts that are hashed in the exchange have one hash, and both proofs are among
+/// No two of the texts that are hashed in the exchange have the same hash; both proofs are among
 /// these hashes.
 #[test]
 fn no_two_texts_have_one_hash(rt: HostRuntime) {

@@ -1,6 +1,6 @@
-//! One line a play: the deliveries, the end of each turn that is made or `-` for none, how the
-//! client and the server stand, and whether the server opened an identity. The server's key is that
-//! of the client, unless a test says otherwise.
+//! One line per play: the deliveries; the end of each turn that is made, or `-` for none; the
+//! states of the client and the server; and whether the server opened an identity. The server's
+//! key is that of the client, unless a test says otherwise.
 
 use crate::tests::ends::{Test, comes_to};
 use sspi_ber::WireKind;
@@ -29,14 +29,14 @@ fn identity(rt: &impl Test, word: &str) -> Option<&'static str> {
     }
 }
 
-/// How the ends stand, in three words.
+/// The states of the ends, in three words.
 fn standing(rt: &impl Test, words: &str) -> (Ending, Ending, Option<&'static str>) {
     let (client, rest) = halves(rt, words, " ");
     let (server, name) = halves(rt, rest, " ");
     (ending(rt, client), ending(rt, server), identity(rt, name))
 }
 
-/// What stands before and behind a mark.
+/// The text before and after a mark.
 fn halves<'a>(rt: &impl Test, text: &'a str, mark: &str) -> (&'a str, &'a str) {
     match text.split_once(mark) {
         Some(parts) => parts,
@@ -65,9 +65,8 @@ fn exchanges(rt: HostRuntime) {
     plays(&rt, "010203", EXCHANGES);
 }
 
-/// Messages that are repeated, reflected, put in another order or left out. The challenge is one of
-/// zeros, so what an earlier session sent is taken again: the plain mechanism is not faithful
-/// there.
+/// Messages that are repeated, reflected, reordered or left out. The challenge is all zeros, so
+/// what an earlier session sent is accepted again: the plain mechanism is not faithful there.
 const REORDERED: &str = r"
 c: s:1 s:1 = css running token -
 c: s:1 c:2 s:3 c:3 = cscsc altered running -
@@ -84,7 +83,7 @@ fn reordered(rt: HostRuntime) {
     plays(&rt, "010203", REORDERED);
 }
 
-/// Messages that the attacker made. What comes after a refusal, or after what is no request, is
+/// Messages that the attacker made. What comes after a refusal, or after what is not a request, is
 /// passed over.
 const INVENTED: &str = r"
 s:3005a003020104 c:3005a003020106 c:3005a003020104 = scc old old -
@@ -103,7 +102,7 @@ fn invented(rt: HostRuntime) {
 }
 
 /// Messages of another session of the same user, with another nonce: the server answers its proof,
-/// but this client takes no answer to another nonce, and never seals.
+/// but this client accepts no answer to another nonce, and never seals.
 const CROSSED: &str = r"
 c: s:1 c:2 s:3n c:4n = cscsc altered running -
 c: s:1 c:2 s:3 c:4n = cscsc altered running -
@@ -116,8 +115,8 @@ fn two_sessions_crossed(rt: HostRuntime) {
 }
 
 /// A relay with a key of its own to each end: the server refuses the client's proof, and the client
-/// takes no proof of the other key, which the server owes to another client. So the client never
-/// seals.
+/// accepts no proof of the other key, which the server makes for another client. So the client
+/// never seals.
 const RELAYED: &str = r"
 c: s:1 c:2 s:3 = cscs running altered -
 c: s:1 c:2 s:3k c:4k = cscsc altered running -
