@@ -35,8 +35,8 @@ use Rattle.sspi_delegate.specs.Chain.{server_stage, ServerChain}
 use Rattle.sspi_delegate.specs.History.{ClientPast, ServerPast, RefusedBy, KdcStays, ProxyStays}
 use Rattle.sspi_delegate.specs.Link.{StaysTold, AnswerTold}
 
--- ---- A turn is refused for its peer's old version where it would pin that: a client's second, as
--- its first request is its own, or a server's first. A context may refuse so; a plain one never.
+-- ---- A turn that would pin its peer's version is refused if that is too old: a client's second,
+-- as its first request is its own, or a server's first. A context may refuse so; a plain one never.
 
 abbrev pub IsDowngrade : Outcome → Type 0
 IsDowngrade (outcome.Refused kind reply) = kind ≡ DowngradeDetected

@@ -96,9 +96,8 @@ HadMemory (Ok done) = Unit {0}
 HadMemory (Err errors.InsufficientMemory) = ⊥
 HadMemory (Err error) = Unit {0}
 
--- The newest turn was refused with this kind. A server informed its client: the message was written
--- whole, or it does not fit, or the sink failed and its count of faults rose. A client informs no
--- one.
+-- The newest turn was refused with this kind. A server's message on it was written whole, or does
+-- not fit, or the sink failed and its count of faults rose. A client informs no one.
 abbrev pub Refuses : End → ErrorKind → List Turn → Channel → Channel → Type 0
 Refuses Client kind turns before after = NewestIs Client (IsClientRefusal kind) turns ×
     IsTurned Client turns before after

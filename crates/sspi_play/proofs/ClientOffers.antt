@@ -158,7 +158,7 @@ module _ {N K : Type 0} (r q : ℕ) (n : Meaning Setting N) (k : Meaning Setting
       first_next (Ask request) at f shown marks h = still_next (f.0 ∙ h.role) (f.2 at) marks h
       first_next (Refused error) at f shown marks h = shown
 
-    -- a refusal left the list alone, even one because memory ran out
+    -- a refusal left the list alone, even one for lack of memory
     refusal_shows : s2.list ≡ s.list → (is_marked ((hand n k).counts s2.mech) ≡ true → Has s.list) → ShowsOffer n k Has s2
     refusal_shows same has = record { marked = λ marked. subst Has (sym same) (has marked) }
 

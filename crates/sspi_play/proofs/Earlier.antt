@@ -86,7 +86,7 @@ pub state_is_auth : (ended proved : Bool) → ended ≡ false → proved ≡ tru
     (if ended then Final else (if proved then AuthInfo else NegoToken)) ≡ AuthInfo
 state_is_auth ended proved un was = rw (un, was) refl
 
--- a list is a first part of itself, and an empty one of any list
+-- a list is a first part of itself, and an empty list is one of any list
 pub first_none : (texts all : List (List ℕ)) → texts ≡ [] → AreFirstOf texts all
 first_none texts all none = (all, rw none (sym (append-nil all)))
 

@@ -52,7 +52,7 @@ unread_own : (end : End) (d : Delivery) (past : List Delivery) → d.to ≡ end 
     unread_for end d past ≡ unread_kind (is_start end past) d.bytes
 unread_own end d past to = rw (to, for_itself end) refl
 
--- a delivery to an end that runs leaves it so, unless it is no request
+-- a delivery to an end that runs leaves it running, unless it is not a request
 pub still_runs : (end : End) (d : Delivery) (past : List Delivery) (turns : List Turn) → d.to ≡ end → ending_of end past turns ≡ Running →
     unread_kind (is_start end past) d.bytes ≡ None → ending_of end (d ∷ past) turns ≡ Running
 still_runs end d past turns to runs read =

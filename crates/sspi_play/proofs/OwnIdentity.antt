@@ -1,4 +1,4 @@
--- The identity read from a delegated text: the client's, or an empty one if it keeps credentials.
+-- The identity read from a delegated text: the client's, or empty if it keeps its credentials.
 use Rattle.std.proofs.Common.{◌≡◌, ℕ, List, [], Some, Ok, refl, ap, sym, ◌∙◌}
 use Rattle.std.proofs.lemmas.Str.{IsUtf8-nil, chars-nil}
 use Rattle.sspi_names.specs.declared.credentials.Credentials.{Credentials}

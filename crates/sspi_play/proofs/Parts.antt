@@ -105,7 +105,7 @@ server_noted_later least [] rest version is = is
 server_noted_later least (x ∷ later) rest version is =
     server_noted_onto least x.end x (server_turns (later ++ rest)) version (server_noted_later least later rest version is)
 
--- and is at least the least version that the end takes
+-- and is at least the least version that the end accepts
 noted_least : (least v version : ℕ) (old : Bool) → nat_lt v least ≡ old → (if old then None else Some v) ≡ Some version →
     nat_lt version least ≡ false
 noted_least least v version true is e = absurd (cc (e))

@@ -29,7 +29,7 @@ use Rattle.sspi_negotiate.proofs.ServerLeads.{IsNeedOf, ServerCases, server_lead
 use Rattle.sspi_play.specs.Negotiated.{NeedsMic, first_of, protocol_of}
 use Rattle.sspi_play.proofs.Picking.{taken_is}
 
--- MICs are needed, if the selected mechanism calls for them
+-- MICs are needed if the selected mechanism calls for them
 abbrev pub AreNeeded : Values → Type 0
 AreNeeded v = NeedsMic v.hand v.list → v.need ≡ true
 

@@ -29,8 +29,7 @@ pub record TurnOf (turns : List Turn) : Type 0 where
 
 -- ---- the premises
 
--- no hash, which has 32 octets, is taken for the echo of a key, with which a peer below version 5
--- proves
+-- no hash (32 octets) is taken for the echo of a key, which a peer below version 5 proves with
 pub data NoEcho {C : Type 0} (client : ClientEnd C) (server : ServerEnd C) : Type 0 where
   by_length : 32 < length client.settings.public_key → 32 < length server.settings.public_key →
       NoEcho client server

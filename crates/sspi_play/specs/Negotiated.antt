@@ -1,13 +1,13 @@
 -- Agreement on the mechanism that a negotiation chose, between a client and a server whose messages
--- an attacker carries. The mechanism must be faithful in what it signs (RFC 4178, section 5).
--- Nothing is supposed about what is sealed, or about hashes.
+-- an attacker carries. It rests on a mechanism that is faithful in what it signs (RFC 4178, section
+-- 5), and supposes nothing about what is sealed, or about hashes.
 --
 -- A server that verified a MIC of the client has selected the mechanism that its own configuration
 -- picks from the list that the client offered. A client that verified a MIC of the server keeps the
 -- list that the server read. A client that proved its key, or sealed its credentials, has verified
--- a MIC. So has a server that proved its own key, or opened credentials, if it needed one: if the
--- selected mechanism is NTLM or is not the first in the list that it read. These last two hold of
--- ends that negotiate, except for a guest, and rest on no premise.
+-- a MIC. A server that proved its key, or opened credentials, has too, if the selected mechanism is
+-- NTLM or not first in the list it read. These last two facts hold of ends that negotiate, except
+-- for a guest, and rest on no premise.
 use Rattle.std.specs.Prelude.{◌≡◌, ◌≢◌, ◌≤◌, ◌⊎◌, ℕ, List, [], ◌∷◌, map, option_map}
 use Rattle.std.specs.Prelude.{Option, None, Some, IsSome, Result, Ok, Err, true, false}
 use Rattle.sspi_types.specs.declared.error_kind.ErrorKind.{ErrorKind}

@@ -57,7 +57,7 @@ abbrev pub or_later : Option WireKind → Option WireKind → Option WireKind
 or_later None later = later
 or_later (Some first) later = Some first
 
--- the reason for the first delivery to this end that is not a request
+-- the fault of the first delivery to this end that is not a request
 abbrev pub first_unread : End → List Delivery → Option WireKind
 first_unread end [] = None
 first_unread end (d ∷ past) = or_later (first_unread end past) (unread_for end d past)
@@ -110,12 +110,12 @@ pub data Plays : List Delivery → List Turn → Type 0 where
   passes : (d : Delivery) (past : List Delivery) (turns : List Turn) → Plays past turns →
       ending_of d.to (d ∷ past) turns ≢ Running → Plays (d ∷ past) turns
 
--- no turn was refused because memory ran out
+-- no turn was refused for lack of memory
 abbrev pub AllHadMemory : List Turn → Type 0
 AllHadMemory [] = Unit {0}
 AllHadMemory (t ∷ past) = (refusal_in t.outcome ≢ Some kinds.InsufficientMemory) × AllHadMemory past
 
--- a refusal because memory ran out ends the play, so only the newest turn may be one
+-- a refusal for lack of memory ends the play, so only the newest turn may be one
 abbrev pub OthersHadMemory : List Turn → Type 0
 OthersHadMemory [] = Unit {0}
 OthersHadMemory (t ∷ past) = AllHadMemory past
@@ -139,7 +139,7 @@ pub record IsNext (schedule : List Delivery) (turns : List Turn) (request : TsRe
     pub front : reverse (take handed schedule) ≡ delivery ∷ past
     pub taken : IsTaken delivery past turns request
 
--- this end did not refuse because memory ran out
+-- this end did not refuse for lack of memory
 abbrev pub IsNoWant : Ending → Type 0
 IsNoWant Running = Unit {0}
 IsNoWant (Refused kind) = kind ≢ kinds.InsufficientMemory

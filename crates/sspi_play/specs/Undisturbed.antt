@@ -1,5 +1,5 @@
--- An exchange that nothing disturbs. Each turn is given the message of the turn before it, as that
--- was written; each end opens a message of its peer to the text that was sealed; and the server
+-- An exchange that nothing disturbs. Each turn is given the message of the turn before it, as
+-- written; each end opens a message of its peer to the text that was sealed; and the server
 -- finished. Lists have the newest first.
 use Rattle.std.specs.Prelude.{◌≡◌, ℕ, List, [], ◌∷◌, Option, None, Some}
 use Rattle.sspi_mech.specs.Meaning.{Meaning}
