@@ -1,6 +1,6 @@
 -- Agreement on the mechanism that a negotiation chose, between a client and a server whose messages
 -- an attacker carries. It rests on a mechanism that is faithful in what it signs (RFC 4178, section
--- 5), and supposes nothing about what is sealed, or about hashes.
+-- 5), and supposes nothing about what is sealed or hashed.
 --
 -- A server that verified a MIC of the client has selected the mechanism that its own configuration
 -- picks from the list that the client offered. A client that verified a MIC of the server keeps the
