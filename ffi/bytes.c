@@ -17,7 +17,7 @@ void bytes_release(newaksu_bytes *bytes) {
     *bytes = (newaksu_bytes){0};
 }
 
-/* Room for that many more bytes. Not by realloc, which would leave a copy behind. */
+/* Room for that many more bytes. Not with realloc, which would leave a copy behind. */
 uint32_t bytes_reserve(newaksu_bytes *bytes, size_t more) {
     size_t capacity = bytes->capacity < 64 ? 64 : bytes->capacity;
     uint8_t *moved;
@@ -53,7 +53,7 @@ uint32_t newaksu_bytes_append(newaksu_bytes *bytes, const void *data, size_t len
     return NEWAKSU_OK;
 }
 
-/* The code point that the text begins with, and how many bytes it takes; 0 bytes where it is none.
+/* The code point that the text begins with, and how many bytes it takes; 0 bytes if there is none.
  */
 static size_t next_code_point(const uint8_t *text, size_t length, uint32_t *point) {
     static const uint32_t least[] = {0, 0x80, 0x800, 0x10000};

@@ -1,14 +1,14 @@
 /* The heap of the archive: malloc, with each block overwritten before it is freed or moved, so that
  * no credentials stay in freed memory. It has the three functions that Rattle's code calls, and
- * takes the place of the toolchain's own. */
+ * replaces the toolchain's own. */
 #include <stdbool.h>
 #include <stddef.h>
 #include <stdint.h>
 #include <stdlib.h>
 #include <string.h>
 
-/* Before each block is its size. It takes as many bytes as the widest alignment that is
- * asked for, which the block so keeps. */
+/* Each block is preceded by its size. This takes as many bytes as the widest alignment that is
+ * requested, so the block keeps that. */
 typedef struct header {
     _Alignas(16) size_t size;
 } header;
@@ -22,8 +22,7 @@ tried rattle_alloc(size_t size, size_t align);
 tried rattle_realloc(uint8_t *at, size_t kept, size_t size, size_t align);
 void rattle_dealloc(uint8_t *at);
 
-/* The address of an empty block, which takes no memory: an address that is not null, and is
- * never written to. */
+/* The address of an empty block, which takes no memory: not null, and never written to. */
 static const uint8_t nothing;
 
 static header *header_of(uint8_t *at) {

@@ -31,7 +31,7 @@ static newaksu_host *new_host(int is_server, uint32_t version) {
     return host;
 }
 
-/* Hands the host out with what is below it, or releases it alone. */
+/* Returns the host with what is below it, or releases only the host. */
 static uint32_t hand_out(newaksu_host *made, uint32_t status, newaksu_host **host) {
     if (status == NEWAKSU_OK)
         *host = made;
@@ -45,7 +45,7 @@ static int has_calls(const newaksu_mechanism *mechanism) {
            mechanism->unseal != NULL;
 }
 
-/* A mechanism that is there has all its calls. */
+/* Whether the mechanism, if any, has all its calls. */
 static int can_negotiate(const newaksu_mechanism *mechanism, int is_server) {
     return mechanism == NULL ||
            (has_calls(mechanism) && mechanism->sign != NULL && mechanism->verify != NULL &&
@@ -137,7 +137,7 @@ uint32_t newaksu_host_negotiating_client(const newaksu_client_settings *settings
     return hand_out(made, status, host);
 }
 
-/* The list of the users, which there is none of where anyone is taken. */
+/* The list of the users; there is none if anyone is accepted. */
 static uint32_t list_users(newaksu_handle *identities, const newaksu_server_settings *settings) {
     uint32_t status = NEWAKSU_OK;
     if (settings->peers != NEWAKSU_PEERS_ANYONE || settings->users_count != 0)
@@ -160,7 +160,7 @@ static uint32_t make_server(newaksu_handle *end, newaksu_handle *identities,
                               settings->public_key_length, octets(NULL), 0);
 }
 
-/* A server that negotiates, and beside it one for NTLM that comes without SPNEGO. */
+/* A server that negotiates, and alongside it one for NTLM without SPNEGO. */
 static uint32_t make_negotiating(newaksu_host *host, newaksu_handle *identities,
                                  const newaksu_server_settings *settings, uint32_t mechanisms) {
     newaksu_server_options options = {mechanisms, settings->version, settings->least_version,

@@ -1,4 +1,4 @@
-/* What a host does where its end negotiates: which mechanism steps, and the MICs (RFC 4178). */
+/* What a host does if its end negotiates: which mechanism steps, and the MICs (RFC 4178). */
 #include "host.h"
 
 #include <string.h>
@@ -37,7 +37,7 @@ int negotiates(const newaksu_host *host) {
     return host->course.at != NULL;
 }
 
-/* The mechanism that is due is the host's from now on. */
+/* Makes the mechanism that is due the host's from now on. */
 static uint32_t take_due(newaksu_host *host, uint32_t due) {
     const side *chosen = due == NEWAKSU_MECH_NTLM ? &host->ntlm : &host->kerberos;
     if (!chosen->there)
@@ -63,7 +63,7 @@ void choose_form(newaksu_host *host, newaksu_handle *request) {
     (void)newaksu_release(&host->bare);
 }
 
-/* A client's first step, whose envelope is handed in as it is. */
+/* A client's first step, whose envelope is passed in unchanged. */
 static int first(newaksu_host *host, findings *found) {
     static const newaksu_bytes nothing;
     uint32_t due = NEWAKSU_MECH_OTHER;
@@ -107,7 +107,7 @@ static uint32_t take_offer(newaksu_host *host, newaksu_handle *init, newaksu_byt
     return status;
 }
 
-/* Whether the MIC that came is the peer's, over the list as this end knows it. */
+/* Whether the received MIC is the peer's, over the list as this end knows it. */
 static int is_good(newaksu_host *host, newaksu_handle *targ, newaksu_bytes *list) {
     newaksu_bytes mic = {0};
     int good = host->ended &&
@@ -138,7 +138,7 @@ static uint32_t take_response(newaksu_host *host, newaksu_handle *targ, newaksu_
     return status;
 }
 
-/* A token of another form is left out, and the end says so. */
+/* A token of another form is left out, and the end reports it. */
 static uint32_t take_token(newaksu_host *host, const newaksu_bytes *token, newaksu_bytes *handed) {
     newaksu_handle read = NEWAKSU_EMPTY;
     int offers = host->is_server && !host->started;
@@ -178,7 +178,7 @@ uint32_t go_on(newaksu_host *host) {
     return newaksu_course_go_on(&host->course, (uint32_t)host->ended, acts.status);
 }
 
-/* The token with the MIC, where the end signed. NEWAKSU_ABSENT where it did not. */
+/* The token with the MIC, if the end signed. NEWAKSU_ABSENT if it did not. */
 static uint32_t sign_token(newaksu_host *host, newaksu_handle *targ, newaksu_bytes *signed_token) {
     newaksu_bytes list = {0}, mic = {0};
     uint32_t status = fetch(write_signing, targ, 0, &list);

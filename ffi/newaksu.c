@@ -1,5 +1,5 @@
-/* The host: an end of libnewaksu over the caller's mechanism, one call a message (newaksu_host.h).
- */
+/* The host: an end of libnewaksu over the caller's mechanism, one call per message
+ * (newaksu_host.h). */
 #include "host.h"
 
 #include <string.h>
@@ -48,7 +48,7 @@ static void append_code(newaksu_bytes *bytes, uint32_t code) {
     newaksu_bytes_append(bytes, refused, sizeof refused);
 }
 
-/* The peer's name, behind the count of its bytes. */
+/* The peer's name, after the count of its bytes. */
 static uint32_t append_name(newaksu_host *host, newaksu_bytes *envelope) {
     static const uint8_t zeros[2];
     size_t count_at = envelope->length, count;
@@ -71,7 +71,7 @@ static uint32_t append_name(newaksu_host *host, newaksu_bytes *envelope) {
     return status;
 }
 
-/* What an envelope begins with where the step was not refused. */
+/* What an envelope begins with if the step was not refused. */
 static uint8_t said_of(const newaksu_host *host, uint32_t status) {
     if (status == NEWAKSU_OK)
         return 0;
@@ -109,7 +109,7 @@ int step_with(newaksu_host *host, const newaksu_bytes *token, newaksu_bytes *env
     return status == NEWAKSU_OK;
 }
 
-/* Steps with the request's token, if it has one. 1 where the context has ended. */
+/* Steps with the request's token, if it has one. 1 if the context is complete. */
 static int step(newaksu_host *host, newaksu_handle *request, findings *found) {
     newaksu_bytes token = {0};
     uint32_t status = NEWAKSU_ABSENT;
@@ -128,8 +128,7 @@ static int step(newaksu_host *host, newaksu_handle *request, findings *found) {
     return ended;
 }
 
-/* Opens a field of the request. One that is absent or too short is left to the end, which says so.
- */
+/* Opens a field of the request. One that is absent or too short is left for the end to report. */
 static void open_field(newaksu_host *host, newaksu_handle *request, uint32_t field,
                        findings *found) {
     newaksu_bytes blob = {0};
@@ -233,7 +232,7 @@ static uint32_t keep_identity(newaksu_host *host) {
     return status;
 }
 
-/* Ends a text that a call wrote, or that it did not. */
+/* Terminates a text that a call wrote, or did not write. */
 static void end_text(char *text, uint32_t status, size_t written) {
     text[status == NEWAKSU_OK ? written : 0] = 0;
 }
@@ -244,7 +243,7 @@ static uint32_t outcome_of(newaksu_host *host) {
     return outcome;
 }
 
-/* Why it was refused: by the end, or here. */
+/* Why the turn was refused: by the end, or here. */
 static void note_refusal(newaksu_host *host, uint32_t status) {
     newaksu_refusal *refusal = &host->refusal;
     uint32_t kind, told;
@@ -265,7 +264,7 @@ static void note_refusal(newaksu_host *host, uint32_t status) {
     refusal->reason = host->reason;
 }
 
-/* Tells a client what its server's end could not: that what had to be sealed was not. */
+/* Tells a client what its server's end could not: that a text to be sealed was not. */
 static void tell_client(newaksu_host *host, uint32_t status) {
     newaksu_handle request = NEWAKSU_EMPTY;
     if (newaksu_request_new(&request, host->version) == NEWAKSU_OK &&
@@ -274,8 +273,8 @@ static void tell_client(newaksu_host *host, uint32_t status) {
     (void)newaksu_release(&request);
 }
 
-/* Ends the exchange. The end's message is sent where it refused, and not what it said before
- * something else failed. */
+/* Ends the exchange. The end's message is sent if it refused, but not what it said before something
+ * else failed. */
 static uint32_t refuse(newaksu_host *host, uint32_t status, newaksu_turn *turn) {
     static const newaksu_bytes nothing;
     note_refusal(host, status);
@@ -288,7 +287,7 @@ static uint32_t refuse(newaksu_host *host, uint32_t status, newaksu_turn *turn) 
     return status;
 }
 
-/* What the turn came to, once the end had taken the message. */
+/* The result of the turn, once the end has taken the message. */
 static uint32_t conclude(newaksu_host *host, uint32_t status, newaksu_turn *turn) {
     uint32_t outcome = outcome_of(host);
     if (status == NEWAKSU_OK && negotiates(host))

@@ -1,4 +1,4 @@
-/* The words of a command line, each of which fills one place of a program's settings. */
+/* The words of a command line, each filling one place in a program's settings. */
 #ifndef NEWAKSU_EXAMPLE_ARGUMENTS_H
 #define NEWAKSU_EXAMPLE_ARGUMENTS_H
 
@@ -7,7 +7,7 @@
 #include <stdint.h>
 
 /* What follows the word, and what the place is: nothing and a bool, a text and a pointer to
- * const char, a decimal number and a uint32_t. */
+ * const char, or a decimal number and a uint32_t. */
 enum argument_kind { ARGUMENT_FLAG, ARGUMENT_TEXT, ARGUMENT_NUMBER };
 
 struct argument {
@@ -16,7 +16,7 @@ struct argument {
     size_t place; /* its offset in the settings */
 };
 
-/* Whether all words behind the program's name are arguments of the list. */
+/* Whether all words after the program's name are arguments in the list. */
 bool arguments_read(char **words, const struct argument *list, void *settings);
 
 #endif

@@ -14,7 +14,7 @@ static bool has(const char *mechanism, const char *name) {
     return strcmp(mechanism, "both") == 0 || strcmp(mechanism, name) == 0;
 }
 
-/* Leaves out a mechanism that cannot be had. The last failure is kept to be told. */
+/* Leaves out a mechanism that is not available, and prints its last failure. */
 static void leave_out(struct gss **gss) {
     if (*gss) {
         gss_print_failure(*gss);

@@ -48,13 +48,13 @@ static enum fault await(const struct channel *channel, short events) {
     }
 }
 
-/* A host that does not answer must not hold a program up for ever. */
+/* A host that does not answer must not hold a program up forever. */
 static void limit_connect(int socket) {
     struct timeval limit = {.tv_sec = CHANNEL_SECONDS};
     setsockopt(socket, SOL_SOCKET, SO_SNDTIMEO, &limit, sizeof limit);
 }
 
-/* From here on no call on the socket waits but `await`. */
+/* From here on no call on the socket waits except `await`. */
 static enum fault begin(struct channel *channel, int socket, uint32_t seconds) {
     *channel = (struct channel){.socket = socket};
     channel_set_deadline(channel, seconds);
@@ -117,8 +117,8 @@ static enum fault socket_fault(int error) {
     return error == ECONNRESET || error == EPIPE ? FAULT_CLOSED : FAULT_SOCKET;
 }
 
-/* Waits where a call on the socket would have waited. FAULT_NONE: it may be made again. To be
- * called right behind it. */
+/* Waits if a call on the socket would have waited. FAULT_NONE: it may be made again. Must be
+ * called right after it. */
 static enum fault retry_socket(const struct channel *channel, ssize_t moved, short events) {
     if (moved == 0)
         return FAULT_CLOSED;
@@ -127,7 +127,7 @@ static enum fault retry_socket(const struct channel *channel, ssize_t moved, sho
     return errno == EAGAIN || errno == EWOULDBLOCK ? await(channel, events) : socket_fault(errno);
 }
 
-/* The same of a call of TLS. */
+/* The same for a TLS call. */
 static enum fault retry_tls(const struct channel *channel, int got) {
     switch (SSL_get_error(channel->tls, got)) {
     case SSL_ERROR_ZERO_RETURN:
@@ -143,7 +143,7 @@ static enum fault retry_tls(const struct channel *channel, int got) {
     }
 }
 
-/* Some of the bytes, or none, and then it may be called again. */
+/* Some of the bytes; or none, and then it may be called again. */
 static enum fault read_some(struct channel *channel, void *bytes, size_t count, size_t *got) {
     *got = 0;
     errno = 0;
@@ -218,7 +218,7 @@ static enum fault tls_over(struct channel *channel, SSL_CTX *context) {
     return FAULT_NONE;
 }
 
-/* A handshake that fails is FAULT_TLS, whatever it failed for, unless the peer took too long. */
+/* A failed handshake is FAULT_TLS, whatever the reason, unless the peer took too long. */
 static enum fault shake_hands(struct channel *channel, int (*step)(SSL *)) {
     enum fault fault = FAULT_NONE;
     while (fault == FAULT_NONE) {
@@ -237,7 +237,7 @@ static SSL_CTX *tls_context(const SSL_METHOD *method) {
     SSL_CTX *context = SSL_CTX_new(method);
     if (context) {
         SSL_CTX_set_min_proto_version(context, TLS1_2_VERSION);
-        /* where a stream is cut is seen by the lengths of what it carries */
+        /* a truncated stream is detected by the lengths of what it carries */
         SSL_CTX_set_options(context, SSL_OP_IGNORE_UNEXPECTED_EOF);
     }
     return context;

@@ -1,8 +1,8 @@
-/* A client of CredSSP: authenticates a user at a server, delegates the credentials, and says
- * what it was told.
+/* A CredSSP client: authenticates a user to a server, delegates the credentials, and prints what
+ * it was told.
  *
- * Standard output: `protocol`, `version`, `delegated`, and where it asked for it `early success`
- * or `early denied`. Standard error: the refusal or the fault by name. Exit status: 0 where the
+ * Standard output: `protocol`, `version`, `delegated`, and, if requested, `early success` or
+ * `early denied`. Standard error: the refusal or the fault by name. Exit status: 0 if the
  * credentials were sent and no early result denied the user, 1 for a refusal, 2 for wrong
  * arguments, 3 for a fault. */
 #define _GNU_SOURCE
@@ -100,7 +100,7 @@ static enum fault make_host(const struct settings *settings, const struct channe
     return fault;
 }
 
-/* What the server says behind the delegation. */
+/* What the server says after the delegation. */
 static int hear(struct channel *channel) {
     uint8_t bytes[4];
     uint32_t result;
@@ -120,7 +120,7 @@ static int delegate(const struct settings *settings, struct channel *channel, ui
     enum fault fault = make_host(settings, channel, &below, &host);
     int status = 1;
     if (fault == FAULT_NONE) {
-        /* whoever types a password takes their time */
+        /* typing a password takes time */
         channel_set_deadline(channel, settings->seconds);
         fault = exchange_run(&exchange, channel, host, true);
         if (exchange.peer_version)

@@ -1,11 +1,10 @@
-/* A server of CredSSP: takes one connection, lets its user in or refuses, and says which. It
+/* A CredSSP server: accepts one connection, lets its user in or refuses, and says which. It
  * stops where a desktop would begin.
  *
  * Standard output: `listening`, then `protocol` and `version` as far as they are known, then
  * `authenticated NAME`, whom the mechanism vouches for, `identity NAME`, whose credentials were
- * delegated, and on demand `password TEXT`. Standard error: the refusal or the fault by name.
- * Exit status: 0 where the user is let in, 1 for a refusal, 2 for wrong arguments, 3 for a
- * fault. */
+ * delegated, and, if requested, `password TEXT`. Standard error: the refusal or the fault by name.
+ * Exit status: 0 if the user is let in, 1 for a refusal, 2 for wrong arguments, 3 for a fault. */
 #define _GNU_SOURCE
 #include <signal.h>
 #include <stdio.h>
@@ -93,7 +92,7 @@ static bool is_admitted(const struct settings *settings, const char *user) {
     return !settings->admit || strcasecmp(settings->admit, user) == 0;
 }
 
-/* A line of its own, whatever the peer wrote: control characters are told by their number. */
+/* Prints one line, whatever the peer wrote: control characters are printed by number. */
 static void print_line(const char *label, const char *text, size_t length) {
     printf("%s ", label);
     for (size_t i = 0; i < length; i++) {
@@ -106,9 +105,9 @@ static void print_line(const char *label, const char *text, size_t length) {
     putchar('\n');
 }
 
-/* Says who came, and tells the client whether the user may log on, where it asked for that. What
- * is asked is whom the mechanism authenticated: the delegated name and password are the client's
- * word. */
+/* Prints who came, and tells the client whether the user may log on, if it asked for that. This is
+ * decided by whom the mechanism authenticated: the delegated name and password are only the
+ * client's word. */
 static int let_in(const struct settings *settings, struct channel *channel, uint32_t protocol,
                   const newaksu_host *host, const char *authenticated) {
     const char *user, *password;

@@ -1,5 +1,4 @@
-/* Requests in turns: one is read whole, the host makes its turn of it, and what that answers is
- * sent. */
+/* Requests in turns: one is read whole, the host makes its turn of it, and the result is sent. */
 #include "exchange.h"
 
 #include <stdio.h>
@@ -45,7 +44,7 @@ static void note_version(struct exchange *exchange, const uint8_t *message, size
     newaksu_release(&request);
 }
 
-/* One turn of the host, and its answer sent. */
+/* Makes one turn of the host, and sends its answer. */
 static enum fault turn_of(struct exchange *exchange, struct channel *channel, newaksu_host *host,
                           const uint8_t *message, size_t length, uint32_t *progress) {
     newaksu_turn turn;
@@ -79,8 +78,8 @@ enum fault exchange_run(struct exchange *exchange, struct channel *channel, newa
     return fault == FAULT_NONE && progress == NEWAKSU_UNREAD ? FAULT_NOT_A_REQUEST : fault;
 }
 
-/* The name of what a server told: of an NTSTATUS, or of the SSPI code inside one, as
- * CredSSP servers other than those of Windows tell it. Empty where there is none. */
+/* The name of what a server reported: of an NTSTATUS, or of the SSPI code inside one, as CredSSP
+ * servers other than those of Windows send it. Empty if there is none. */
 static void name_code(uint32_t code, char *name, size_t size) {
     size_t length = 0;
     uint32_t status = newaksu_nstatus_name(code, (uint8_t *)name, size - 1, &length);

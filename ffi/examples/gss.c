@@ -1,4 +1,4 @@
-/* The functions of a host's mechanism, each of them one call of GSSAPI. */
+/* The functions of a host's mechanism, each around a GSSAPI call. */
 #include "gss.h"
 
 #include <errno.h>
@@ -13,10 +13,10 @@ struct gss {
     gss_cred_id_t credentials;
     gss_ctx_id_t context;
     gss_name_t target;   /* of a client: the service */
-    gss_name_t peer;     /* of a server, once the authentication ended: the user */
+    gss_name_t peer;     /* of a server, once authentication is complete: the user */
     char *authenticated; /* the same as a text */
     bool server;
-    bool dce_style;         /* a client is to be, and a server is */
+    bool dce_style;         /* a client will be, and a server is */
     OM_uint32 major, minor; /* of the last failure */
 };
 
@@ -36,11 +36,11 @@ bool gss_knows(const char *mechanism) {
     return mechanism_of(mechanism) != GSS_C_NO_OID;
 }
 
-/* What an end of CredSSP asks of its context. */
+/* What an end of CredSSP requires of its context. */
 static const OM_uint32 wanted = GSS_C_MUTUAL_FLAG | GSS_C_CONF_FLAG | GSS_C_INTEG_FLAG |
                                 GSS_C_SEQUENCE_FLAG | GSS_C_REPLAY_FLAG;
 
-/* The SECURITY_STATUS of a failure. GSS_S_FAILURE is all that NTLM and Kerberos say of a wrong
+/* The SECURITY_STATUS of a failure. GSS_S_FAILURE is all that NTLM and Kerberos report for a wrong
  * user or password. */
 static uint32_t refuse(struct gss *gss, OM_uint32 major, OM_uint32 minor) {
     gss->major = major;
@@ -66,7 +66,7 @@ static gss_buffer_desc buffer_of(const void *bytes, size_t length) {
     return (gss_buffer_desc){.length = length, .value = (void *)bytes};
 }
 
-/* Hands what GSSAPI gave to the host, and overwrites it: it may be an opened text. */
+/* Passes what GSSAPI returned to the host, and overwrites it: it may be an opened text. */
 static uint32_t hand_over(gss_buffer_t given, newaksu_bytes *bytes) {
     OM_uint32 ignored;
     uint32_t status = newaksu_bytes_append(bytes, given->value, given->length);
@@ -89,7 +89,7 @@ static uint32_t step(void *context, const uint8_t *token, size_t length, newaksu
             gss_init_sec_context(&minor, gss->credentials, &gss->context, gss->target,
                                  gss->mechanism, gss->dce_style ? wanted | GSS_C_DCE_STYLE : wanted,
                                  0, GSS_C_NO_CHANNEL_BINDINGS, &taken, NULL, &given, &flags, NULL);
-    /* of a Kerberos that wants another token of its client GSSAPI tells no flags yet */
+    /* GSSAPI reports no flags yet if Kerberos needs another token from its client */
     if (gss->server && (major & GSS_S_CONTINUE_NEEDED))
         gss->dce_style = gss->mechanism == &kerberos;
     else if (gss->server)
@@ -113,7 +113,7 @@ static uint32_t peer(void *context, newaksu_bytes *name) {
     OM_uint32 minor, major = gss_display_name(&minor, gss->peer, &text, NULL);
     if (GSS_ERROR(major))
         return refuse(gss, major, minor);
-    /* gss-ntlmssp counts a final zero too */
+    /* gss-ntlmssp counts a terminating zero too */
     const char *end = memchr(text.value, 0, text.length);
     if (end && end != (const char *)text.value + text.length - 1) {
         gss_release_buffer(&minor, &text);
@@ -130,9 +130,9 @@ const char *gss_authenticated(const struct gss *gss) {
     return gss->authenticated ? gss->authenticated : "";
 }
 
-/* Seals as SSPI lays its buffers out, all that is not text in front of it. Kerberos of MIT does
- * so where it is asked for two buffers. By gss_wrap it puts a part behind the text, which a
- * receiver must take too (RFC 4121 4.2.5), and WinPR does not. */
+/* Seals in the layout of SSPI's buffers, with all that is not text in front of it. MIT Kerberos
+ * does so if asked for two buffers. With gss_wrap it puts a part after the text, which a receiver
+ * must accept too (RFC 4121 4.2.5), and WinPR does not. */
 static OM_uint32 wrap_in_two(struct gss *gss, OM_uint32 *minor, gss_buffer_t text,
                              int *confidential, newaksu_bytes *blob, uint32_t *status) {
     gss_iov_buffer_desc parts[2] = {
@@ -160,7 +160,7 @@ static uint32_t seal(void *context, const uint8_t *text, size_t length, newaksu_
     int confidential = 0;
     uint32_t status = NEWAKSU_OK;
     OM_uint32 minor, major = wrap_in_two(gss, &minor, &plain, &confidential, blob, &status);
-    /* NTLM has gss_wrap alone, which puts its signature in front */
+    /* NTLM has only gss_wrap, which puts its signature in front */
     if (GSS_ROUTINE_ERROR(major) == GSS_S_UNAVAILABLE) {
         major =
             gss_wrap(&minor, gss->context, 1, GSS_C_QOP_DEFAULT, &plain, &confidential, &sealed);
@@ -171,7 +171,7 @@ static uint32_t seal(void *context, const uint8_t *text, size_t length, newaksu_
     return status != NEWAKSU_OK || confidential ? status : NEWAKSU_E_INTERNAL_ERROR;
 }
 
-/* Opens what is laid out so, in place. In DCE style gss_unwrap does not. */
+/* Opens this layout in place. In DCE style gss_unwrap cannot. */
 static OM_uint32 unwrap_in_two(struct gss *gss, OM_uint32 *minor, gss_buffer_t sealed,
                                int *confidential, newaksu_bytes *text, uint32_t *status) {
     gss_iov_buffer_desc parts[2] = {{GSS_IOV_BUFFER_TYPE_HEADER, GSS_C_EMPTY_BUFFER},
@@ -212,11 +212,11 @@ static uint32_t unseal(void *context, const uint8_t *blob, size_t length, newaks
         return refuse(gss, major, minor);
     if (!gss->dce_style)
         status = hand_over(&plain, text);
-    /* a replay, or one out of its turn, is told beside success */
+    /* a replay, or one out of order, is reported along with success */
     return confidential && !GSS_SUPPLEMENTARY_INFO(major) ? status : NEWAKSU_E_MESSAGE_ALTERED;
 }
 
-/* NTLM seals and counts anew behind each exchange of MICs (MS-SPNG 3.3.5.1), in both directions. */
+/* NTLM restarts cipher and counters after each exchange of MICs (MS-SPNG 3.3.5.1), both ways. */
 static uint32_t begin_anew(struct gss *gss) {
     static gss_OID_desc reset_crypto = {11, "\x2b\x06\x01\x04\x01\xb7\x7d\x85\x0f\x01\x03"};
     for (uint32_t receives = 0; receives < 2 && gss->mechanism == &ntlm; receives++) {
@@ -271,7 +271,7 @@ static struct gss *make(const char *mechanism) {
     struct gss *gss = calloc(1, sizeof *gss);
     if (gss)
         gss->mechanism = mechanism_of(mechanism);
-    /* NTLM of version 2 alone, unless the environment says otherwise */
+    /* only NTLM version 2, unless the environment says otherwise */
     setenv("LM_COMPAT_LEVEL", "5", 0);
     return gss;
 }
@@ -282,9 +282,9 @@ static bool import(struct gss *gss, const char *text, gss_OID form, gss_name_t *
     return !GSS_ERROR(gss->major);
 }
 
-/* Of NTLM: gss-ntlmssp offers OEM texts beside Unicode, a server of FreeRDP answers with both,
- * and gss-ntlmssp refuses that answer, by which Unicode is meant (MS-NLMP 2.2.2.5). So only
- * Unicode is offered. */
+/* For NTLM: gss-ntlmssp offers OEM texts as well as Unicode, a FreeRDP server answers with both,
+ * and gss-ntlmssp refuses that answer, which means Unicode (MS-NLMP 2.2.2.5). So only Unicode is
+ * offered. */
 static bool offer_unicode_alone(struct gss *gss) {
     static gss_OID_desc negotiate_flags = {11, "\x2b\x06\x01\x04\x01\xb7\x7d\x85\x0f\x01\x05"};
     /* keys of 56 and 128 bits and their exchange, version, extended session security, always
@@ -328,7 +328,7 @@ void gss_use_dce_style(struct gss *gss) {
 
 enum fault gss_server(struct gss **made, const char *mechanism, const char *users_file) {
     struct gss *gss = *made = make(mechanism);
-    /* gss-ntlmssp reads its users where this variable says, at each authentication */
+    /* gss-ntlmssp reads its users from the file in this variable, at each authentication */
     if (!gss || (users_file && setenv("NTLM_USER_FILE", users_file, 1) != 0))
         return FAULT_MEMORY;
     gss->server = true;

@@ -10,7 +10,7 @@
 #include <termios.h>
 #include <unistd.h>
 
-/* One byte at a time: what follows the line is not for us. */
+/* Reads one byte at a time: what follows the line is not ours. */
 static enum fault read_line(int fd, char *line, size_t longest) {
     for (size_t used = 0; used <= longest;) {
         ssize_t got = read(fd, line + used, 1);
@@ -27,8 +27,8 @@ static enum fault read_line(int fd, char *line, size_t longest) {
     return FAULT_PASSWORD;
 }
 
-/* The signals that end or stop a program at its terminal. They are kept back while the echo is off,
- * so that none of them leaves it off. */
+/* The signals that end or stop a program at its terminal. They are held back while echo is off, so
+ * that none of them leaves it off. */
 static const int kept_back[] = {SIGINT, SIGTERM, SIGHUP, SIGQUIT, SIGTSTP};
 enum { KEPT_BACK = sizeof kept_back / sizeof kept_back[0] };
 
@@ -38,7 +38,7 @@ static void note(int number) {
     caught = number;
 }
 
-/* How the program took the signals before. */
+/* How the program handled the signals before. */
 struct dispositions {
     sigset_t mask;
     struct sigaction actions[KEPT_BACK];
@@ -59,7 +59,7 @@ static void keep_back(struct dispositions *before) {
     }
 }
 
-/* Gives the program a signal that came in between. */
+/* Delivers to the program a signal that arrived meanwhile. */
 static void hand_on(const struct dispositions *before) {
     for (size_t i = 0; i < KEPT_BACK; i++)
         sigaction(kept_back[i], &before->actions[i], NULL);
@@ -68,7 +68,7 @@ static void hand_on(const struct dispositions *before) {
     sigprocmask(SIG_SETMASK, &before->mask, NULL);
 }
 
-/* Signals come only while it waits, so that none is missed. Whole lines come from a terminal. */
+/* Signals arrive only while it waits, so none is missed. A terminal sends whole lines. */
 static enum fault read_answer(int terminal, char *password, const sigset_t *mask) {
     struct pollfd ready = {.fd = terminal, .events = POLLIN};
     if (ppoll(&ready, 1, NULL, mask) != 1)
@@ -94,7 +94,7 @@ static enum fault ask(int terminal, const char *prompt, char *password) {
     return fault;
 }
 
-/* A program that was stopped at the prompt asks again once it goes on. */
+/* A program that was stopped at the prompt asks again once it continues. */
 static enum fault prompt_for(const char *prompt, char *password) {
     enum fault fault = FAULT_PASSWORD;
     int terminal = open("/dev/tty", O_RDWR | O_CLOEXEC);

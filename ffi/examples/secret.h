@@ -6,8 +6,8 @@
 
 enum { PASSWORD_BYTES = 512 };
 
-/* Reads one line, of the file descriptor, or at a prompt without echo where `fd` is below 0. A
- * signal at the prompt, as Ctrl-C sends it, is taken once the terminal echoes again. The caller
+/* Reads one line, from the file descriptor, or at a prompt without echo if `fd` is below 0. A
+ * signal at the prompt, such as Ctrl-C sends, is handled once the terminal echoes again. The caller
  * overwrites the line. */
 enum fault read_password(int fd, const char *prompt, char password[PASSWORD_BYTES + 1]);
 

@@ -17,7 +17,7 @@ static uint32_t receive(int channel, uint8_t *message, size_t from, size_t to) {
     return NEWAKSU_OK;
 }
 
-/* The header byte by byte, and then exactly the content: what follows on the channel is not of
+/* The header byte by byte, and then exactly the content: what follows on the channel is not
  * CredSSP. */
 static uint32_t receive_message(int channel, uint8_t *message, size_t *length) {
     size_t size = 0, have = 0;

@@ -4,10 +4,10 @@
 
 #include "newaksu_host.h"
 
-/* Gives the host what comes over the channel, and sends what it answers, until the exchange is
+/* Passes the host what arrives over the channel, and sends what it returns, until the exchange is
  * over. NEWAKSU_OK: a client has sent its credentials, or a server has them. NEWAKSU_READ_FAULT,
- * NEWAKSU_WRITE_FAULT: the channel failed. Else the host's refusal. A real program has TLS in the
- * place of read and write. */
+ * NEWAKSU_WRITE_FAULT: the channel failed. Otherwise the host's refusal. A real program uses TLS
+ * instead of read and write. */
 uint32_t make_turns(newaksu_host *host, int channel, int is_client);
 
 #endif

@@ -27,7 +27,7 @@ static enum fault read_all(struct users *users, FILE *file, size_t *length) {
     return ferror(file) ? FAULT_FILE : FAULT_NONE;
 }
 
-/* The name of a line, in its place: what comes before the second colon, the first one a
+/* The name of a line, in place: what comes before the second colon, with the first made a
  * backslash. */
 static size_t name_of(char *line) {
     char *first = strchr(line, ':');

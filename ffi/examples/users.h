@@ -13,11 +13,11 @@ struct users {
     char *text; /* what the names point into */
 };
 
-/* Reads a file of lines DOMAIN:user:password, of which the name is DOMAIN\user, and of lines
- * user@REALM. Empty lines are passed over. FAULT_FILE for a file that cannot be read. */
+/* Reads a file of lines DOMAIN:user:password, whose name is DOMAIN\user, and of lines user@REALM.
+ * Empty lines are skipped. FAULT_FILE for a file that cannot be read. */
 enum fault users_read(struct users *users, const char *file);
 
-/* Overwrites the text, which has passwords. */
+/* Overwrites the text, which contains passwords. */
 void users_release(struct users *users);
 
 #endif

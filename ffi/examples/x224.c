@@ -58,8 +58,8 @@ static enum fault write_message(struct channel *channel, uint8_t code, uint8_t t
     return channel_write(channel, message, sizeof message);
 }
 
-/* Where the negotiation is: after a routing token or cookie, which ends with a line, if
- * there is one. NULL where there is none. */
+/* Where the negotiation is: after a routing token or cookie, if any, which ends with a line break.
+ * NULL if there is none. */
 static const uint8_t *negotiation(const uint8_t *body, size_t length) {
     const uint8_t *at = body + X224_BYTES, *end = body + length;
     if (at<end && * at> NEG_FAILURE) {
@@ -71,8 +71,8 @@ static const uint8_t *negotiation(const uint8_t *body, size_t length) {
     return end - at >= NEGOTIATION_BYTES && at[2] == NEGOTIATION_BYTES && at[3] == 0 ? at : NULL;
 }
 
-/* The negotiation's type and value of the next message, which has the code; type 0 where it has
- * no negotiation. */
+/* The type and value of the next message's negotiation; type 0 if it has none. The message must
+ * have the code. */
 static enum fault read_message(struct channel *channel, uint8_t code, uint8_t *type,
                                uint32_t *value) {
     uint8_t header[TPKT_BYTES], body[LONGEST];

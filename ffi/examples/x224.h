@@ -11,15 +11,15 @@
 enum {
     X224_TLS = 1,
     X224_HYBRID = 2,   /* CredSSP */
-    X224_HYBRID_EX = 8 /* CredSSP, and behind it the early user authorization result */
+    X224_HYBRID_EX = 8 /* CredSSP, and after it the early user authorization result */
 };
 
-/* Asks for the protocols, and reads which one the server selects: one of those, or FAULT_NO_NLA.
+/* Requests the protocols, and reads which one the server selects: one of those, or FAULT_NO_NLA.
  * `restricted` says that the client will delegate no credentials (restricted admin mode). */
 enum fault x224_connect(struct channel *, uint32_t protocols, bool restricted, uint32_t *selected);
 
-/* Reads a request, and confirms the best protocol that it and `offered` share. Without one it
- * tells the client that CredSSP is required, and answers FAULT_NO_NLA. */
+/* Reads a request, and confirms the best protocol that it and `offered` share. If none, it tells
+ * the client that CredSSP is required, and returns FAULT_NO_NLA. */
 enum fault x224_accept(struct channel *, uint32_t offered, uint32_t *selected);
 
 /* "TLS", "HYBRID", "HYBRID_EX" or "none". */

@@ -1,4 +1,4 @@
-/* The turns of examples/turns.c: a client and a server in a thread each, with a pair of sockets
+/* The turns of examples/turns.c: a client and a server, each in a thread, with a socket pair
  * between them. */
 #include <pthread.h>
 #include <string.h>
@@ -20,7 +20,7 @@ static void *connect_to_server(void *argument) {
     return NULL;
 }
 
-/* What the server's turns came to. Behind them it reads what the client's channel has left. */
+/* The result of the server's turns; it then reads what is left in the client's channel. */
 static uint32_t run(struct exchange *exchange, const struct setup *setup) {
     pthread_t thread;
     uint32_t status;
@@ -62,7 +62,7 @@ static void refusals(void) {
     exchange_release(&exchange);
 }
 
-/* What is no request, and a channel that ends. */
+/* What is not a request, and a channel that ends. */
 static void faults(const char *sent, size_t length, uint32_t status) {
     struct setup setup = usual_setup();
     struct exchange exchange;

@@ -96,7 +96,7 @@ static void poly_block(poly *p, const uint8_t block[16]) {
     p->h[1] += (uint32_t)(carry >> 26);
 }
 
-/* Whole blocks, the last one filled with zeros, as the AEAD wants it. */
+/* Whole blocks, the last one padded with zeros, as the AEAD requires. */
 static void poly_padded(poly *p, const uint8_t *data, size_t length) {
     for (size_t at = 0; at < length; at += 16) {
         uint8_t block[16] = {0};

@@ -1,5 +1,5 @@
-/* The codec: requests, credentials, the early result and the tokens of SPNEGO, by vectors that were
- * encoded by hand or came from other implementations, and buffers of every size. */
+/* The codec: requests, credentials, the early result and the tokens of SPNEGO, with vectors encoded
+ * by hand or by other implementations, and buffers of every size. */
 #include <stdlib.h>
 #include <string.h>
 
@@ -10,8 +10,8 @@
 
 static const uint8_t empty[1];
 
-/* A call that writes bytes, at every capacity: nothing is written where they do not fit, and never
- * anything behind them. */
+/* A call that writes bytes, at every capacity: nothing is written if they do not fit, and never
+ * anything after them. */
 #define CHECK_WRITES(call, digits)                                                         \
     do {                                                                                   \
         uint8_t wanted[4096], out[4096 + 1];                                               \
@@ -29,7 +29,7 @@ static const uint8_t empty[1];
 static size_t bytes_of(const char *digits, uint8_t **bytes) {
     static uint8_t all[1 << 12];
     size_t length = from_hex(digits, all, sizeof all);
-    /* a block of its own, so that a read behind it is seen */
+    /* a block of its own, so that a read past it is detected */
     *bytes = malloc(length == 0 ? 1 : length);
     CHECK(*bytes != NULL);
     memcpy(*bytes, all, length);
@@ -62,12 +62,12 @@ struct vector {
 };
 
 static const struct vector vectors[] = {
-    /* the request that a client makes first, and the forms of a length */
+    /* a client's first request, and the forms of a length */
     {"3005 a003020106", 6, NULL, NULL, NULL, NULL, NULL},
     {"300f a003020102 a108 3006 3004 a002 0400", 2, "", NULL, NULL, NULL, NULL},
     {"3011 a003020106 a10a 3008 3006 a004 0402 4e31", 6, "4e31", NULL, NULL, NULL, NULL},
     {"300d a003020106 a406 0204 c0070308", 6, NULL, NULL, NULL, "c0070308", NULL},
-    /* of the tests of another implementation: version 6, a sealed proof, the code of a failed
+    /* from the tests of another implementation: version 6, a sealed proof, the code of a failed
        logon, a nonce */
     {"3065 a003020106 a332 0430 "
      "01000000d8b30c7e37512184000000006c47c8e302599219d199dfbd0ff571613adf7403effca52316233755ff912"
@@ -113,7 +113,7 @@ static void set_field(newaksu_handle *request, uint32_t field, const char *digit
     free(bytes);
 }
 
-/* The same request, of its fields. */
+/* The same request, from its fields. */
 static void build(newaksu_handle *request, const struct vector *vector) {
     uint8_t code[4];
     CHECK_STATUS(newaksu_request_new(request, 99), NEWAKSU_OK);
@@ -157,7 +157,7 @@ static void forms_of_a_length(void) {
     CHECK_STATUS(newaksu_release(&request), NEWAKSU_OK);
 }
 
-/* A code is not written below version 3 and at version 5, a nonce below version 5 is not. */
+/* A code is not written below version 3 and at version 5, nor a nonce below version 5. */
 static void what_a_version_leaves_out(void) {
     static const char *const written_at[] = {"3005 a003020102",
                                              "300d a003020103 a406 0204 c0070308",
@@ -183,7 +183,7 @@ static void what_a_version_leaves_out(void) {
     CHECK_STATUS(newaksu_release(&request), NEWAKSU_OK);
 }
 
-/* Faults, the first of each kind that the grammar has; the handle keeps what it had. */
+/* Faults, the first of each kind in the grammar; the handle keeps what it had. */
 static void faults(void) {
     static const char *const ends[] = {"",
                                        "31",
@@ -255,7 +255,7 @@ static void requests_in_pieces(void) {
     CHECK_STATUS(newaksu_release(&reader), NEWAKSU_OK);
 }
 
-/* A content of 1048576 bytes is written and read, one more is neither. */
+/* Content of 1048576 bytes is written and read; with one more it is neither. */
 static void the_longest_request(void) {
     const size_t most = 1048576 - 5 - 5 - 5;
     uint8_t *octets = calloc(most + 1, 1), *out = malloc(1048581);

@@ -1,5 +1,5 @@
-/* Decodes or encodes the request of a line of hex many times, so that a counter of instructions can
- * say what one costs.
+/* Decodes or encodes the request in a line of hex many times, so that an instruction counter can
+ * show what one costs.
  *
  *     cost decode|encode TIMES
  *
@@ -16,7 +16,7 @@
 static uint8_t bytes[LONGEST], out[LONGEST];
 static char line[2 * LONGEST + 2];
 
-/* Inline, so that the calls alone are counted. */
+/* Inline, so that only the calls are counted. */
 static inline void must(uint32_t status) {
     if (status != NEWAKSU_OK)
         exit(1);

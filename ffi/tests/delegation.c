@@ -1,5 +1,5 @@
 /* Both ends against each other over a mechanism that encrypts: every pair of versions, every form
- * of a name, both kinds of delegation, and messages that are followed by something. */
+ * of name, both kinds of delegation, and messages that are followed by something. */
 #include <string.h>
 
 #include "check.h"
@@ -14,8 +14,7 @@ static uint32_t tells_code(uint32_t version) {
     return version >= 3 && version != 5;
 }
 
-/* Ends match where both are below version 5 or both are not: below it the proof is the key itself.
- */
+/* Ends match if both are below version 5 or both are not: below it the proof is the key itself. */
 static void check_versions(const struct exchange *exchange, const struct setup *setup) {
     const newaksu_refusal *told = &exchange->refusals[THE_CLIENT];
     if ((setup->client_version < 5) == (setup->server_version < 5)) {
@@ -85,7 +84,7 @@ static void delegate_as(const char *name, const char *password, const char *user
     exchange_release(&exchange);
 }
 
-/* Names of every form and length; a list of users is compared without the case of ASCII letters. */
+/* Names of every form and length; user lists are compared ignoring the case of ASCII letters. */
 static void every_form_of_a_name(void) {
     char name[700], password[64];
     delegate_as("ann", "pw", NULL);
@@ -101,7 +100,7 @@ static void every_form_of_a_name(void) {
     delegate_as(name, password, name);
 }
 
-/* A user who is not in the list is refused, whom the mechanism authenticated all the same. */
+/* A user who is not in the list is refused, even though the mechanism authenticated them. */
 static void a_user_who_is_not_listed(void) {
     struct setup setup = usual_setup();
     struct exchange exchange;
@@ -150,8 +149,8 @@ static void add_field(newaksu_handle *request, uint32_t field) {
         CHECK_STATUS(newaksu_request_set_field(request, field, junk, sizeof junk), NEWAKSU_OK);
 }
 
-/* Puts sealed fields into a message where there are none, as zeros: what a host hands its end is of
- * that form. */
+/* Puts sealed fields of zeros into a message that has none: what a host passes its end has that
+ * form. */
 static void add_fields(void *context, int number, uint8_t *message, size_t *length) {
     newaksu_handle request = NEWAKSU_EMPTY;
     (void)context;
@@ -180,7 +179,7 @@ static void fields_that_are_not_due(void) {
     exchange_release(&usual);
 }
 
-/* Each client draws its own nonce where it is given none. */
+/* Each client draws its own nonce if it is given none. */
 static void nonces_that_are_drawn(void) {
     struct setup setup = usual_setup();
     struct exchange first, second;
@@ -196,8 +195,8 @@ static void nonces_that_are_drawn(void) {
     exchange_release(&second);
 }
 
-/* A mechanism of two tokens: the server waits for the client's proof once its own token ended the
- * authentication. */
+/* A mechanism of two tokens: the server waits for the client's proof once its own token completes
+ * the authentication. */
 static void two_tokens(uint32_t version, uint8_t flipped) {
     struct setup setup = usual_setup();
     struct exchange exchange;
@@ -212,7 +211,7 @@ static void two_tokens(uint32_t version, uint8_t flipped) {
                  NEWAKSU_OK);
     CHECK(state == NEWAKSU_STATE_PUB_KEY_INFO);
     exchange_turn(&exchange, THE_CLIENT, exchange.messages[1], exchange.lengths[1]);
-    /* the first byte of the proof's signature: behind the version, and a3 LL 04 LL */
+    /* the first byte of the proof's signature: after the version, and a3 LL 04 LL */
     exchange.messages[2][exchange.lengths[2] > 129 ? 12 : 11] ^= flipped;
     exchange_turn(&exchange, THE_SERVER, exchange.messages[2], exchange.lengths[2]);
     exchange_turn(&exchange, THE_CLIENT, exchange.messages[3], exchange.lengths[3]);
@@ -228,7 +227,7 @@ static void two_tokens(uint32_t version, uint8_t flipped) {
     exchange_release(&exchange);
 }
 
-/* A client whose mechanism ends before the server's version is known has no proof to make. */
+/* A client whose mechanism completes before the server's version is known has no proof to make. */
 static void a_client_that_ends_at_once(void) {
     struct setup setup = usual_setup();
     struct exchange exchange;

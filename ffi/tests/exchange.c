@@ -64,7 +64,7 @@ void exchange_make(struct exchange *exchange, const struct setup *setup) {
 
 void exchange_turn(struct exchange *exchange, int end, const uint8_t *message, size_t length) {
     newaksu_turn turn = {message, 1, 99};
-    /* a block of its own, if there is memory for it, so that a read behind the message is seen */
+    /* a block of its own, if there is memory, so that a read past the message is detected */
     uint8_t *alone = length == 0 ? NULL : malloc(length);
     if (alone != NULL)
         memcpy(alone, message, length);

@@ -15,7 +15,7 @@ struct setup {
     uint32_t client_version, server_version, client_least, server_least, delegation;
     const char *name, *password, *server_password;
     const char *client_key, *server_key;
-    /* The one user that the server takes, or null for each that its mechanism names. */
+    /* The one user whom the server accepts, or null for anyone whom its mechanism names. */
     const char *user;
 };
 
@@ -41,7 +41,7 @@ struct setup usual_setup(void);
 /* Makes both ends. */
 void exchange_make(struct exchange *exchange, const struct setup *setup);
 
-/* Has them send each other messages until one is finished or refuses, and what that sent was
+/* Has them send each other messages until one finishes or refuses, and what that one sent is
  * delivered. */
 void exchange_run(struct exchange *exchange, tamper change, void *context);
 
@@ -50,7 +50,7 @@ void exchange_turn(struct exchange *exchange, int end, const uint8_t *message, s
 
 void exchange_release(struct exchange *exchange);
 
-/* The server has these credentials, the client is done, and nothing of the password went over the
+/* The server has these credentials, the client is done, and the password did not go over the
  * channel in clear. */
 void check_delegated(const struct exchange *exchange, const char *name, const char *password);
 

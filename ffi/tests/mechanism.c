@@ -4,7 +4,7 @@
  *     server   "T2" and what it drew, 16 bytes
  *     client   "T3", a tag of 16 bytes under the key, and the user's name, which the tag covers
  *
- * or, where it has two:
+ * or, if it has two:
  *
  *     client   "K1", what it drew, a tag of 16 bytes under the password, and the user's name,
  *              which the tag covers
@@ -36,8 +36,7 @@ static void password_key(const struct party *party, uint8_t key[CIPHER_KEY]) {
     memcpy(key, party->password, CIPHER_KEY);
 }
 
-/* The key of both: a block of ChaCha20 under the password, and one under that for each of what was
- * drawn. */
+/* The key of both: a ChaCha20 block under the password, and one under that for each drawn value. */
 static void derive(struct party *party) {
     uint8_t block[64] = {0}, nonce[CIPHER_NONCE] = {0};
     const uint8_t *drawn[2] = {party->is_server ? party->peer : party->own,
@@ -57,7 +56,7 @@ static void nonce_of(uint8_t nonce[CIPHER_NONCE], int by_server, uint64_t number
         nonce[4 + i] = (uint8_t)(number >> 8 * i);
 }
 
-/* What T3 proves itself by: a number that no message has. */
+/* The nonce of T3's tag: a number that no message has. */
 static void t3_nonce(uint8_t nonce[CIPHER_NONCE]) {
     memset(nonce, 0xff, CIPHER_NONCE);
 }

@@ -1,5 +1,5 @@
-/* A mechanism for the tests, of three tokens as NTLM's or two as Kerberos's, which really encrypts:
- * by ChaCha20-Poly1305, under a key that both ends derive of the password and of what each drew. */
+/* A mechanism for the tests, with three tokens like NTLM or two like Kerberos, which really
+ * encrypts (ChaCha20-Poly1305). Both ends derive the key from the password and what each drew. */
 #ifndef MECHANISM_H
 #define MECHANISM_H
 
@@ -27,17 +27,17 @@ struct party {
     uint64_t signs;
     uint64_t verified;
 
-    /* What was asked of it. */
+    /* How often each was called. */
     unsigned steps_asked, seals_asked, unseals_asked, peers_asked, verifies_asked, releases;
-    /* A text that it was given to seal held the password, in UTF-16LE. */
+    /* A text given to it to seal held the password, in UTF-16LE. */
     int saw_password;
-    /* Statuses to refuse with in place of an answer; 0 for none. */
+    /* Statuses to refuse with instead of an answer; 0 for none. */
     uint32_t refuse_step, refuse_seal, refuse_unseal, refuse_peer;
     /* It seals less than a signature. */
     int seals_short;
-    /* Two tokens, as Kerberos has them: the server's ends it on both sides. */
+    /* Two tokens, like Kerberos: the server's completes it on both sides. */
     int two_tokens;
-    /* A client's only step ends it. */
+    /* A client's only step completes it. */
     int ends_at_once;
     /* It says that it authenticates user-to-user. */
     int pairs;

@@ -1,6 +1,5 @@
-/* Each allocation of an exchange fails in turn, and no block that is freed holds the password any
- * more. The linker puts the calls of this file in the place of malloc, calloc and free, for the
- * archive too. */
+/* Each allocation of an exchange fails in turn, and no freed block still holds the password. The
+ * linker substitutes the calls of this file for malloc, calloc and free, in the archive too. */
 #define _GNU_SOURCE
 #include <malloc.h>
 #include <stdlib.h>
@@ -16,7 +15,7 @@ void *__wrap_malloc(size_t size);
 void *__wrap_calloc(size_t count, size_t size);
 void __wrap_free(void *block);
 
-/* The number of the allocation that fails, from 1 on, and how many there were. */
+/* The number of the allocation that fails, from 1, and how many there were. */
 static unsigned long failing, counted;
 /* The freed blocks that held the password in UTF-8 or UTF-16LE. */
 static unsigned long leaking;
@@ -52,13 +51,13 @@ static struct setup setup_of_secret(void) {
 static void nothing_is_left_behind(void) {
     struct setup setup = setup_of_secret();
     struct exchange exchange;
-    char *volatile block; /* so that a compiler does not leave the block out */
+    char *volatile block; /* so that the compiler keeps the block */
     exchange_make(&exchange, &setup);
     exchange_run(&exchange, NULL, NULL);
     check_delegated(&exchange, setup.name, setup.password);
     exchange_release(&exchange);
     CHECK(leaking == 0);
-    /* and it would have been seen */
+    /* and it would have been detected */
     block = malloc(100);
     CHECK(block != NULL);
     strcpy(block, secret);
@@ -67,7 +66,7 @@ static void nothing_is_left_behind(void) {
     leaking = 0;
 }
 
-/* The ends are made of memory that there is; then an allocation fails. */
+/* The ends are made with enough memory; then an allocation fails. */
 static void run_with(const struct setup *setup, struct exchange *exchange, unsigned long number) {
     exchange_make(exchange, setup);
     counted = 0;
@@ -80,8 +79,8 @@ static int is_memory(uint32_t status) {
     return status == NEWAKSU_E_INSUFFICIENT_MEMORY;
 }
 
-/* Whichever allocation fails, an end says so and goes no further, or it was one whose failure costs
- * nothing. */
+/* Whichever allocation fails, an end says so and goes no further, unless the failure costs nothing.
+ */
 static void each_allocation_fails(void) {
     struct setup setup = setup_of_secret();
     struct exchange exchange;

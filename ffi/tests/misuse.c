@@ -1,5 +1,5 @@
-/* Handles that are empty, released, or of another kind; numbers that are none; settings that cannot
- * be. Each gets a status, and nothing is written. */
+/* Handles that are empty, released, or of another kind; invalid numbers; impossible settings. Each
+ * gets a status, and nothing is written. */
 #include <string.h>
 
 #include "check.h"
@@ -131,7 +131,7 @@ static void make(newaksu_handle *handle, uint32_t kind) {
     CHECK(found == kind && (handle->at == NULL) == (kind == NEWAKSU_KIND_EMPTY));
 }
 
-/* Nothing was written, but that `written` is 0 where the call has one. */
+/* Nothing was written, except that `written` is 0 if the call has one. */
 static void check_untouched(const struct outputs *outputs) {
     struct outputs before;
     memset(&before, 0xc9, sizeof before);
@@ -158,8 +158,8 @@ static void check_invalid(int which, newaksu_handle *handle) {
     CHECK(handle->at == at);
 }
 
-/* Every call with an object of every kind that it does not take, with none, and with one that was
- * released. */
+/* Every call with an object of every kind that it does not take, with none, and with a released
+ * one. */
 static void every_call_with_every_kind(void) {
     newaksu_handle handle = NEWAKSU_EMPTY;
     for (uint32_t kind = 0; kind < KINDS; kind++)
@@ -180,7 +180,7 @@ static void every_call_with_every_kind(void) {
     (void)newaksu_release(&handle);
 }
 
-/* CredSSP has the versions 2 to 6; the least may be 0. */
+/* CredSSP has versions 2 to 6; the least may be 0. */
 static int is_version(uint32_t number) {
     return number >= 2 && number <= 6;
 }
@@ -213,7 +213,7 @@ static void versions_of_an_end(void) {
     CHECK_STATUS(newaksu_release(&known), NEWAKSU_OK);
 }
 
-/* What cannot be made leaves what the handle had. */
+/* If an object cannot be made, the handle keeps what it had. */
 static void what_cannot_be_made(void) {
     newaksu_handle handle = NEWAKSU_EMPTY, known = NEWAKSU_EMPTY, nothing = NEWAKSU_EMPTY;
     newaksu_client_options client = {NEWAKSU_HOST, 6, 5, 0};
@@ -303,7 +303,7 @@ static void numbers_that_are_none(void) {
     CHECK_STATUS(newaksu_release(&credentials), NEWAKSU_OK);
 }
 
-/* A turn whose arguments do not go together is refused, and the end is as it was. */
+/* A turn whose arguments do not go together is refused, and the end is unchanged. */
 static void arguments_of_a_turn(void) {
     static const uint8_t envelope[] = {1, 'T'};
     newaksu_handle client = NEWAKSU_EMPTY, plain = NEWAKSU_EMPTY;
@@ -336,7 +336,7 @@ static void arguments_of_a_turn(void) {
     CHECK_STATUS(newaksu_release(&plain), NEWAKSU_OK);
 }
 
-/* The users of a server's list, and a list beside anyone. */
+/* The users of a server's list, and a list when anyone is accepted. */
 static void users_of_a_host(struct party *party) {
     const char *users[2] = {"ann", NULL};
     size_t lengths[2] = {3, 40};
@@ -356,7 +356,7 @@ static void users_of_a_host(struct party *party) {
     CHECK(host == NULL);
 }
 
-/* The host's settings, and null where the length is 0. */
+/* The host's settings, and null if the length is 0. */
 static void settings_of_a_host(void) {
     newaksu_client_settings client;
     newaksu_server_settings server;

@@ -1,8 +1,8 @@
-/* Mutated requests, and what the codec of the archive reads of them.
+/* Mutated requests, and what the archive's codec reads from them.
  *
  *     mutated inputs SEED COUNT    writes COUNT requests, a line of hex each
  *     mutated answers              reads such lines, and writes a line for each: version,
- * negoTokens, authInfo, pubKeyAuth, code, nonce and the shortest spelling of the request that it
+ * negoTokens, authInfo, pubKeyAuth, code, nonce and the shortest encoding of the request that it
  * begins with, or the fault
  *
  * The answers are those of `sspi_bench show COUNT`, line by line. */
@@ -15,7 +15,7 @@
 
 #define LONGEST 4096
 
-/* A request that is being changed: its content, behind a header that is put in front of it. */
+/* A request that is being changed: its content; a header is put in front of it later. */
 struct text {
     uint8_t bytes[LONGEST];
     size_t length;
@@ -52,7 +52,7 @@ static void add(struct text *text, const char *digits) {
     text->length += from_hex(digits, text->bytes + text->length, LONGEST - text->length);
 }
 
-/* Each field is there or not, and now and then one comes twice or in another place. */
+/* Each field is there or not, and now and then one occurs twice or in another place. */
 static void build(struct text *text) {
     text->length = 0;
     if (draw(20) != 0)
@@ -71,7 +71,7 @@ static void build(struct text *text) {
     }
 }
 
-/* Puts `more` bytes in, or takes bytes away where it is negative. */
+/* Replaces the `taken` bytes at a place by `more` others. */
 static void splice(struct text *text, size_t at, size_t taken, const uint8_t *put, size_t more) {
     memmove(text->bytes + at + more, text->bytes + at + taken, text->length - at - taken);
     memcpy(text->bytes + at, put, more);
@@ -182,7 +182,7 @@ static void put_request(newaksu_handle *request) {
     put_octets(status, octets, written);
 }
 
-/* What the same bytes are in pieces is what they are whole. */
+/* The same bytes give the same in pieces as whole. */
 static void check_pieces(newaksu_handle *whole, uint32_t status, const uint8_t *bytes,
                          size_t length) {
     newaksu_handle reader = NEWAKSU_EMPTY;

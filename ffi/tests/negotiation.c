@@ -1,5 +1,5 @@
-/* Both ends with the negotiation of the library over mechanisms that really encrypt: which one is
- * picked, MICs both ways, and a list or a MIC that somebody changes in between. */
+/* Both ends with the library's negotiation over mechanisms that really encrypt: which one is
+ * selected, MICs both ways, and a list or a MIC that somebody in between changes. */
 #include <string.h>
 
 #include "check.h"
@@ -131,7 +131,7 @@ static void check_mics(const struct party parties[2], uint64_t each) {
         CHECK(parties[end].signs == each && parties[end].verified == each);
 }
 
-/* NTLM and a MIC of each end: four messages of the client and three of the server. */
+/* NTLM and a MIC from each end: four messages from the client and three from the server. */
 static void ntlm_alone(void) {
     struct pair pair;
     make(&pair, NEWAKSU_NTLM_ALONE, NEWAKSU_NTLM_ALONE);
@@ -142,8 +142,8 @@ static void ntlm_alone(void) {
     CHECK(pair.ntlm[0].releases == 1 && pair.ntlm[1].releases == 1);
 }
 
-/* The client likes Kerberos best, and the server has NTLM: its token is dropped, and the server's
- * Kerberos is never asked. */
+/* The client prefers Kerberos, and the server has NTLM: the Kerberos token is dropped, and the
+ * server's Kerberos is never called. */
 static void ntlm_is_picked(void) {
     struct pair pair;
     make(&pair, NEWAKSU_NTLM_AND_KERBEROS, NEWAKSU_NTLM_ALONE);
@@ -155,8 +155,8 @@ static void ntlm_is_picked(void) {
     release(&pair);
 }
 
-/* Kerberos of two tokens is the first choice of both, and NTLM is never asked. A server needs no
- * MIC there, and sends none, while a client always wants one. */
+/* Kerberos of two tokens is the first choice of both, and NTLM is never called. A server needs no
+ * MIC there, and sends none, while a client always requires one. */
 static void kerberos_is_picked(void) {
     struct pair pair;
     make(&pair, NEWAKSU_NTLM_AND_KERBEROS, NEWAKSU_NTLM_AND_KERBEROS);
@@ -168,7 +168,7 @@ static void kerberos_is_picked(void) {
     release(&pair);
 }
 
-/* The same where Kerberos has three tokens and says that it is user-to-user: a MIC of each end. */
+/* The same if Kerberos has three tokens and says it is user-to-user: a MIC from each end. */
 static void make_user_to_user(struct pair *pair) {
     make(pair, NEWAKSU_NTLM_AND_KERBEROS, NEWAKSU_NTLM_AND_KERBEROS);
     for (int end = 0; end < 2; end++) {
@@ -187,7 +187,7 @@ static void user_to_user_is_picked(void) {
     release(&pair);
 }
 
-/* The offer without Kerberos, whom the client likes best. */
+/* The offer without Kerberos, which the client prefers. */
 static void shorten_list(int number, newaksu_handle *request) {
     static const uint8_t ntlm_oid[] = {0x2b, 6, 1, 4, 1, 0x82, 0x37, 2, 2, 10};
     newaksu_handle init = NEWAKSU_EMPTY;
@@ -203,7 +203,7 @@ static void shorten_list(int number, newaksu_handle *request) {
     CHECK_STATUS(newaksu_release(&init), NEWAKSU_OK);
 }
 
-/* Somebody takes Kerberos off the list: both ends have it, NTLM is picked, and the MICs tell. */
+/* Somebody takes Kerberos off the list: both ends have it, NTLM is selected, the MICs show it. */
 static void a_list_is_shortened(void) {
     struct pair pair;
     make(&pair, NEWAKSU_NTLM_AND_KERBEROS, NEWAKSU_NTLM_AND_KERBEROS);
@@ -267,7 +267,7 @@ static void zero_the_servers(int number, newaksu_handle *request) {
         change_mic(request, 0);
 }
 
-/* Sixteen zeros are what the end reads for a good MIC; from the channel they are none. */
+/* Sixteen zeros are what the end reads as a good MIC; from the channel they are not. */
 static void a_mic_is_changed(void) {
     static const tamper changes[] = {strip_the_clients, strip_the_servers, zero_the_clients,
                                      zero_the_servers};
@@ -330,8 +330,8 @@ static void make_bare_client(struct pair *pair, const newaksu_mechanism *mechani
         NEWAKSU_OK);
 }
 
-/* A server that negotiates takes it by its NTLM where it has one, without MICs. Three messages of
- * the client and two of the server. */
+/* A server that negotiates accepts it with its NTLM if it has one, without MICs. Three messages
+ * from the client and two from the server. */
 static void bare_ntlm_is_taken(void) {
     newaksu_mechanism bare = party_mechanism;
     struct pair pair;
@@ -346,7 +346,7 @@ static void bare_ntlm_is_taken(void) {
     CHECK(pair.ntlm[THE_SERVER].releases == 1 && pair.kerberos[THE_SERVER].releases == 1);
 }
 
-/* And refuses it where it has Kerberos alone, as a token that it does not know. */
+/* And refuses it if it has only Kerberos, as a token that it does not know. */
 static void bare_ntlm_is_refused(void) {
     newaksu_mechanism bare = party_mechanism;
     struct pair pair;

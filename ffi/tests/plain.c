@@ -1,5 +1,5 @@
 /* The exchange of docs/WIRE.md, "An exchange by hand", over the plain mechanism: its five
- * messages byte by byte, and what each turn says of itself. */
+ * messages byte by byte, and what each turn reports. */
 #include <string.h>
 
 #include "check.h"
@@ -22,7 +22,7 @@ static const char *const messages[5] = {
     "301c a008 0406 44004f004d00 a108 0406 61006e006e00 a206 0404 70007700 a522 0420" ZEROS_32,
 };
 
-/* What a server's NTLM answers to the name and its proof: it still has to be told who the peer may
+/* What a server's NTLM answers to the name and its proof: it must still be told who the peer may
  * be (SEC_I_COMPLETE_NEEDED). */
 #define COMPLETE_NEEDED 0x00090313u
 
@@ -133,7 +133,7 @@ static void the_five_messages(void) {
     CHECK_STATUS(newaksu_release(&ends[1]), NEWAKSU_OK);
 }
 
-/* Each number goes into the place that is told for it, wherever that is, and into no other. */
+/* Each number goes to the place passed for it, wherever that is, and to no other. */
 static void check_refusal(newaksu_handle *end, uint32_t kind) {
     uint32_t places[7] = {9, 9, 9, 9, 9, 9, 9};
     CHECK_STATUS(newaksu_end_refusal(end, &places[5], &places[3], &places[1]), NEWAKSU_OK);
@@ -141,7 +141,7 @@ static void check_refusal(newaksu_handle *end, uint32_t kind) {
     CHECK(places[0] == 9 && places[2] == 9 && places[4] == 9 && places[6] == 9);
 }
 
-/* The first message once more, and a server that knows another password (by hand: version 6 and the
+/* The first message repeated, and a server that knows another password (by hand: version 6 and the
  * code). */
 static void refused(const char *password, int replays, uint32_t kind, const char *answer,
                     const char *reason) {

@@ -1,5 +1,5 @@
-/* Any call with any arguments on any handle, a given number of times: each gets a status, writes no more than
- * its capacity, and leaves the handle where it was if it was refused for it.
+/* Any call with any arguments on any handle, a given number of times: each gets a status, writes no
+ * more than its capacity, and leaves the handle unchanged if it was refused for it.
  *
  *     random [COUNT] */
 #include <stdlib.h>
@@ -218,7 +218,7 @@ int main(int count, char **words) {
         taken.written = 0xc9c9;
         for (int j = 0; j < 4; j++)
             given[j] = give();
-        /* no handle is in two places of one call */
+        /* no handle is passed twice to one call */
         if (other == handle)
             other = &handles[(handle - handles + 1) % HANDLES];
         status = kind == 0   ? make(handle, other, given, n)

@@ -1,6 +1,6 @@
-/* Exchanges that go wrong: another key of the channel, a wrong password, changed, cut and replayed
- * messages, a mechanism that fails. Each is refused as the proved ends refuse, and no credentials
- * are given out in any. */
+/* Exchanges that go wrong: another channel key, a wrong password, changed, truncated and replayed
+ * messages, a mechanism that fails. Each is refused as the proved ends refuse, and no client
+ * releases credentials before the server's proof. */
 #include <string.h>
 
 #include "check.h"
@@ -65,8 +65,8 @@ static void flip(void *context, int number, uint8_t *message, size_t *length) {
         message[flip->at] ^= flip->bits;
 }
 
-/* The sealed octets of pubKeyAuth follow a3 LL 04 LL, or of authInfo behind a2: the place of
- * the last of them. */
+/* The sealed octets of pubKeyAuth follow a3 LL 04 LL, and those of authInfo the same with a2: the
+ * place of the last one. */
 static size_t last_of_blob(const uint8_t *message, size_t length, uint8_t tag) {
     for (size_t at = 0; at + 4 < length; at++)
         if (message[at] == tag && message[at + 2] == 0x04 &&
@@ -95,15 +95,15 @@ static void changed_blob(int number, uint8_t tag, uint32_t version, uint32_t sta
     exchange_release(&exchange);
 }
 
-/* A proof that was changed on its way does not open. */
+/* A proof that was changed on the way does not open. */
 static void changed_proofs(void) {
     for (uint32_t version = 5; version <= 6; version++)
         changed_blob(3, 0xa3, version, NEWAKSU_E_MESSAGE_ALTERED);
     changed_blob(2, 0xa3, 6, NEWAKSU_E_MESSAGE_ALTERED);
 }
 
-/* The client's credentials were changed: they were given out, since the server had proved itself,
- * and the server has none. */
+/* The client's credentials were changed: they were sent, since the server had proved itself, and
+ * the server has none. */
 static void changed_credentials(void) {
     struct setup setup = usual_setup();
     struct exchange exchange;
@@ -120,8 +120,8 @@ static void changed_credentials(void) {
     exchange_release(&exchange);
 }
 
-/* One byte of one message is another. Either the credentials come as they were sent, or they are
- * withheld, unless the message was the one that carries them. */
+/* One byte of one message is changed. Either the credentials arrive as sent, or they are withheld,
+ * unless the message was the one that carries them. */
 static void every_byte_changed(void) {
     static const uint8_t bits[] = {0x01, 0x80, 0xff};
     struct setup setup = usual_setup();
@@ -140,7 +140,7 @@ static void every_byte_changed(void) {
             }
 }
 
-/* A message that is cut anywhere has not come yet: the end is as it was, and takes it once it is
+/* A message that is cut anywhere has not arrived yet: the end is unchanged, and takes it once it is
  * whole. */
 static void every_message_cut(void) {
     struct setup setup = usual_setup();
@@ -162,7 +162,7 @@ static void every_message_cut(void) {
     exchange_release(&exchange);
 }
 
-/* Has an end take message `number` once more when it is due to take the one behind `until`. */
+/* Has an end take message `number` again when the one after `until` is due. */
 static void replay(int until, int number, int end, uint32_t status, const char *answer) {
     struct setup setup = usual_setup();
     struct exchange exchange;
@@ -194,7 +194,7 @@ static void replayed_messages(void) {
     replay(4, 3, THE_CLIENT, NEWAKSU_E_OUT_OF_SEQUENCE, NULL);
 }
 
-/* A finished server keeps what it was given, also where it then refuses. */
+/* A finished server keeps what it was given, even if it then refuses. */
 static void an_identity_stays(void) {
     struct setup setup = usual_setup();
     struct exchange exchange;
@@ -208,7 +208,7 @@ static void an_identity_stays(void) {
     exchange_release(&exchange);
 }
 
-/* A message of an exchange goes to the end of another one, which drew otherwise. */
+/* A message of one exchange goes to an end of another, which drew other values. */
 static void messages_of_another_exchange(void) {
     struct setup setup = usual_setup();
     struct exchange one, two;
@@ -243,8 +243,8 @@ static void run_failing(int end, const struct failing *failing, int seals_short,
     exchange_run(exchange, NULL, NULL);
 }
 
-/* A mechanism that fails ends its exchange, and what a server says of it has the mechanism's code.
- */
+/* A mechanism that fails ends its exchange, and what a server reports of it has the mechanism's
+ * code. */
 static void a_server_whose_mechanism_fails(void) {
     static const struct failing cases[] = {
         {NEWAKSU_E_INTERNAL_ERROR, 0, 0, 0},      {NEWAKSU_E_LOGON_DENIED, 0, 0, 0},
@@ -261,11 +261,11 @@ static void a_server_whose_mechanism_fails(void) {
     run_failing(THE_SERVER, &(struct failing){0, 0, 0, 0}, 1, &exchange);
     check_server_refused(&exchange, NEWAKSU_E_INTERNAL_ERROR);
     exchange_release(&exchange);
-    /* whatever else the mechanism says of what it cannot open, the end says that it was altered */
+    /* whatever the mechanism says of what it cannot open, the end says that it was altered */
     run_failing(THE_SERVER, &(struct failing){0, 0, NEWAKSU_E_CONTEXT_EXPIRED, 0}, 0, &exchange);
     check_server_refused(&exchange, NEWAKSU_E_MESSAGE_ALTERED);
     exchange_release(&exchange);
-    /* a number that is no error of SSPI */
+    /* a number that is not an SSPI error */
     run_failing(THE_SERVER, &(struct failing){12345, 0, 0, 0}, 0, &exchange);
     check_server_refused(&exchange, NEWAKSU_E_INVALID_TOKEN);
     exchange_release(&exchange);
@@ -286,7 +286,7 @@ static void a_client_whose_mechanism_fails(void) {
     exchange_release(&exchange);
 }
 
-/* A server that says nothing but an error is not stepped with what else it says. */
+/* If a server reports an error, the client does not step with what else it says. */
 static void a_server_that_tells_an_error(void) {
     struct setup setup = usual_setup();
     struct exchange exchange;

@@ -1,5 +1,4 @@
-/* The tokens of SPNEGO (RFC 4178 4.2), by vectors that were encoded by hand or came from other
- * implementations. */
+/* The tokens of SPNEGO (RFC 4178 4.2), with vectors encoded by hand or by other implementations. */
 #include <string.h>
 
 #include "check.h"
@@ -122,7 +121,7 @@ static void set_targ_field(newaksu_handle *targ, uint32_t field, const char *dig
     CHECK_STATUS(newaksu_targ_set_field(targ, field, bytes, length), NEWAKSU_OK);
 }
 
-/* The pick of a server and its challenge (by hand), and all four fields. */
+/* A server's choice and its challenge (by hand), and all four fields. */
 static void answers(void) {
     static const char *const pick =
         "a123 3021 a003 0a0101 a10c 060a" NTLM "a20c 040a 4e320000000000000000";

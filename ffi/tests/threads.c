@@ -1,4 +1,4 @@
-/* Eight threads, each with ends of its own, make exchanges at once. */
+/* Eight threads, each with its own ends, make exchanges at once. */
 #include <pthread.h>
 #include <stdio.h>
 

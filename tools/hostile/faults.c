@@ -1,4 +1,4 @@
-/* Preloaded before a program, it has one call of a kind fail, or move a single byte. The
+/* Preloaded into a program, it makes one call of a kind fail, or move a single byte. The
  * environment says which:
  *
  *   FAULT_KIND   alloc, read, write, short-read or short-write
@@ -19,7 +19,7 @@ enum { NONE, ALLOC, READ, WRITE, SHORT_READ, SHORT_WRITE };
 static int kind, begun;
 static unsigned long at, count;
 
-/* What is asked for before the real calls are known. */
+/* Memory requested before the real calls are known. */
 static char early[1 << 16];
 static size_t early_used;
 
@@ -170,7 +170,7 @@ ssize_t write(int file, const void *from, size_t size)
     static ssize_t (*next)(int, const void *, size_t);
     if (!next)
         next = real("write");
-    /* Standard error is told the reason of a status, and changes none. */
+    /* Standard error gets the reason for a status, and does not change it. */
     if (file == STDERR_FILENO)
         return next(file, from, size);
     if (is_meant(WRITE)) {

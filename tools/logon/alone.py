@@ -15,9 +15,9 @@ from meeting import NAME, PASSWORD
 from peers import SECONDS, Said
 
 LIMIT = ["--seconds", "2"]
-# less often than every ten seconds a peer would be silent
+# over ten seconds, and a peer would count as silent
 PAUSE = 0.2
-# they ask for CredSSP, and agree to it (MS-RDPBCGR 2.2.1.1.1, 2.2.1.2.1)
+# they request CredSSP, and agree to it (MS-RDPBCGR 2.2.1.1.1, 2.2.1.2.1)
 X224_REQUEST = bytes.fromhex("030000130ee000000000000100080003000000")
 X224_CONFIRM = bytes.fromhex("030000130ed000000000000200080002000000")
 # the header of a TSRequest whose content has 1000 bytes, and the version
@@ -107,7 +107,7 @@ def at_the_prompt(ours, port, typed):
 
     def with_terminal():
         fcntl.ioctl(slave, termios.TIOCSCTTY, 0)
-        # a shell's background job would hand on that they are ignored
+        # a shell's background job would pass on that they are ignored
         signal.signal(signal.SIGINT, signal.SIG_DFL)
         signal.signal(signal.SIGQUIT, signal.SIG_DFL)
     client = subprocess.Popen(

@@ -240,7 +240,7 @@ def negotiated(table):
         [*ours("ntlm"), *users],
         password="wrong",
     )
-    # our client asks for a Kerberos of three tokens, of which a server needs MICs too
+    # our client requests Kerberos of three tokens, for which a server needs MICs too
     for name, mechanism in (("both like Kerberos best", "both"), ("Kerberos alone", "kerberos")):
         add(
             f"our SPNEGO: {name}",
@@ -257,7 +257,7 @@ def negotiated(table):
         ["--mechanism", "ntlm"],
         [*ours("ntlm"), *users],
     )
-    # the SPNEGO of MIT krb5 1.21 looks for the MIC in another field than RFC 4178 has
+    # the SPNEGO of MIT krb5 1.21 looks for the MIC in a field other than that of RFC 4178
     if table.freerdp.second:
         add(
             "our SPNEGO at that of GSSAPI",
@@ -553,7 +553,7 @@ def freerdp_servers(table):
         went_on,
         ["--early"],
     )
-    # server 2 closes without a word
+    # server 2 closes without a message
     wrong = says(3, CLOSED) if table.freerdp.second else says(1, TOLD)
     add(
         "a wrong password",
@@ -576,7 +576,7 @@ def freerdp_servers_relayed(table):
         if table.freerdp.second:
             add(name, says(0, version(number), DELEGATED), went_on, BELOW_5, between=relay)
         else:
-            # server 3 adds one to as many zeros, and not to the key
+            # server 3 adds one to that many zeros, not to the key
             add(
                 name,
                 says(1, version(number), refused("MessageAltered")),

@@ -67,7 +67,7 @@ class Logon:
     client: Expected
     server: Expected
     between: Callable | None = None
-    # whether a request with credentials may have come to the relay; None for either
+    # whether a request with credentials may have reached the relay; None for either
     credentials_left: bool | None = None
 
     def meet(self):

@@ -110,7 +110,7 @@ class FreeRdp:
         self.home.mkdir()
         suffix = "3" if shutil.which("xfreerdp3") else ""
         self.second = not suffix
-        # how its logs tell that CredSSP has ended well
+        # how its logs show that CredSSP succeeded
         self.client_went_on = r"CONNECTION_STATE_NLA --> CONNECTION_STATE_MCS_\w+"
         self.server_went_on = (r"CONNECTION_STATE_NEGO --> CONNECTION_STATE_MCS_\w+" if suffix
                                else r"CONNECTION_STATE_INITIAL --> CONNECTION_STATE_NEGO")
@@ -121,7 +121,7 @@ class FreeRdp:
     def __enter__(self):
         read_end, write_end = os.pipe()
         with (self.work / "xvfb.log").open("wb") as log:
-            # without a reset it stays when its last client has gone
+            # with -noreset it keeps running after its last client has gone
             words = [
                 "Xvfb", "-displayfd", str(write_end), "-screen", "0", "640x480x24",
                 "-nolisten", "tcp", "-noreset",
@@ -156,7 +156,7 @@ class FreeRdp:
         """The shadow server, once it listens, with the users of the file."""
         for _ in range(3):
             port = free_port()
-            # its log goes through stdio, which would keep the last lines to itself
+            # its log goes through stdio, which would keep the last lines buffered
             words = [
                 "stdbuf", "-oL", self.shadow, f"/port:{port}", "/bind-address:127.0.0.1",
                 f"/sam-file:{sam}", *arguments,
@@ -180,7 +180,7 @@ class FreeRdp:
         )
 
     def stop(self, server):
-        # what it says of a connection that has ended may come a little later
+        # what it logs about a connection that has ended may come a little later
         time.sleep(0.5)
         server.terminate()
         try:
@@ -213,7 +213,7 @@ class FreeRdp:
             **self.environment,
             **({"KRB5_CONFIG": kerberos["KRB5_CONFIG"]} if kerberos else {}),
         }
-        # FreeRDP warns of passwords on a command line; this one is made up for the run
+        # FreeRDP warns about passwords on a command line; this one is made up for the run
         words = [
             self.client, f"/v:127.0.0.1:{port}", "/cert:ignore", "+auth-only",
             f"/d:{domain}", f"/u:{user}", f"/p:{password}", *(arguments or ["/sec:nla"]),

@@ -57,7 +57,7 @@ class Relay(threading.Thread):
             sender, first = self.first_of(ends)
             receiver = ends["server" if sender == "client" else "client"]
             if first != b"\x30":
-                # no request any more, but what follows CredSSP; or the end
+                # no longer a request, but what follows CredSSP; or the end
                 if not first:
                     return
                 receiver.sendall(first + ends[sender].recv(65536))

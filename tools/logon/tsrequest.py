@@ -65,8 +65,8 @@ def garbled(request, field):
 
 # ---- fields rebuilt, whose lengths may change
 
-# where the token of SPNEGO is, by the tags around it, and where in it are an offer's list and an
-# answer's fields
+# where the SPNEGO token is, by the tags around it, and where an offer's list and an answer's
+# fields are in it
 TOKEN = (0x30, 0xA1, 0x30, 0x30, 0xA0, 0x04)
 OFFERED = (*TOKEN, 0x60, 0xA0, 0x30, 0xA0, 0x30)
 ANSWERED = (*TOKEN, 0xA1, 0x30)

@@ -1,12 +1,12 @@
-//! The C interface of libnewaksu, as `newaksu.h` has it: what each call does, its errors and what
-//! the caller owes are there. The crate `newaksu` is the safe one over it.
+//! The C interface of libnewaksu, as in `newaksu.h`, which says what each call does, its errors and
+//! what the caller must ensure. The crate `newaksu` is the safe interface over it.
 
 #![no_std]
 #![allow(non_camel_case_types)]
 
 use core::ffi::c_void;
 
-/// One word that owns an object; `at` is null where it is empty. It may be moved and is never
+/// One word that owns an object; `at` is null if it is empty. It may be moved but must not be
 /// copied.
 #[repr(C)]
 #[derive(Debug)]
@@ -48,7 +48,7 @@ pub struct newaksu_server_options {
     pub peers: u32,
 }
 
-/// What the last turn did with the context; each is 0 or 1, but `status`.
+/// What the last turn did with the context; each but `status` is 0 or 1.
 #[repr(C)]
 #[derive(Clone, Copy, Debug, Default, PartialEq, Eq)]
 pub struct newaksu_acts {
@@ -68,11 +68,11 @@ pub struct newaksu_acts {
     pub opened: u32,
 }
 
-/// It is done.
+/// Success.
 pub const NEWAKSU_OK: u32 = 0;
 /// The bytes end before the element does.
 pub const NEWAKSU_UNEXPECTED_EOF: u32 = 1;
-/// A wrong tag or a refused length; of an encoder, a content of more than 1048576 bytes.
+/// A wrong tag or a refused length; from an encoder, a content of more than 1048576 bytes.
 pub const NEWAKSU_INVALID_DATA: u32 = 2;
 /// A source failed: no call here has one.
 pub const NEWAKSU_READ_FAULT: u32 = 3;
@@ -80,7 +80,7 @@ pub const NEWAKSU_READ_FAULT: u32 = 3;
 pub const NEWAKSU_WRITE_FAULT: u32 = 4;
 /// There is no such field, text, message, identity or refusal.
 pub const NEWAKSU_ABSENT: u32 = 6;
-/// There was no memory.
+/// Out of memory.
 pub const NEWAKSU_E_INSUFFICIENT_MEMORY: u32 = 0x8009_0300;
 /// The handle is empty, or holds an object of another kind.
 pub const NEWAKSU_E_INVALID_HANDLE: u32 = 0x8009_0301;
@@ -102,14 +102,14 @@ pub const NEWAKSU_E_MESSAGE_ALTERED: u32 = 0x8009_030f;
 pub const NEWAKSU_E_OUT_OF_SEQUENCE: u32 = 0x8009_0310;
 /// SEC_E_CONTEXT_EXPIRED of winerror.h.
 pub const NEWAKSU_E_CONTEXT_EXPIRED: u32 = 0x8009_0317;
-/// The buffer is too small, and `*written` is the capacity that is needed.
+/// The buffer is too small, and `*written` is the capacity needed.
 pub const NEWAKSU_E_BUFFER_TOO_SMALL: u32 = 0x8009_0321;
 /// SEC_E_DOWNGRADE_DETECTED of winerror.h.
 pub const NEWAKSU_E_DOWNGRADE_DETECTED: u32 = 0x8009_0350;
-/// A number that is none of those listed, a text that is not in its encoding, or a length that it
-/// must not have.
+/// A number that is not one of those listed, a text that is not valid in its encoding, or a length
+/// that is not allowed.
 pub const NEWAKSU_E_INVALID_PARAMETER: u32 = 0x8009_035d;
-/// No error: a step of a mechanism wants another token (SEC_I_CONTINUE_NEEDED).
+/// Not an error: a step of a mechanism needs another token (SEC_I_CONTINUE_NEEDED).
 pub const NEWAKSU_CONTINUE_NEEDED: u32 = 0x0009_0312;
 /// The handle is empty.
 pub const NEWAKSU_KIND_EMPTY: u32 = 0;
@@ -133,7 +133,7 @@ pub const NEWAKSU_KIND_SERVER: u32 = 8;
 pub const NEWAKSU_KIND_PLAIN_CLIENT: u32 = 9;
 /// A server over plain NTLM.
 pub const NEWAKSU_KIND_PLAIN_SERVER: u32 = 10;
-/// What the caller knows of the negotiation of its end.
+/// What the caller knows of its end's negotiation.
 pub const NEWAKSU_KIND_COURSE: u32 = 11;
 /// The caller has an NTLM and no Kerberos.
 pub const NEWAKSU_NTLM_ALONE: u32 = 1;
@@ -147,7 +147,7 @@ pub const NEWAKSU_NEGO_TOKENS: u32 = 1;
 pub const NEWAKSU_AUTH_INFO: u32 = 2;
 /// The sealed proof of the channel's key.
 pub const NEWAKSU_PUB_KEY_AUTH: u32 = 3;
-/// An NTSTATUS, by calls of its own.
+/// An NTSTATUS; it has its own calls.
 pub const NEWAKSU_ERROR_CODE: u32 = 4;
 /// 32 bytes.
 pub const NEWAKSU_CLIENT_NONCE: u32 = 5;
@@ -167,7 +167,7 @@ pub const NEWAKSU_ACCEPT_COMPLETED: u32 = 0;
 pub const NEWAKSU_ACCEPT_INCOMPLETE: u32 = 1;
 /// Any other negState.
 pub const NEWAKSU_OTHER_STATE: u32 = 2;
-/// The mechanism that the server picked.
+/// The mechanism that the server selected.
 pub const NEWAKSU_SUPPORTED_MECH: u32 = 1;
 /// The token of that mechanism.
 pub const NEWAKSU_RESPONSE_TOKEN: u32 = 2;
@@ -185,9 +185,9 @@ pub const NEWAKSU_MECH_NTLM: u32 = 3;
 pub const NEWAKSU_HOST: u32 = 0;
 /// For tests: NTLM's messages, and nothing is hidden.
 pub const NEWAKSU_PLAIN_NTLM: u32 = 1;
-/// A server takes those of its list alone.
+/// A server accepts only the users of its list.
 pub const NEWAKSU_PEERS_LISTED: u32 = 0;
-/// A server takes whoever the caller's mechanism names.
+/// A server accepts anyone whom the caller's mechanism names.
 pub const NEWAKSU_PEERS_ANYONE: u32 = 1;
 /// The client delegates its credentials.
 pub const NEWAKSU_WITH_CREDENTIALS: u32 = 0;
@@ -201,7 +201,7 @@ pub const NEWAKSU_STATE_PUB_KEY_INFO: u32 = 1;
 pub const NEWAKSU_STATE_AUTH_INFO: u32 = 2;
 /// Nothing more is due.
 pub const NEWAKSU_STATE_FINAL: u32 = 3;
-/// There was none yet.
+/// No turn yet.
 pub const NEWAKSU_OUTCOME_NONE: u32 = 0;
 /// A message for the peer, whose answer the end waits for.
 pub const NEWAKSU_OUTCOME_REPLY: u32 = 1;
@@ -222,20 +222,20 @@ pub const NEWAKSU_IDENTITY_PASSWORD: u32 = 2;
 /// The whole name: DOMAIN\user, user@domain or user.
 pub const NEWAKSU_IDENTITY_NAME: u32 = 3;
 
-/// The version of the header, to be compared with `newaksu_version`.
+/// The version of the header, to compare with `newaksu_version`.
 pub const NEWAKSU_VERSION_NUMBER: u32 = 0x00_01_00;
 
 extern "C" {
-    /// The version of the archive, to be compared with NEWAKSU_VERSION_NUMBER.
+    /// The version of the archive, to compare with NEWAKSU_VERSION_NUMBER.
     pub fn newaksu_version() -> u32;
-    /// The name of a SECURITY_STATUS, as "LogonDenied".
+    /// The name of a SECURITY_STATUS, such as "LogonDenied".
     pub fn newaksu_error_name(
         status: u32,
         out: *mut u8,
         capacity: usize,
         written: *mut usize,
     ) -> u32;
-    /// The name of an NTSTATUS, as "LOGON_FAILURE".
+    /// The name of an NTSTATUS, such as "STATUS_LOGON_FAILURE".
     pub fn newaksu_nstatus_name(
         code: u32,
         out: *mut u8,
@@ -246,10 +246,10 @@ extern "C" {
     pub fn newaksu_release(handle: *mut newaksu_handle) -> u32;
     /// Which kind of object the handle holds.
     pub fn newaksu_kind(handle: *mut newaksu_handle, kind: *mut u32) -> u32;
-    /// How many bytes the request takes that `bytes` begin with, header and content, from its
-    /// header alone; five bytes are enough for every header.
+    /// The size of the request that `bytes` begin with, header and content, read from its header
+    /// alone; five bytes are enough for any header.
     pub fn newaksu_request_size(bytes: *const u8, length: usize, size: *mut usize) -> u32;
-    /// A request of this version without any other field.
+    /// A request with this version and no other field.
     pub fn newaksu_request_new(request: *mut newaksu_handle, version: u32) -> u32;
     /// The request that the bytes begin with; what follows it is ignored.
     pub fn newaksu_request_decode(
@@ -257,7 +257,7 @@ extern "C" {
         bytes: *const u8,
         length: usize,
     ) -> u32;
-    /// The shortest spelling.
+    /// The shortest encoding.
     pub fn newaksu_request_encode(
         request: *mut newaksu_handle,
         out: *mut u8,
@@ -276,26 +276,26 @@ extern "C" {
         capacity: usize,
         written: *mut usize,
     ) -> u32;
-    /// Gives the field these octets, which are copied.
+    /// Sets the field to these octets, which are copied.
     pub fn newaksu_request_set_field(
         request: *mut newaksu_handle,
         field: u32,
         bytes: *const u8,
         length: usize,
     ) -> u32;
-    /// Takes a field away, 1 to 5.
+    /// Removes a field, 1 to 5.
     pub fn newaksu_request_clear_field(request: *mut newaksu_handle, field: u32) -> u32;
     /// NEWAKSU_ABSENT: there is no code.
     pub fn newaksu_request_error_code(request: *mut newaksu_handle, code: *mut u32) -> u32;
     /// See `newaksu.h`.
     pub fn newaksu_request_set_error_code(request: *mut newaksu_handle, code: u32) -> u32;
-    /// A reader of one request that comes in pieces, which keeps the fields and not the bytes.
+    /// A reader of one request that arrives in pieces; it keeps the fields and not the bytes.
     pub fn newaksu_reader_new(reader: *mut newaksu_handle) -> u32;
-    /// The next piece.
+    /// Feeds the next piece.
     pub fn newaksu_reader_feed(reader: *mut newaksu_handle, piece: *const u8, length: usize)
         -> u32;
-    /// What newaksu_request_decode says of all that was fed: at NEWAKSU_OK the handle holds the
-    /// request, in place of the reader; at NEWAKSU_UNEXPECTED_EOF and NEWAKSU_INVALID_DATA a reader
+    /// What newaksu_request_decode returns for all that was fed. On NEWAKSU_OK the handle holds the
+    /// request instead of the reader; on NEWAKSU_UNEXPECTED_EOF and NEWAKSU_INVALID_DATA, a reader
     /// that was fed nothing.
     pub fn newaksu_reader_finish(reader: *mut newaksu_handle) -> u32;
     /// Three texts in UTF-16LE, which are copied.
@@ -308,13 +308,13 @@ extern "C" {
         password: *const u8,
         password_length: usize,
     ) -> u32;
-    /// NEWAKSU_E_INVALID_TOKEN: the bytes begin with no TSCredentials of a password.
+    /// NEWAKSU_E_INVALID_TOKEN: the bytes do not begin with TSCredentials of a password.
     pub fn newaksu_credentials_decode(
         credentials: *mut newaksu_handle,
         bytes: *const u8,
         length: usize,
     ) -> u32;
-    /// NEWAKSU_E_INTERNAL_ERROR: the content passes 1048576 bytes.
+    /// NEWAKSU_E_INTERNAL_ERROR: the content exceeds 1048576 bytes.
     pub fn newaksu_credentials_encode(
         credentials: *mut newaksu_handle,
         out: *mut u8,
@@ -338,11 +338,11 @@ extern "C" {
     ) -> u32;
     /// NEWAKSU_UNEXPECTED_EOF: fewer than four bytes.
     pub fn newaksu_early_decode(bytes: *const u8, length: usize, result: *mut u32) -> u32;
-    /// One without list and token.
+    /// One without a list or token.
     pub fn newaksu_init_new(init: *mut newaksu_handle) -> u32;
-    /// NEWAKSU_E_INVALID_TOKEN: the bytes begin with none.
+    /// NEWAKSU_E_INVALID_TOKEN: the bytes do not begin with one.
     pub fn newaksu_init_decode(init: *mut newaksu_handle, bytes: *const u8, length: usize) -> u32;
-    /// NEWAKSU_E_INTERNAL_ERROR: a content passes 1048576 bytes.
+    /// NEWAKSU_E_INTERNAL_ERROR: a content exceeds 1048576 bytes.
     pub fn newaksu_init_encode(
         init: *mut newaksu_handle,
         out: *mut u8,
@@ -351,7 +351,7 @@ extern "C" {
     ) -> u32;
     /// NEWAKSU_ABSENT: there are no mechTypes.
     pub fn newaksu_init_mech_count(init: *mut newaksu_handle, count: *mut usize) -> u32;
-    /// NEWAKSU_ABSENT: there are no mechTypes, or fewer than that.
+    /// `index` counts from 0. NEWAKSU_ABSENT: there is no such mechanism.
     pub fn newaksu_init_mech(
         init: *mut newaksu_handle,
         index: usize,
@@ -359,7 +359,7 @@ extern "C" {
         capacity: usize,
         written: *mut usize,
     ) -> u32;
-    /// Puts a mechanism behind the others, and makes the list where there is none.
+    /// Appends a mechanism to the list, and makes the list if there is none.
     pub fn newaksu_init_add_mech(init: *mut newaksu_handle, oid: *const u8, length: usize) -> u32;
     /// The mechToken.
     pub fn newaksu_init_token(
@@ -374,14 +374,14 @@ extern "C" {
         bytes: *const u8,
         length: usize,
     ) -> u32;
-    /// The mechTypes alone, as the SEQUENCE over which MICs are made.
+    /// Only the mechTypes, as the SEQUENCE over which MICs are made.
     pub fn newaksu_init_mech_list(
         init: *mut newaksu_handle,
         out: *mut u8,
         capacity: usize,
         written: *mut usize,
     ) -> u32;
-    /// NegTokenResp (RFC 4178 4.2.2); the calls are as those of NegTokenInit.
+    /// NegTokenResp (RFC 4178 4.2.2); the calls are like those of NegTokenInit.
     pub fn newaksu_targ_new(targ: *mut newaksu_handle) -> u32;
     /// See `newaksu.h`.
     pub fn newaksu_targ_decode(targ: *mut newaksu_handle, bytes: *const u8, length: usize) -> u32;
@@ -411,11 +411,11 @@ extern "C" {
         bytes: *const u8,
         length: usize,
     ) -> u32;
-    /// Which mechanism the content of an OBJECT IDENTIFIER is.
+    /// Which mechanism the content of an OBJECT IDENTIFIER names.
     pub fn newaksu_mech_kind(oid: *const u8, length: usize, kind: *mut u32) -> u32;
-    /// None yet.
+    /// An empty list.
     pub fn newaksu_identities_new(identities: *mut newaksu_handle) -> u32;
-    /// One more: DOMAIN\user, user@domain or user, and a password, which both are copied.
+    /// Adds a user: DOMAIN\user, user@domain or user, and a password; both are copied.
     pub fn newaksu_identities_add(
         identities: *mut newaksu_handle,
         name: *const u8,
@@ -423,7 +423,7 @@ extern "C" {
         password: *const u8,
         password_length: usize,
     ) -> u32;
-    /// A client to which nothing was delivered yet; all is copied.
+    /// A client that has received nothing yet; all is copied.
     pub fn newaksu_client_new(
         client: *mut newaksu_handle,
         options: *const newaksu_client_options,
@@ -438,8 +438,8 @@ extern "C" {
         password: *const u8,
         password_length: usize,
     ) -> u32;
-    /// A server to which nothing was delivered yet; all is copied, the identities too, which so may
-    /// serve many servers.
+    /// A server that has received nothing yet; all is copied, including the identities, which may
+    /// therefore serve many servers.
     pub fn newaksu_server_new(
         server: *mut newaksu_handle,
         identities: *mut newaksu_handle,
@@ -473,10 +473,10 @@ extern "C" {
         opened: *const u8,
         opened_length: usize,
     ) -> u32;
-    /// What the last turn came to.
+    /// The outcome of the last turn.
     pub fn newaksu_end_outcome(end: *mut newaksu_handle, outcome: *mut u32) -> u32;
-    /// The text that the caller has to seal now, and the field that it is for: NEWAKSU_PUB_KEY_AUTH
-    /// or NEWAKSU_AUTH_INFO, which `*field` is wherever there is one, also at
+    /// The text that the caller must seal now, and its field: NEWAKSU_PUB_KEY_AUTH or
+    /// NEWAKSU_AUTH_INFO. `*field` is set whenever there is a text, also on
     /// NEWAKSU_E_BUFFER_TOO_SMALL.
     pub fn newaksu_end_sealing(
         end: *mut newaksu_handle,
@@ -485,7 +485,7 @@ extern "C" {
         capacity: usize,
         written: *mut usize,
     ) -> u32;
-    /// The message for the peer, with the sealed blob in the place of the text.
+    /// The message for the peer, with the sealed blob in place of the text.
     pub fn newaksu_end_message(
         end: *mut newaksu_handle,
         sealed: *const u8,
@@ -496,8 +496,8 @@ extern "C" {
     ) -> u32;
     /// See `newaksu.h`.
     pub fn newaksu_end_acts(end: *mut newaksu_handle, acts: *mut newaksu_acts) -> u32;
-    /// Why the last turn was refused: its kind, a SECURITY_STATUS, and the NTSTATUS that the peer
-    /// told, where `*has_nstatus` is 1.
+    /// Why the last turn was refused: its kind, a SECURITY_STATUS, and, if `*has_nstatus` is 1, the
+    /// NTSTATUS that the peer sent.
     pub fn newaksu_end_refusal(
         end: *mut newaksu_handle,
         kind: *mut u32,
@@ -511,7 +511,7 @@ extern "C" {
         capacity: usize,
         written: *mut usize,
     ) -> u32;
-    /// The credentials that were delegated, in UTF-8.
+    /// The delegated credentials, in UTF-8.
     pub fn newaksu_server_identity(
         server: *mut newaksu_handle,
         which: u32,
@@ -519,7 +519,7 @@ extern "C" {
         capacity: usize,
         written: *mut usize,
     ) -> u32;
-    /// A client that negotiates over two mechanisms of the caller.
+    /// A client that negotiates over two of the caller's mechanisms.
     pub fn newaksu_client_negotiating(
         client: *mut newaksu_handle,
         options: *const newaksu_client_options,
@@ -534,7 +534,7 @@ extern "C" {
         password: *const u8,
         password_length: usize,
     ) -> u32;
-    /// A server that negotiates over two mechanisms of the caller.
+    /// A server that negotiates over two of the caller's mechanisms.
     pub fn newaksu_server_negotiating(
         server: *mut newaksu_handle,
         identities: *mut newaksu_handle,
@@ -567,7 +567,7 @@ extern "C" {
     ) -> u32;
     /// A client's offer was made.
     pub fn newaksu_course_offered(course: *mut newaksu_handle) -> u32;
-    /// Another call was made.
+    /// A step answered in any other call.
     pub fn newaksu_course_go_on(course: *mut newaksu_handle, ended: u32, status: u32) -> u32;
     /// The list over which each MIC is made and verified.
     pub fn newaksu_course_list(
@@ -576,10 +576,10 @@ extern "C" {
         capacity: usize,
         written: *mut usize,
     ) -> u32;
-    /// The offer as a server is handed it.
+    /// The offer as it is passed to a server.
     pub fn newaksu_init_hand(init: *mut newaksu_handle, step: *const u8, step_length: usize)
         -> u32;
-    /// A later token as an end is handed it.
+    /// A later token as it is passed to an end.
     pub fn newaksu_targ_hand(
         targ: *mut newaksu_handle,
         step: *const u8,

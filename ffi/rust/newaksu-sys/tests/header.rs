@@ -1,10 +1,10 @@
 //! The crate declares what the header does: each call with as many arguments, each constant with
-//! its number.
+//! its value.
 
 const HEADER: &str = include_str!("../../../include/newaksu.h");
 const CRATE: &str = include_str!("../src/lib.rs");
 
-/// The text without white space, so that the layout does not count.
+/// The text without white space, so that layout does not matter.
 fn close(text: &str) -> String {
     text.split_whitespace().collect()
 }

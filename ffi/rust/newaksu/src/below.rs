@@ -7,24 +7,24 @@ use crate::status::SecurityStatus;
 /// How a server names the peer whom its mechanism authenticated; a client does not.
 pub(crate) type Naming<M> = Option<fn(&mut M) -> Result<String, SecurityStatus>>;
 
-/// What an end asks of that which is below it.
+/// What an end requires of what is below it.
 pub(crate) trait Below {
     fn is_server(&self) -> bool;
 
-    /// Steps with the token of a request; without a request it is a client's first step. Answers
-    /// what the end is handed of the step, and whether the context has ended.
+    /// Steps with the token of a request; without a request it is a client's first step. Returns
+    /// what the end is passed of the step, and whether the context is complete.
     fn step(&mut self, request: Option<&TsRequest>) -> Result<(Vec<u8>, bool), SecurityStatus>;
 
     fn seal(&mut self, text: &[u8]) -> Result<Vec<u8>, SecurityStatus>;
 
     fn unseal(&mut self, blob: &[u8]) -> Result<Vec<u8>, SecurityStatus>;
 
-    /// The end made a step, which answered so.
+    /// Called after the end's step answered with this status.
     fn go_on(&mut self, _status: u32) -> Result<(), SecurityStatus> {
         Ok(())
     }
 
-    /// The message, with the MIC of the mechanism where the end made one.
+    /// The message, with the mechanism's MIC if the end made one.
     fn signed(&mut self, message: Vec<u8>) -> Result<Vec<u8>, SecurityStatus> {
         Ok(message)
     }
@@ -56,7 +56,7 @@ impl<M: Mechanism> Below for One<'_, M> {
     }
 }
 
-/// The envelope of a step, and whether the context has ended.
+/// The envelope of a step, and whether the context is complete.
 pub(crate) fn step<M: Mechanism>(
     mechanism: &mut M,
     naming: Naming<M>,
@@ -88,7 +88,7 @@ fn append(envelope: &mut Vec<u8>, status: u8, rest: &[u8]) {
     envelope.extend_from_slice(rest);
 }
 
-/// A name in UTF-16, behind the count of its bytes.
+/// A name in UTF-16LE, after the count of its bytes.
 fn counted(name: &str) -> Result<Vec<u8>, SecurityStatus> {
     let bytes: Vec<u8> = name.encode_utf16().flat_map(u16::to_le_bytes).collect();
     let count = u16::try_from(bytes.len()).map_err(|_| SecurityStatus::INVALID_PARAMETER)?;

@@ -11,7 +11,7 @@ use std::ffi::{c_int, c_void};
 use std::fmt;
 
 extern "C" {
-    /// Of the C library (POSIX.1-2024): random bytes, at most 256.
+    /// From the C library (POSIX.1-2024): random bytes, at most 256.
     fn getentropy(buffer: *mut c_void, length: usize) -> c_int;
 }
 
@@ -30,8 +30,8 @@ pub enum Delegation {
 pub struct ClientSettings<'a> {
     /// The version of CredSSP that it speaks: 2 to 6.
     pub version: u32,
-    /// The least version of a server that is taken: 2 to 6, or 0 for every. Below 5 whoever relays
-    /// the exchange can choose the proof.
+    /// The lowest version accepted from a server: 2 to 6, or 0 for any. Below 5, whoever relays the
+    /// exchange can choose the proof.
     pub least_version: u32,
     /// What is delegated.
     pub delegation: Delegation,
@@ -42,13 +42,13 @@ pub struct ClientSettings<'a> {
     pub user: &'a str,
     /// The password.
     pub password: &'a str,
-    /// What goes into the proofs from version 5 on: 32 fresh bytes of a cryptographic generator.
+    /// What goes into the proofs from version 5 on: 32 fresh bytes from a cryptographic generator.
     /// `None` lets the client draw them.
     pub nonce: Option<[u8; 32]>,
 }
 
 impl<'a> ClientSettings<'a> {
-    /// Version 6, which takes servers from version 5 on, delegates its credentials and draws its
+    /// Uses version 6, accepts servers from version 5 on, delegates its credentials and draws its
     /// nonce.
     pub fn new(public_key: &'a [u8], user: &'a str, password: &'a str) -> ClientSettings<'a> {
         ClientSettings {
@@ -74,7 +74,7 @@ impl fmt::Debug for ClientSettings<'_> {
     }
 }
 
-/// What a client's turn came to.
+/// The result of a client's turn.
 #[derive(Clone, Debug, PartialEq, Eq)]
 pub enum ClientTurn {
     /// A message for the server, whose answer is due.
@@ -93,17 +93,17 @@ impl From<Made> for ClientTurn {
     }
 }
 
-/// A client over a mechanism. It delegates its credentials once at most, and only to a server that
-/// proved over that mechanism that it speaks over the channel of the same public key.
+/// A client over a mechanism. It delegates its credentials at most once, and only to a server that
+/// has proved over that mechanism that it speaks over the channel with the same public key.
 pub struct Client<M> {
     end: End,
     mechanism: M,
 }
 
 impl<M: Mechanism> Client<M> {
-    /// A client that has said nothing yet. Refused with `INVALID_PARAMETER` where a version is none
-    /// of those of the settings; with `UNKNOWN_CREDENTIALS` where the user's name mixes the forms;
-    /// with `INTERNAL_ERROR` where there was no randomness.
+    /// A client that has said nothing yet. Refused with `INVALID_PARAMETER` if a version is not one
+    /// allowed in the settings; with `UNKNOWN_CREDENTIALS` if the user's name mixes the forms; with
+    /// `INTERNAL_ERROR` if no randomness was available.
     pub fn new(settings: &ClientSettings<'_>, mechanism: M) -> Result<Client<M>, Error> {
         Ok(Client {
             end: end_of(settings, sys::NEWAKSU_HOST)?,
@@ -116,7 +116,7 @@ impl<M: Mechanism> Client<M> {
         self.process(&[])
     }
 
-    /// Takes one whole message of the server, and makes the next one. After
+    /// Takes one whole message from the server, and makes the next one. After
     /// [`ProcessError::Refused`] the exchange is over, and each further call is refused with
     /// `OUT_OF_SEQUENCE`.
     pub fn process(&mut self, message: &[u8]) -> Result<ClientTurn, ProcessError> {
@@ -158,7 +158,7 @@ impl<M> Client<M> {
     }
 }
 
-/// A client's end over the host's mechanism, or over those of a number, which it negotiates.
+/// A client's end over the host's mechanism, or over those with this number, which it negotiates.
 pub(crate) fn end_of(settings: &ClientSettings<'_>, mechanisms: u32) -> Result<End, Error> {
     let options = sys::newaksu_client_options {
         mechanism: mechanisms,
@@ -199,7 +199,7 @@ pub(crate) fn end_of(settings: &ClientSettings<'_>, mechanisms: u32) -> Result<E
 
 fn drawn() -> Result<[u8; 32], Error> {
     let mut nonce = [0; 32];
-    // SAFETY: the room is for 32 bytes.
+    // SAFETY: there is room for 32 bytes.
     match unsafe { getentropy(nonce.as_mut_ptr().cast(), nonce.len()) } {
         0 => Ok(nonce),
         _ => Err(Error::Refused(SecurityStatus::INTERNAL_ERROR)),

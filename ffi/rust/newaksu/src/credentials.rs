@@ -5,8 +5,7 @@ use crate::handle::{written_whole, Handle};
 use crate::secret::Secret;
 use newaksu_sys as sys;
 
-/// The credentials of a password, as they are inside `authInfo`: three texts in UTF-16, the low
-/// byte first.
+/// The credentials of a password, as they are inside `authInfo`: three texts in UTF-16LE.
 #[derive(Debug)]
 pub struct TsCredentials {
     /// The domain; empty for a user principal name.
@@ -18,7 +17,7 @@ pub struct TsCredentials {
 }
 
 impl TsCredentials {
-    /// Of texts.
+    /// From texts.
     pub fn new(domain: &str, user: &str, password: &str) -> TsCredentials {
         TsCredentials {
             domain: utf16(domain),
@@ -27,9 +26,9 @@ impl TsCredentials {
         }
     }
 
-    /// The credentials that the bytes begin with. Refused with `INVALID_TOKEN` where there are none
-    /// of a password, with `UNSUPPORTED_FUNCTION` for those of a smart card, with
-    /// `INVALID_PARAMETER` where a text is no UTF-16.
+    /// The credentials that the bytes begin with. Refused with `INVALID_TOKEN` if there are none of
+    /// a password, with `UNSUPPORTED_FUNCTION` for those of a smart card, with `INVALID_PARAMETER`
+    /// if a text is not UTF-16.
     pub fn decode(bytes: &[u8]) -> Result<TsCredentials, Error> {
         // SAFETY: the handle and the bytes are valid.
         let handle = Handle::made(|at| unsafe {
@@ -42,8 +41,8 @@ impl TsCredentials {
         })
     }
 
-    /// The shortest spelling. Refused with `INVALID_PARAMETER` where a text is no UTF-16, with
-    /// `INTERNAL_ERROR` where the content passes 1048576 bytes.
+    /// The shortest encoding. Refused with `INVALID_PARAMETER` if a text is not UTF-16, with
+    /// `INTERNAL_ERROR` if the content exceeds 1048576 bytes.
     pub fn encode(&self) -> Result<Secret, Error> {
         let password = self.password.as_bytes();
         // SAFETY: the handle and the three texts are valid.
@@ -58,7 +57,7 @@ impl TsCredentials {
                 password.len(),
             )
         })?;
-        // SAFETY: the handle is valid, and the room is for `capacity` bytes.
+        // SAFETY: the handle is valid, and there is room for `capacity` bytes.
         let bytes = written_whole(|out, capacity, size| unsafe {
             sys::newaksu_credentials_encode(handle.at(), out, capacity, size)
         })?;
@@ -73,7 +72,7 @@ fn utf16(text: &str) -> Vec<u8> {
 }
 
 fn text(handle: &Handle, which: u32) -> Result<Vec<u8>, Error> {
-    // SAFETY: the handle is valid, and the room is for `capacity` bytes.
+    // SAFETY: the handle is valid, and there is room for `capacity` bytes.
     written_whole(|out, capacity, size| unsafe {
         sys::newaksu_credentials_text(handle.at(), which, out, capacity, size)
     })

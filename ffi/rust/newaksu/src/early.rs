@@ -3,7 +3,7 @@
 use crate::error::Error;
 use newaksu_sys as sys;
 
-/// Whether the user may log on, which a server that supports HYBRID_EX says behind the exchange.
+/// Whether the user may log on, which a server that supports HYBRID_EX says after the exchange.
 #[derive(Clone, Copy, Debug, PartialEq, Eq)]
 pub enum EarlyResult {
     /// The user may log on.
@@ -20,17 +20,17 @@ impl EarlyResult {
             EarlyResult::AccessDenied => sys::NEWAKSU_EARLY_ACCESS_DENIED,
         };
         let (mut bytes, mut size) = ([0; 4], 0);
-        // SAFETY: the room is for four bytes, and the count is valid. Both numbers are results, so
-        // this is never refused.
+        // SAFETY: there is room for four bytes, and the count is valid. Both numbers are results,
+        // so this is never refused.
         let _ = unsafe { sys::newaksu_early_encode(number, bytes.as_mut_ptr(), 4, &mut size) };
         bytes
     }
 
     /// The result that the bytes begin with. [`Error::UnexpectedEof`]: there are fewer than four.
-    /// [`Error::InvalidData`]: they are no result.
+    /// [`Error::InvalidData`]: they are not a result.
     pub fn decode(bytes: &[u8]) -> Result<EarlyResult, Error> {
         let mut number = 0;
-        // SAFETY: the bytes are valid, and the number is.
+        // SAFETY: the bytes and the number are valid.
         Error::check(unsafe {
             sys::newaksu_early_decode(bytes.as_ptr(), bytes.len(), &mut number)
         })?;

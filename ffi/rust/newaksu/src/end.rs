@@ -1,4 +1,4 @@
-//! What both ends do with a message: the part of what is below them, and the end's.
+//! What both ends do with a message: the part of the mechanism below, and the end's.
 
 use crate::below::Below;
 use crate::error::{Error, ProcessError, Refusal};
@@ -24,7 +24,7 @@ pub enum State {
     Final,
 }
 
-/// What the last turn did with the mechanism, also where it was refused.
+/// What the last turn did with the mechanism, even if it was refused.
 #[derive(Clone, Copy, Debug, Default, PartialEq, Eq)]
 pub struct Acts {
     /// A step was made.
@@ -39,7 +39,7 @@ pub struct Acts {
     pub opened: bool,
 }
 
-/// What a turn came to.
+/// The result of a turn.
 pub(crate) enum Made {
     Reply(Vec<u8>),
     Final(Vec<u8>),
@@ -81,8 +81,8 @@ impl End {
 
     pub(crate) fn state(&self) -> State {
         let mut state = sys::NEWAKSU_STATE_FINAL;
-        // SAFETY: the handle is valid, and the number is. A handle that holds an end is always
-        // answered.
+        // SAFETY: the handle and the number are valid. For a handle that holds an end the call
+        // always succeeds.
         let _ = unsafe { sys::newaksu_end_state(self.handle.at(), &mut state) };
         match state {
             sys::NEWAKSU_STATE_NEGO_TOKEN => State::NegoToken,
@@ -92,7 +92,7 @@ impl End {
         }
     }
 
-    /// What the archive says of the last turn.
+    /// What the archive reports of the last turn.
     fn told_acts(&self) -> sys::newaksu_acts {
         let mut acts = sys::newaksu_acts::default();
         // SAFETY: as above.
@@ -111,7 +111,7 @@ impl End {
         }
     }
 
-    /// One message of the peer; none in a client's first turn.
+    /// Takes one message from the peer; none in a client's first turn.
     pub(crate) fn turn<B: Below>(
         &mut self,
         below: &mut B,
@@ -197,13 +197,13 @@ impl End {
 
     fn outcome(&self) -> u32 {
         let mut outcome = sys::NEWAKSU_OUTCOME_NONE;
-        // SAFETY: the handle is valid, and the number is. A handle that holds an end is always
-        // answered.
+        // SAFETY: the handle and the number are valid. For a handle that holds an end the call
+        // always succeeds.
         let _ = unsafe { sys::newaksu_end_outcome(self.handle.at(), &mut outcome) };
         outcome
     }
 
-    /// What the end came to: its message, with the text in it sealed.
+    /// The end's result: its message, with the text in it sealed.
     fn conclude<B: Below>(&self, below: &mut B) -> Result<Made, SecurityStatus> {
         let acts = self.told_acts();
         if acts.stepped != 0 {
@@ -227,7 +227,7 @@ impl End {
 
     fn text_to_seal(&self) -> Result<Option<Secret>, SecurityStatus> {
         let mut field = 0;
-        // SAFETY: the handle is valid, the number is, and the room is for `capacity` bytes.
+        // SAFETY: the handle and the number are valid, and there is room for `capacity` bytes.
         let text = written(|out, capacity, size| unsafe {
             sys::newaksu_end_sealing(self.handle.at(), &mut field, out, capacity, size)
         });
@@ -235,7 +235,7 @@ impl End {
     }
 
     fn message(&self, blob: &[u8]) -> Result<Option<Vec<u8>>, Error> {
-        // SAFETY: the handle and the blob are valid, and the room is for `capacity` bytes.
+        // SAFETY: the handle and the blob are valid, and there is room for `capacity` bytes.
         written(|out, capacity, size| unsafe {
             sys::newaksu_end_message(
                 self.handle.at(),
@@ -248,8 +248,8 @@ impl End {
         })
     }
 
-    /// Ends the exchange. A server tells its client why: by the end's message where that refused,
-    /// and not by what it said before something else failed.
+    /// Ends the exchange. A server tells its client why: with the end's message if the end refused,
+    /// not with what it said before something else failed.
     fn refuse(&mut self, is_server: bool, status: SecurityStatus) -> Refusal {
         self.is_refused = true;
         let mut refusal = self.refusal(status);
@@ -263,7 +263,7 @@ impl End {
         refusal
     }
 
-    /// A message that tells a client what the end could not: that what had to be sealed was not.
+    /// A message that tells a client what the end could not: that a text to be sealed was not.
     fn telling(&self, status: SecurityStatus) -> Option<Vec<u8>> {
         let request = TsRequest {
             version: self.version,
@@ -273,10 +273,10 @@ impl End {
         request.encode().ok()
     }
 
-    /// Why: as the end says, where it was the end that refused.
+    /// Why: as the end says, if it was the end that refused.
     fn refusal(&self, status: SecurityStatus) -> Refusal {
         let (mut kind, mut has_nstatus, mut nstatus) = (0, 0, 0);
-        // SAFETY: the handle is valid, and the numbers are.
+        // SAFETY: the handle and the numbers are valid.
         let told = unsafe {
             sys::newaksu_end_refusal(self.handle.at(), &mut kind, &mut has_nstatus, &mut nstatus)
         };
@@ -295,7 +295,7 @@ impl End {
     }
 
     fn reason(&self) -> Option<String> {
-        // SAFETY: the handle is valid, and the room is for `capacity` bytes.
+        // SAFETY: the handle is valid, and there is room for `capacity` bytes.
         let reason = written(|out, capacity, size| unsafe {
             sys::newaksu_end_reason(self.handle.at(), out, capacity, size)
         });
@@ -313,8 +313,7 @@ fn tells_error(request: Option<&TsRequest>) -> bool {
         .is_some_and(|code| code.0 != 0)
 }
 
-/// Opens a field. One that is absent, or too short, or does not open, is left to the end, which
-/// says so.
+/// Opens a field. One that is absent, too short, or does not open, is left for the end to report.
 fn open<B: Below>(
     below: &mut B,
     field: u32,

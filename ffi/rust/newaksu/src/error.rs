@@ -8,12 +8,12 @@ use std::fmt;
 #[derive(Clone, Copy, Debug, PartialEq, Eq)]
 #[non_exhaustive]
 pub enum Error {
-    /// The bytes end before the element does; of the outer header of a request also any other
+    /// The bytes end before the element does; for the outer header of a request, also any other
     /// fault.
     UnexpectedEof,
-    /// A wrong tag or a refused length; in writing, a content of more than 1048576 bytes.
+    /// A wrong tag or a refused length; when writing, a content of more than 1048576 bytes.
     InvalidData,
-    /// There was no memory.
+    /// Out of memory.
     OutOfMemory,
     /// Any other refusal.
     Refused(SecurityStatus),
@@ -36,7 +36,7 @@ impl Error {
         }
     }
 
-    /// The code of SSPI that says the most of this.
+    /// The SSPI code closest to this.
     pub fn status(self) -> SecurityStatus {
         match self {
             Error::UnexpectedEof | Error::InvalidData => SecurityStatus::INVALID_TOKEN,
@@ -67,9 +67,9 @@ pub struct Refusal {
     pub status: SecurityStatus,
     /// The same as a sentence.
     pub reason: String,
-    /// What the peer told, where it refused.
+    /// What the peer reported, if it refused.
     pub nstatus: Option<NtStatus>,
-    /// What tells the client, on a server.
+    /// On a server, what tells the client.
     pub message: Option<Vec<u8>>,
 }
 
@@ -89,7 +89,7 @@ impl std::error::Error for Refusal {}
 #[derive(Clone, Debug, PartialEq, Eq)]
 #[non_exhaustive]
 pub enum ProcessError {
-    /// It is no request, or not a whole one: the end is as it was, and takes another.
+    /// It is not a request, or not a whole one: the end is unchanged, and takes another.
     Unread(Error),
     /// The exchange is over.
     Refused(Refusal),

@@ -1,14 +1,14 @@
-//! The owner of an object of the archive, and the calls that write bytes.
+//! The owner of an object in the archive, and the calls that write bytes.
 
 use crate::error::Error;
 use newaksu_sys as sys;
 use std::cell::UnsafeCell;
 
-/// Owns one object, or none. Every call takes it exclusively, also one that only asks, so it is not
-/// `Sync`.
+/// Owns one object, or none. Every call takes it exclusively, even one that only queries, so it is
+/// not `Sync`.
 pub(crate) struct Handle(UnsafeCell<sys::newaksu_handle>);
 
-// SAFETY: an object is on the heap, belongs to its handle alone and to no thread, and shares
+// SAFETY: an object is on the heap, belongs only to its handle and to no thread, and shares
 // nothing with another.
 unsafe impl Send for Handle {}
 
@@ -18,12 +18,12 @@ impl Handle {
     }
 
     /// The pointer that the archive takes. It is valid while `self` is, and no other call runs
-    /// meanwhile: `Handle` is not `Sync` and no call comes back.
+    /// meanwhile: `Handle` is not `Sync` and no call re-enters.
     pub(crate) fn at(&self) -> *mut sys::newaksu_handle {
         self.0.get()
     }
 
-    /// A handle that this call made an object in.
+    /// A handle in which this call made an object.
     pub(crate) fn made(
         make: impl FnOnce(*mut sys::newaksu_handle) -> u32,
     ) -> Result<Handle, Error> {
@@ -40,8 +40,8 @@ impl Drop for Handle {
     }
 }
 
-/// What a call writes: it is asked for the size, and then given the room. `None` where there is
-/// nothing to be written.
+/// What a call writes: it is asked for the size, and then given the room. `None` if there is
+/// nothing to write.
 pub(crate) fn written(
     mut write: impl FnMut(*mut u8, usize, *mut usize) -> u32,
 ) -> Result<Option<Vec<u8>>, Error> {
@@ -63,7 +63,7 @@ pub(crate) fn written(
     Ok(Some(bytes))
 }
 
-/// The same of what is always there.
+/// The same for what is always there.
 pub(crate) fn written_whole(
     write: impl FnMut(*mut u8, usize, *mut usize) -> u32,
 ) -> Result<Vec<u8>, Error> {

@@ -1,16 +1,16 @@
 //! CredSSP (MS-CSSP) over a mechanism of your own, and the codec of its messages: the safe
 //! interface of libnewaksu, whose functions are proved.
 //!
-//! - [`Client`] and [`Server`]: the ends of the exchange. Each takes one message of its peer a
-//!   call, over a [`Mechanism`], as an NTLM or a Kerberos that the program has.
-//! - [`NegotiatingClient`] and [`NegotiatingServer`]: the same over two mechanisms, by the SPNEGO
-//!   of this library (RFC 4178).
-//! - [`TsRequest`], [`TsReader`] and [`requests`]: the messages, whole, in pieces, and one behind
-//!   the other.
+//! - [`Client`] and [`Server`]: the ends of the exchange. Each takes one message from its peer per
+//!   call, over a [`Mechanism`] of the program's, such as NTLM or Kerberos.
+//! - [`NegotiatingClient`] and [`NegotiatingServer`]: the same over two mechanisms, through this
+//!   library's SPNEGO (RFC 4178).
+//! - [`TsRequest`], [`TsReader`] and [`requests`]: the messages, whole, in pieces, and one after
+//!   another.
 //! - [`TsCredentials`], [`EarlyResult`], [`NegTokenInit`] and [`NegTokenResp`]: what else is read
 //!   and written.
 //!
-//! A client delegates its credentials only once the server proved that it speaks over the same
+//! A client delegates its credentials only once the server has proved that it speaks over the same
 //! channel:
 //!
 //! ```no_run
@@ -34,7 +34,7 @@
 //! ```
 //!
 //! Nothing here reads or writes a channel. An end may be sent to another thread, and is used by one
-//! at a time.
+//! thread at a time.
 
 #![warn(missing_docs, missing_debug_implementations)]
 

@@ -11,19 +11,19 @@ use crate::server::{self, ServerSettings, ServerTurn};
 use newaksu_sys as sys;
 use std::fmt;
 
-/// What NTLM's own first token begins with, where no SPNEGO is around it.
+/// What NTLM's own first token begins with, without SPNEGO around it.
 const BARE_NTLM: &[u8] = b"NTLMSSP\0";
 
-/// A [`crate::Client`] that offers its mechanisms by the proved SPNEGO of this library.
+/// A [`crate::Client`] that offers its mechanisms through this library's proved SPNEGO.
 ///
-/// It never falls back by itself: where its Kerberos refuses the first step, the exchange is
-/// refused, and the program may make a client of NTLM alone.
+/// It never falls back by itself: if its Kerberos refuses the first step, the exchange is refused,
+/// and the program may make a client with only NTLM.
 ///
-/// It always wants a MIC of its server, which sends one for NTLM, for a choice that is not the
-/// client's first, and for a context that is user-to-user ([`Signer::is_user_to_user`]). So a
-/// Kerberos that both ends like best has to be user-to-user, or of three tokens in DCE style. Any
-/// other is refused there before any credentials leave; put it alone, or the system's SPNEGO, below
-/// a [`crate::Client`].
+/// It always requires a MIC from its server, which sends one for NTLM, for a choice that is not the
+/// client's first, and for a context that is user-to-user ([`Signer::is_user_to_user`]). So if both
+/// ends prefer Kerberos, it must be user-to-user, or of three tokens in DCE style. Any other is
+/// refused there before any credentials leave; use it alone, or the system's SPNEGO, below a
+/// [`crate::Client`].
 pub struct NegotiatingClient<N, K> {
     end: End,
     below: Negotiation<N, K>,
@@ -46,7 +46,7 @@ impl<N: Signer, K: Signer> NegotiatingClient<N, K> {
         self.process(&[])
     }
 
-    /// Takes one whole message of the server, and makes the next one. After
+    /// Takes one whole message from the server, and makes the next one. After
     /// [`ProcessError::Refused`] the exchange is over, and each further call is refused with
     /// `OUT_OF_SEQUENCE`.
     pub fn process(&mut self, message: &[u8]) -> Result<ClientTurn, ProcessError> {
@@ -54,19 +54,19 @@ impl<N: Signer, K: Signer> NegotiatingClient<N, K> {
     }
 }
 
-/// A [`crate::Server`] that takes one of its mechanisms by the proved SPNEGO of this library, and
-/// NTLM without SPNEGO too, where it has NTLM.
+/// A [`crate::Server`] that selects one of its mechanisms through this library's proved SPNEGO. It
+/// also accepts NTLM without SPNEGO, if it has NTLM.
 pub struct NegotiatingServer<N, K> {
     end: End,
-    /// What NTLM without SPNEGO is taken by.
+    /// The end that accepts NTLM without SPNEGO.
     bare: Option<End>,
     is_bare: bool,
     below: Negotiation<N, K>,
 }
 
 impl<N: Signer + Acceptor, K: Signer + Acceptor> NegotiatingServer<N, K> {
-    /// A server that was told nothing yet. Refused as [`crate::Server::new`]. Its settings list the
-    /// users: where anyone is taken, a negotiation that needs a MIC is refused with
+    /// A server that has received nothing yet. Refused as [`crate::Server::new`]. Its settings
+    /// should list the users: if anyone is accepted, a negotiation that needs a MIC is refused with
     /// `NO_CREDENTIALS`.
     pub fn new(
         settings: &ServerSettings<'_>,
@@ -84,7 +84,7 @@ impl<N: Signer + Acceptor, K: Signer + Acceptor> NegotiatingServer<N, K> {
         })
     }
 
-    /// Takes one whole message of the client. After [`ProcessError::Refused`] the exchange is over:
+    /// Takes one whole client message. After [`ProcessError::Refused`] the exchange is over:
     /// send the refusal's message and close the channel. Each further call is refused with
     /// `OUT_OF_SEQUENCE`.
     pub fn process(&mut self, message: &[u8]) -> Result<ServerTurn, ProcessError> {
@@ -109,7 +109,7 @@ impl<N: Signer + Acceptor, K: Signer + Acceptor> NegotiatingServer<N, K> {
     }
 }
 
-/// Whether a request has the first token of NTLM itself.
+/// Whether a request has NTLM's own first token.
 fn is_bare(message: &[u8]) -> bool {
     TsRequest::decode(message)
         .ok()

@@ -9,15 +9,15 @@ use crate::status::SecurityStatus;
 use newaksu_sys as sys;
 use std::fmt;
 
-/// The mechanisms of an end that negotiates (RFC 4178, MS-SPNG): an NTLM, a Kerberos, or both, of
-/// which Kerberos is preferred.
+/// The mechanisms of an end that negotiates (RFC 4178, MS-SPNG): NTLM, Kerberos, or both, with
+/// Kerberos preferred.
 pub struct Mechanisms<N, K> {
     pub(crate) ntlm: Option<N>,
     pub(crate) kerberos: Option<K>,
 }
 
 impl<M> Mechanisms<M, M> {
-    /// NTLM alone.
+    /// Only NTLM.
     pub fn ntlm(ntlm: M) -> Mechanisms<M, M> {
         Mechanisms {
             ntlm: Some(ntlm),
@@ -25,7 +25,7 @@ impl<M> Mechanisms<M, M> {
         }
     }
 
-    /// Kerberos alone.
+    /// Only Kerberos.
     pub fn kerberos(kerberos: M) -> Mechanisms<M, M> {
         Mechanisms {
             ntlm: None,
@@ -43,12 +43,12 @@ impl<N, K> Mechanisms<N, K> {
         }
     }
 
-    /// Them, as they were put in.
+    /// The mechanisms, NTLM first.
     pub fn into_parts(self) -> (Option<N>, Option<K>) {
         (self.ntlm, self.kerberos)
     }
 
-    /// Their number.
+    /// Their number in the C interface.
     pub(crate) fn number(&self) -> u32 {
         match (&self.ntlm, &self.kerberos) {
             (Some(_), Some(_)) => sys::NEWAKSU_NTLM_AND_KERBEROS,
@@ -86,7 +86,7 @@ pub(crate) struct Negotiation<N, K> {
 }
 
 impl<N: Signer, K: Signer> Negotiation<N, K> {
-    /// `naming` is a server's.
+    /// `naming` is for a server.
     pub(crate) fn new(
         mechanisms: Mechanisms<N, K>,
         naming: Option<(Naming<N>, Naming<K>)>,
@@ -145,22 +145,22 @@ impl<N: Signer, K: Signer> Negotiation<N, K> {
         Ok(stepped.0)
     }
 
-    /// A client's first step, which is handed in as it is.
+    /// A client's first step, which is passed in unchanged.
     fn first(&mut self) -> Result<Vec<u8>, SecurityStatus> {
-        // SAFETY: the handle is valid, and the number is.
+        // SAFETY: the handle and the number are valid.
         let due = told(|due| unsafe { sys::newaksu_course_first(self.course.at(), due) })?;
         self.step_due(due.ok_or(SecurityStatus::INTERNAL_ERROR)?, &[])
     }
 
-    /// The client's offer, as the server is handed it.
+    /// The client's offer, as it is passed to the server.
     fn offer(&mut self, init: &Handle) -> Result<Vec<u8>, SecurityStatus> {
-        // SAFETY: the handles are valid, and the number is.
+        // SAFETY: the handles and the number are valid.
         let due =
             told(|due| unsafe { sys::newaksu_course_offer(self.course.at(), init.at(), due) })?;
         let envelope = match due {
             None => Vec::new(),
             Some(due) => {
-                // SAFETY: the handle is valid, and the room is for `capacity` bytes.
+                // SAFETY: the handle is valid, and there is room for `capacity` bytes.
                 let token = written(|out, capacity, size| unsafe {
                     sys::newaksu_init_token(init.at(), out, capacity, size)
                 });
@@ -169,19 +169,19 @@ impl<N: Signer, K: Signer> Negotiation<N, K> {
         };
         // SAFETY: the handle and the envelope are valid.
         check(unsafe { sys::newaksu_init_hand(init.at(), envelope.as_ptr(), envelope.len()) })?;
-        // SAFETY: the handle is valid, and the room is for `capacity` bytes.
+        // SAFETY: the handle is valid, and there is room for `capacity` bytes.
         whole(|out, capacity, size| unsafe {
             sys::newaksu_init_encode(init.at(), out, capacity, size)
         })
     }
 
-    /// A later token, as the end is handed it.
+    /// A later token, as it is passed to the end.
     fn response(&mut self, targ: &Handle) -> Result<Vec<u8>, SecurityStatus> {
         let ask = match self.naming {
             Some(_) => sys::newaksu_course_continuation,
             None => sys::newaksu_course_answer,
         };
-        // SAFETY: the handles are valid, and the number is.
+        // SAFETY: the handles and the number are valid.
         let due = told(|due| unsafe { ask(self.course.at(), targ.at(), due) })?;
         let envelope = match due {
             None => Vec::new(),
@@ -206,7 +206,7 @@ impl<N: Signer, K: Signer> Negotiation<N, K> {
         encoded(targ)
     }
 
-    /// Whether the MIC that came is the peer's, over the list as this end knows it.
+    /// Whether the received MIC is the peer's, over the list as this end knows it.
     fn is_good(&mut self, targ: &Handle, list: &[u8]) -> Result<bool, SecurityStatus> {
         match field(targ, sys::NEWAKSU_MECH_LIST_MIC)? {
             Some(mic) if self.has_ended => Ok(self.signer()?.verify(list, &mic).is_ok()),
@@ -215,14 +215,14 @@ impl<N: Signer, K: Signer> Negotiation<N, K> {
     }
 
     fn list(&self) -> Result<Vec<u8>, SecurityStatus> {
-        // SAFETY: the handle is valid, and the room is for `capacity` bytes.
+        // SAFETY: the handle is valid, and there is room for `capacity` bytes.
         whole(|out, capacity, size| unsafe {
             sys::newaksu_course_list(self.course.at(), out, capacity, size)
         })
     }
 
-    /// What the end is handed in the place of a token. One of another form is left out, and the end
-    /// says so.
+    /// What the end is passed in place of a token. One of another form is left out, and the end
+    /// reports it.
     fn handed(&mut self, token: &[u8]) -> Result<Vec<u8>, SecurityStatus> {
         let offers = self.naming.is_some() && !self.has_stepped;
         let decode = match offers {
@@ -239,7 +239,7 @@ impl<N: Signer, K: Signer> Negotiation<N, K> {
         }
     }
 
-    /// The token with the mechanism's MIC, where the end signed.
+    /// The token with the mechanism's MIC, if the end signed.
     fn signed_token(&mut self, token: &[u8]) -> Result<Option<Vec<u8>>, SecurityStatus> {
         // SAFETY: the handle and the token are valid.
         let targ = match Handle::made(|at| unsafe {
@@ -249,7 +249,7 @@ impl<N: Signer, K: Signer> Negotiation<N, K> {
             Err(Error::Refused(SecurityStatus::INVALID_TOKEN)) => return Ok(None),
             Err(error) => return Err(error.status()),
         };
-        // SAFETY: the handle is valid, and the room is for `capacity` bytes.
+        // SAFETY: the handle is valid, and there is room for `capacity` bytes.
         let list = written(|out, capacity, size| unsafe {
             sys::newaksu_targ_signing(targ.at(), out, capacity, size)
         });
@@ -327,7 +327,7 @@ fn check(status: u32) -> Result<(), SecurityStatus> {
     Error::check(status).map_err(Error::status)
 }
 
-/// The mechanism that a call tells, or that none steps.
+/// The mechanism that a call says steps, if any.
 fn told(ask: impl FnOnce(&mut u32) -> u32) -> Result<Option<Due>, SecurityStatus> {
     let mut due = sys::NEWAKSU_MECH_OTHER;
     check(ask(&mut due))?;
@@ -343,7 +343,7 @@ fn whole(write: impl FnMut(*mut u8, usize, *mut usize) -> u32) -> Result<Vec<u8>
 }
 
 fn field(targ: &Handle, field: u32) -> Result<Option<Vec<u8>>, SecurityStatus> {
-    // SAFETY: the handle is valid, and the room is for `capacity` bytes.
+    // SAFETY: the handle is valid, and there is room for `capacity` bytes.
     let octets = written(|out, capacity, size| unsafe {
         sys::newaksu_targ_field(targ.at(), field, out, capacity, size)
     });
@@ -351,6 +351,6 @@ fn field(targ: &Handle, field: u32) -> Result<Option<Vec<u8>>, SecurityStatus> {
 }
 
 fn encoded(targ: &Handle) -> Result<Vec<u8>, SecurityStatus> {
-    // SAFETY: the handle is valid, and the room is for `capacity` bytes.
+    // SAFETY: the handle is valid, and there is room for `capacity` bytes.
     whole(|out, capacity, size| unsafe { sys::newaksu_targ_encode(targ.at(), out, capacity, size) })
 }

@@ -1,4 +1,4 @@
-//! A request that comes in pieces.
+//! A request that arrives in pieces.
 
 use crate::error::Error;
 use crate::handle::Handle;
@@ -6,7 +6,7 @@ use crate::request::TsRequest;
 use newaksu_sys as sys;
 use std::fmt;
 
-/// A reader of one request, which is fed with pieces of any size and keeps the fields that it read,
+/// A reader of one request, which is fed pieces of any size and keeps the fields that it has read,
 /// not the bytes.
 pub struct TsReader {
     handle: Handle,
@@ -20,7 +20,7 @@ impl TsReader {
         Ok(TsReader { handle })
     }
 
-    /// The next piece. [`Error::OutOfMemory`]: nothing was taken, and the same piece may be fed
+    /// Feeds the next piece. [`Error::OutOfMemory`]: nothing was taken; the same piece may be fed
     /// again.
     pub fn feed(&mut self, piece: &[u8]) -> Result<(), Error> {
         // SAFETY: the handle and the piece are valid.
@@ -29,7 +29,7 @@ impl TsReader {
         })
     }
 
-    /// What [`TsRequest::decode`] says of all that was fed.
+    /// What [`TsRequest::decode`] returns for all that was fed.
     pub fn finish(self) -> Result<TsRequest, Error> {
         // SAFETY: the handle is valid.
         Error::check(unsafe { sys::newaksu_reader_finish(self.handle.at()) })?;

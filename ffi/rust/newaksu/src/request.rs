@@ -8,7 +8,7 @@ use newaksu_sys as sys;
 /// The message that carries everything in CredSSP (TSRequest).
 #[derive(Clone, Debug, Default, PartialEq, Eq)]
 pub struct TsRequest {
-    /// The version of CredSSP that the sender offers; of a larger number the low 32 bits are read.
+    /// The CredSSP version that the sender offers; of a larger number the low 32 bits are read.
     pub version: u32,
     /// The first token of `negoTokens`; further tokens are not read.
     pub nego_tokens: Option<Vec<u8>>,
@@ -25,9 +25,9 @@ pub struct TsRequest {
 
 impl TsRequest {
     /// The request that the bytes begin with; what follows it is ignored. [`Error::UnexpectedEof`]
-    /// where the header is bad or fewer bytes are there than it announces, or where the content
-    /// ends inside an element; [`Error::InvalidData`] where an element is not encoded as it must
-    /// be; [`Error::OutOfMemory`].
+    /// if the header is bad, there are fewer bytes than it announces, or the content ends inside an
+    /// element; [`Error::InvalidData`] if an element is not encoded as it must be;
+    /// [`Error::OutOfMemory`].
     pub fn decode(bytes: &[u8]) -> Result<TsRequest, Error> {
         // SAFETY: the handle and the bytes are valid; a slice's pointer is never null.
         let handle = Handle::made(|at| unsafe {
@@ -36,20 +36,20 @@ impl TsRequest {
         TsRequest::of(&handle)
     }
 
-    /// How many bytes the request takes that the bytes begin with, from its header alone; five
-    /// bytes are enough for every header. `None` where the header is not whole yet, or is none.
+    /// The size of the request that the bytes begin with, read from its header alone; five bytes
+    /// are enough for any header. `None` if the header is incomplete or invalid.
     pub fn size(bytes: &[u8]) -> Option<usize> {
         let mut size = 0;
-        // SAFETY: the bytes are valid, and the count is.
+        // SAFETY: the bytes and the count are valid.
         let status = unsafe { sys::newaksu_request_size(bytes.as_ptr(), bytes.len(), &mut size) };
         (status == sys::NEWAKSU_OK).then_some(size)
     }
 
-    /// The shortest spelling. [`Error::InvalidData`] where the content passes 1048576 bytes,
+    /// The shortest encoding. [`Error::InvalidData`] if the content exceeds 1048576 bytes,
     /// [`Error::OutOfMemory`].
     pub fn encode(&self) -> Result<Vec<u8>, Error> {
         let handle = self.to_handle()?;
-        // SAFETY: the handle is valid, and the room is for `capacity` bytes.
+        // SAFETY: the handle is valid, and there is room for `capacity` bytes.
         written_whole(|out, capacity, size| unsafe {
             sys::newaksu_request_encode(handle.at(), out, capacity, size)
         })
@@ -57,7 +57,7 @@ impl TsRequest {
 
     pub(crate) fn of(handle: &Handle) -> Result<TsRequest, Error> {
         let mut version = 0;
-        // SAFETY: the handle is valid, and the number is.
+        // SAFETY: the handle and the number are valid.
         Error::check(unsafe { sys::newaksu_request_version(handle.at(), &mut version) })?;
         let nonce = field(handle, sys::NEWAKSU_CLIENT_NONCE)?;
         Ok(TsRequest {
@@ -71,7 +71,7 @@ impl TsRequest {
     }
 
     fn to_handle(&self) -> Result<Handle, Error> {
-        // SAFETY: the handle is valid, and so is each slice.
+        // SAFETY: the handle and each slice are valid.
         let handle = Handle::made(|at| unsafe { sys::newaksu_request_new(at, self.version) })?;
         let fields = [
             (sys::NEWAKSU_NEGO_TOKENS, self.nego_tokens.as_deref()),
@@ -104,7 +104,7 @@ impl TsRequest {
 }
 
 fn field(handle: &Handle, field: u32) -> Result<Option<Vec<u8>>, Error> {
-    // SAFETY: the handle is valid, and the room is for `capacity` bytes.
+    // SAFETY: the handle is valid, and there is room for `capacity` bytes.
     written(|out, capacity, size| unsafe {
         sys::newaksu_request_field(handle.at(), field, out, capacity, size)
     })
@@ -112,15 +112,15 @@ fn field(handle: &Handle, field: u32) -> Result<Option<Vec<u8>>, Error> {
 
 fn error_code(handle: &Handle) -> Result<Option<NtStatus>, Error> {
     let mut code = 0;
-    // SAFETY: the handle is valid, and the number is.
+    // SAFETY: the handle and the number are valid.
     match unsafe { sys::newaksu_request_error_code(handle.at(), &mut code) } {
         sys::NEWAKSU_ABSENT => Ok(None),
         status => Error::check(status).map(|()| Some(NtStatus(code))),
     }
 }
 
-/// The requests that follow one another in the bytes. The last item is the error of what is
-/// not a whole request; there is none where the bytes end with a request.
+/// The requests that follow one another in the bytes. They end with the bytes, or with the error
+/// of the first part that is not a whole request.
 pub fn requests(bytes: &[u8]) -> Requests<'_> {
     Requests { left: bytes }
 }
@@ -132,7 +132,7 @@ pub struct Requests<'a> {
 }
 
 impl<'a> Requests<'a> {
-    /// The bytes behind the requests that were taken.
+    /// The bytes after the requests that were taken.
     pub fn remainder(&self) -> &'a [u8] {
         self.left
     }

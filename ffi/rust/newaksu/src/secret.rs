@@ -3,17 +3,17 @@
 use std::fmt;
 use std::sync::atomic::{compiler_fence, Ordering};
 
-/// Overwrites all of the vector's room.
+/// Overwrites the vector's whole capacity.
 pub(crate) fn wipe(bytes: &mut Vec<u8>) {
     bytes.clear();
     for byte in bytes.spare_capacity_mut() {
-        // SAFETY: the place is valid for a write; a volatile one is not left out.
+        // SAFETY: the place is valid for a write; a volatile one is not optimized away.
         unsafe { std::ptr::write_volatile(byte.as_mut_ptr(), 0) };
     }
     compiler_fence(Ordering::SeqCst);
 }
 
-/// A text that is not shown, and overwritten when it is dropped.
+/// A text that is not shown, and is overwritten when dropped.
 pub struct Secret(Vec<u8>);
 
 impl Secret {
@@ -26,7 +26,7 @@ impl Secret {
         &self.0
     }
 
-    /// The text; empty where the bytes are no UTF-8, which no password of a [`crate::Server`] is.
+    /// The text; empty if the bytes are not UTF-8. Passwords from a [`crate::Server`] always are.
     pub fn as_str(&self) -> &str {
         std::str::from_utf8(&self.0).unwrap_or_default()
     }

@@ -15,18 +15,18 @@ use std::fmt;
 pub struct ServerSettings<'a> {
     /// The version of CredSSP that it speaks: 2 to 6.
     pub version: u32,
-    /// The least version of a client that is taken: 2 to 6, or 0 for every. Below 5 whoever relays
-    /// the exchange can choose the proof.
+    /// The lowest version accepted from a client: 2 to 6, or 0 for any. Below 5, whoever relays the
+    /// exchange can choose the proof.
     pub least_version: u32,
     /// The SubjectPublicKey of the TLS channel's certificate (MS-CSSP 3.1.5).
     pub public_key: &'a [u8],
-    /// The users whom it takes, compared without the case of ASCII letters, so nobody where the
-    /// list is empty; `None` for each that the mechanism names.
+    /// The users whom it accepts, compared ignoring the case of ASCII letters; nobody if the list
+    /// is empty. `None` accepts anyone whom the mechanism names.
     pub users: Option<&'a [&'a str]>,
 }
 
 impl<'a> ServerSettings<'a> {
-    /// Version 6, which takes clients from version 5 on, and each user that the mechanism names.
+    /// Uses version 6, accepts clients from version 5 on, and any user whom the mechanism names.
     pub fn new(public_key: &'a [u8]) -> ServerSettings<'a> {
         ServerSettings {
             version: 6,
@@ -37,13 +37,13 @@ impl<'a> ServerSettings<'a> {
     }
 }
 
-/// The credentials that a client delegated. Nothing checked this password yet: the mechanism
-/// authenticated the user, and what is delegated may be another's.
+/// The credentials that a client delegated. Nothing has checked this password: the mechanism
+/// authenticated the user, and the delegated credentials may be another's.
 #[derive(Debug)]
 pub struct Identity {
     /// The whole name: `DOMAIN\user`, `user@domain` or `user`.
     pub name: String,
-    /// The domain, where the name has one.
+    /// The domain, if the name has one.
     pub domain: Option<String>,
     /// The account, without the domain.
     pub account: String,
@@ -51,25 +51,25 @@ pub struct Identity {
     pub password: Secret,
 }
 
-/// What a server's turn came to.
+/// The result of a server's turn.
 #[derive(Debug)]
 pub enum ServerTurn {
     /// A message for the client, whose answer is due.
     Reply(Vec<u8>),
-    /// The credentials came, and the exchange is over.
+    /// The credentials arrived, and the exchange is over.
     Finished(Identity),
 }
 
-/// A server over a mechanism. It answers credentials only behind the proof of a client that speaks
-/// over the channel of the same public key.
+/// A server over a mechanism. It returns credentials only after the proof of a client that it
+/// speaks over the channel with the same public key.
 pub struct Server<M> {
     end: End,
     mechanism: M,
 }
 
 impl<M: Acceptor> Server<M> {
-    /// A server that was told nothing yet. Refused with `INVALID_PARAMETER` where a version is none
-    /// of those of the settings; with `UNKNOWN_CREDENTIALS` where a user's name mixes the forms.
+    /// A server that has received nothing yet. Refused with `INVALID_PARAMETER` if a version is not
+    /// one allowed in the settings; with `UNKNOWN_CREDENTIALS` if a user's name mixes the forms.
     pub fn new(settings: &ServerSettings<'_>, mechanism: M) -> Result<Server<M>, Error> {
         Ok(Server {
             end: end_of(settings, sys::NEWAKSU_HOST)?,
@@ -77,7 +77,7 @@ impl<M: Acceptor> Server<M> {
         })
     }
 
-    /// Takes one whole message of the client. After [`ProcessError::Refused`] the exchange is over:
+    /// Takes one whole client message. After [`ProcessError::Refused`] the exchange is over:
     /// send the refusal's message and close the channel. Each further call is refused with
     /// `OUT_OF_SEQUENCE`.
     pub fn process(&mut self, message: &[u8]) -> Result<ServerTurn, ProcessError> {
@@ -120,7 +120,7 @@ impl<M> Server<M> {
     }
 }
 
-/// A server's end over the host's mechanism, or over those of a number, of which it negotiates one.
+/// A server's end over the host's mechanism, or over those with this number, which it negotiates.
 pub(crate) fn end_of(settings: &ServerSettings<'_>, mechanisms: u32) -> Result<End, Error> {
     let options = sys::newaksu_server_options {
         mechanism: mechanisms,
@@ -145,7 +145,7 @@ pub(crate) fn end_of(settings: &ServerSettings<'_>, mechanisms: u32) -> Result<E
     Ok(End::new(handle, settings.version))
 }
 
-/// What a server's turn came to.
+/// The result of a server's turn.
 pub(crate) fn concluded(end: &End, made: Made) -> Result<ServerTurn, ProcessError> {
     match made {
         Made::Reply(message) | Made::Final(message) => Ok(ServerTurn::Reply(message)),
@@ -167,13 +167,13 @@ fn identity(end: &End) -> Result<Identity, Error> {
 }
 
 fn text(end: &End, which: u32) -> Result<Option<Vec<u8>>, Error> {
-    // SAFETY: the handle is valid, and the room is for `capacity` bytes.
+    // SAFETY: the handle is valid, and there is room for `capacity` bytes.
     written(|out, capacity, size| unsafe {
         sys::newaksu_server_identity(end.handle().at(), which, out, capacity, size)
     })
 }
 
-/// The list of users, where there is one.
+/// The list of users, if there is one.
 fn identities(users: Option<&[&str]>) -> Result<Handle, Error> {
     let Some(users) = users else {
         return Ok(Handle::empty());
@@ -192,7 +192,7 @@ fn string(bytes: Vec<u8>) -> Result<String, Error> {
     String::from_utf8(bytes).map_err(|_| Error::Refused(SecurityStatus::INTERNAL_ERROR))
 }
 
-/// There was no memory for credentials that came.
+/// There was no memory for the received credentials.
 fn unkept(error: Error) -> Refusal {
     Refusal {
         status: error.status(),

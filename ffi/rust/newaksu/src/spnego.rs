@@ -25,7 +25,7 @@ impl Oid {
     /// Which one it is.
     pub fn kind(&self) -> MechKind {
         let mut kind = sys::NEWAKSU_MECH_OTHER;
-        // SAFETY: the bytes are valid, and the number is. It is always answered.
+        // SAFETY: the bytes and the number are valid. The call always succeeds.
         let _ = unsafe { sys::newaksu_mech_kind(self.0.as_ptr(), self.0.len(), &mut kind) };
         match kind {
             sys::NEWAKSU_MECH_MS_KERBEROS => MechKind::MsKerberos,
@@ -46,7 +46,7 @@ pub struct NegTokenInit {
 }
 
 impl NegTokenInit {
-    /// The token that the bytes begin with. Refused with `INVALID_TOKEN` where there is none.
+    /// The token that the bytes begin with. Refused with `INVALID_TOKEN` if there is none.
     pub fn decode(bytes: &[u8]) -> Result<NegTokenInit, Error> {
         // SAFETY: the handle and the bytes are valid.
         let handle = Handle::made(|at| unsafe {
@@ -61,17 +61,17 @@ impl NegTokenInit {
         })
     }
 
-    /// The shortest spelling. Refused with `INTERNAL_ERROR` where a content passes 1048576 bytes.
+    /// The shortest encoding. Refused with `INTERNAL_ERROR` if a content exceeds 1048576 bytes.
     pub fn encode(&self) -> Result<Vec<u8>, Error> {
         let handle = self.to_handle()?;
-        // SAFETY: the handle is valid, and the room is for `capacity` bytes.
+        // SAFETY: the handle is valid, and there is room for `capacity` bytes.
         written_whole(|out, capacity, size| unsafe {
             sys::newaksu_init_encode(handle.at(), out, capacity, size)
         })
     }
 
-    /// The list of mechanisms alone, as the SEQUENCE over which MICs are made; none where there is
-    /// no list.
+    /// Only the list of mechanisms, as the SEQUENCE over which MICs are made; `None` if there is no
+    /// list.
     pub fn mech_list(&self) -> Result<Option<Vec<u8>>, Error> {
         let handle = self.to_handle()?;
         // SAFETY: as above.
@@ -80,7 +80,7 @@ impl NegTokenInit {
         })
     }
 
-    /// A list without mechanisms is none, since it has no spelling of its own here.
+    /// A list without mechanisms becomes none, since it has no encoding of its own here.
     fn to_handle(&self) -> Result<Handle, Error> {
         // SAFETY: the handle and each slice are valid.
         let handle = Handle::made(|at| unsafe { sys::newaksu_init_new(at) })?;
@@ -100,14 +100,14 @@ impl NegTokenInit {
 
 fn mechs(handle: &Handle) -> Result<Option<Vec<Oid>>, Error> {
     let mut count = 0;
-    // SAFETY: the handle is valid, and the count is.
+    // SAFETY: the handle and the count are valid.
     match unsafe { sys::newaksu_init_mech_count(handle.at(), &mut count) } {
         sys::NEWAKSU_ABSENT => return Ok(None),
         status => Error::check(status)?,
     }
     let mut list = Vec::new();
     for index in 0..count {
-        // SAFETY: the handle is valid, and the room is for `capacity` bytes.
+        // SAFETY: the handle is valid, and there is room for `capacity` bytes.
         list.push(Oid(written_whole(|out, capacity, size| unsafe {
             sys::newaksu_init_mech(handle.at(), index, out, capacity, size)
         })?));
@@ -126,12 +126,12 @@ pub enum NegState {
     Other,
 }
 
-/// What both ends answer (NegTokenResp).
+/// What both ends reply (NegTokenResp).
 #[derive(Clone, Debug, Default, PartialEq, Eq)]
 pub struct NegTokenResp {
     /// negState
     pub neg_state: Option<NegState>,
-    /// The mechanism that the server picked.
+    /// The mechanism that the server selected.
     pub supported_mech: Option<Oid>,
     /// That mechanism's token.
     pub response_token: Option<Vec<u8>>,
@@ -140,7 +140,7 @@ pub struct NegTokenResp {
 }
 
 impl NegTokenResp {
-    /// The token that the bytes begin with. Refused with `INVALID_TOKEN` where there is none.
+    /// The token that the bytes begin with. Refused with `INVALID_TOKEN` if there is none.
     pub fn decode(bytes: &[u8]) -> Result<NegTokenResp, Error> {
         // SAFETY: the handle and the bytes are valid.
         let handle = Handle::made(|at| unsafe {
@@ -154,7 +154,7 @@ impl NegTokenResp {
         })
     }
 
-    /// The shortest spelling. Refused with `INTERNAL_ERROR` where a content passes 1048576 bytes.
+    /// The shortest encoding. Refused with `INTERNAL_ERROR` if a content exceeds 1048576 bytes.
     pub fn encode(&self) -> Result<Vec<u8>, Error> {
         // SAFETY: the handle and each slice are valid.
         let handle = Handle::made(|at| unsafe { sys::newaksu_targ_new(at) })?;
@@ -192,7 +192,7 @@ fn number_of(state: NegState) -> u32 {
 
 fn state(handle: &Handle) -> Result<Option<NegState>, Error> {
     let mut state = 0;
-    // SAFETY: the handle is valid, and the number is.
+    // SAFETY: the handle and the number are valid.
     match unsafe { sys::newaksu_targ_state(handle.at(), &mut state) } {
         sys::NEWAKSU_ABSENT => Ok(None),
         status => Error::check(status).map(|()| {
@@ -206,7 +206,7 @@ fn state(handle: &Handle) -> Result<Option<NegState>, Error> {
 }
 
 fn field(handle: &Handle, field: u32) -> Result<Option<Vec<u8>>, Error> {
-    // SAFETY: the handle is valid, and the room is for `capacity` bytes.
+    // SAFETY: the handle is valid, and there is room for `capacity` bytes.
     written(|out, capacity, size| unsafe {
         sys::newaksu_targ_field(handle.at(), field, out, capacity, size)
     })

@@ -1,4 +1,4 @@
-//! The turns of `examples/turns.rs`: a client and a server in a thread each, with a pair of sockets
+//! The turns of `examples/turns.rs`: a client and a server, each in a thread, with a socket pair
 //! between them.
 
 mod common;

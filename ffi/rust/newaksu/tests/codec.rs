@@ -1,4 +1,4 @@
-//! The codec, by vectors that were encoded by hand or came from other implementations.
+//! The codec, with vectors encoded by hand or by other implementations.
 
 mod common;
 

@@ -1,5 +1,5 @@
 //! Both ends against each other over a mechanism that encrypts: every pair of versions, every form
-//! of a name, both kinds of delegation.
+//! of name, both kinds of delegation.
 
 mod common;
 
@@ -12,8 +12,8 @@ fn run(setup: &Setup<'_>) -> Exchange {
     exchange
 }
 
-/// Ends match where both are below version 5 or both are not. An error code is told from version 3
-/// on, and not at version 5.
+/// Ends match if both are below version 5 or both are not. An error code is sent from version 3 on,
+/// but not at version 5.
 #[test]
 fn every_pair_of_versions() {
     for client in 2..=6 {
@@ -115,7 +115,7 @@ fn messages_that_are_followed() {
     exchange.check_delegated(usual().name, usual().passwords[0]);
 }
 
-/// A field that is not due is neither opened nor sent back. What a host hands its end begins with
+/// A field that is not due is neither opened nor sent back. What a host passes its end begins with
 /// such zeros.
 #[test]
 fn fields_that_are_not_due() {
@@ -154,7 +154,7 @@ fn nonces_that_are_drawn() {
     assert_ne!(nonce(&first), [0; 32]);
 }
 
-/// Ends may be sent to other threads, and each is used by one.
+/// Ends may be sent to other threads, each used by one.
 #[test]
 fn eight_threads() {
     fn is_send<T: Send>(_: &T) {}
@@ -185,7 +185,7 @@ fn eight_threads() {
     }
 }
 
-/// The server waits for the client's proof once its own token ended the authentication.
+/// The server waits for the client's proof once its own token completes the authentication.
 #[test]
 fn a_mechanism_of_two_tokens() {
     for version in 2..=6 {
@@ -212,7 +212,7 @@ fn a_mechanism_of_two_tokens() {
     }
 }
 
-/// A client whose mechanism ends before the server's version is known has no proof to make.
+/// A client whose mechanism completes before the server's version is known has no proof to make.
 #[test]
 fn a_client_that_ends_at_once() {
     let mut exchange = Exchange::over(&usual(), |party, is_server| party.ends_at_once = !is_server);
@@ -220,7 +220,7 @@ fn a_client_that_ends_at_once() {
     exchange.check_client_refused(SecurityStatus::INTERNAL_ERROR);
 }
 
-/// An end over a mechanism whose type is not known.
+/// An end over a mechanism of unknown type.
 #[test]
 fn mechanisms_behind_pointers() {
     use common::Party;

@@ -1,5 +1,5 @@
-//! Both ends with the negotiation of the library: which mechanism is taken, MICs both ways, and
-//! what somebody in between changes.
+//! Both ends with the library's negotiation: which mechanism is selected, MICs both ways, and what
+//! somebody in between changes.
 
 mod common;
 
@@ -48,7 +48,7 @@ fn server_of(mechanisms: Ours) -> NegotiatingServer<Party, Party> {
     NegotiatingServer::new(&settings, mechanisms).unwrap()
 }
 
-/// What came of an exchange.
+/// The result of an exchange.
 struct Ended {
     messages: usize,
     leaked: bool,
@@ -65,7 +65,7 @@ fn status(error: ProcessError) -> SecurityStatus {
     }
 }
 
-/// Runs two ends; `change` has each message, counted from 0, on its way.
+/// Runs two ends; `change` sees each message on its way, counted from 0.
 fn run(client: Ours, server: Ours, change: impl Fn(usize, &mut TsRequest)) -> Ended {
     let mut client = client_of(client);
     let mut server = server_of(server);
@@ -123,7 +123,7 @@ fn check_delegated(ended: &Ended, messages: usize) {
     assert!(!ended.leaked);
 }
 
-/// Puts Kerberos behind the list that the client offers.
+/// Appends Kerberos to the list that the client offers.
 fn append_kerberos(number: usize, request: &mut TsRequest) {
     if number == 0 {
         let mut init = NegTokenInit::decode(request.nego_tokens.as_ref().unwrap()).unwrap();
@@ -144,7 +144,7 @@ fn strip_mic(request: &mut TsRequest) {
     }
 }
 
-/// Four messages of the client and three of the server: each has a MIC.
+/// Four messages from the client and three from the server: each end sends a MIC.
 #[test]
 fn ntlm_has_mics_both_ways() {
     let ended = run(ntlm(false), ntlm(true), |_, _| {});
@@ -152,8 +152,8 @@ fn ntlm_has_mics_both_ways() {
     assert_eq!(ended.stepped, (true, false));
 }
 
-/// A server needs no MIC of a Kerberos that its client likes best and that is not user-to-user, and
-/// sends none, while a client always wants one.
+/// A server needs no MIC of a Kerberos that its client prefers and that is not user-to-user, and
+/// sends none, while a client always requires one.
 #[test]
 fn kerberos_as_the_first_choice_is_refused() {
     for mechanisms in [kerberos, both] {
@@ -230,7 +230,7 @@ fn without_a_common_mechanism_there_is_no_exchange() {
     assert!(!matches!(ended.server, Ok(Some(_))));
 }
 
-/// The tokens of a party behind the signature of NTLM's messages.
+/// The tokens of a party after the signature of NTLM's messages.
 struct WithSignature(Party);
 
 const SIGNATURE: &[u8] = b"NTLMSSP\0";
@@ -303,7 +303,7 @@ fn ntlm_is_taken_without_spnego() {
     panic!("the server does not finish");
 }
 
-/// Any other token without SPNEGO is no offer.
+/// Any other token without SPNEGO is not an offer.
 #[test]
 fn other_tokens_without_spnego_are_refused() {
     let settings = ClientSettings::new(KEY, NAME, PASSWORD);

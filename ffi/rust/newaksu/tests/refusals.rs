@@ -1,5 +1,5 @@
-//! Exchanges that go wrong. Each is refused as the proved ends refuse, and no credentials are given
-//! out in any.
+//! Exchanges that go wrong. Each is refused as the proved ends refuse, and no client releases
+//! credentials before the server's proof.
 
 mod common;
 
@@ -38,7 +38,7 @@ fn a_wrong_password() {
     .check_server_refused(SecurityStatus::LOGON_DENIED);
 }
 
-/// The last byte of a sealed field is another.
+/// Changes the last byte of a sealed field.
 fn changed(message: &mut Vec<u8>) {
     let mut request = TsRequest::decode(message).unwrap();
     let field = request.pub_key_auth.as_mut().or(request.auth_info.as_mut());
@@ -81,7 +81,7 @@ fn changed_credentials() {
     assert!(exchange.identity.is_none() && exchange.client.mechanism().saw_password);
 }
 
-/// One byte of one message is another: the credentials come as they were sent, or they are
+/// One byte of one message is changed: the credentials arrive as they were sent, or they are
 /// withheld.
 #[test]
 fn every_byte_changed() {
@@ -102,7 +102,7 @@ fn every_byte_changed() {
     }
 }
 
-/// A message that is cut anywhere has not come yet: the end takes it once it is whole.
+/// A message that is cut anywhere has not arrived yet: the end takes it once it is whole.
 #[test]
 fn every_message_cut() {
     let mut exchange = Exchange::new(&usual());
@@ -124,7 +124,7 @@ fn every_message_cut() {
     exchange.check_delegated(usual().name, usual().passwords[0]);
 }
 
-/// An end takes message `number` once more, when it is due to take the one behind `until`.
+/// An end takes message `number` again when the one after `until` is due.
 fn replayed(until: usize, number: usize, is_server: bool) -> Refusal {
     let mut exchange = Exchange::new(&usual());
     exchange.client_turn(&[]);
@@ -177,7 +177,7 @@ fn replayed_messages() {
     );
 }
 
-/// A mechanism that fails ends its exchange, and what a server says of it has the mechanism's code.
+/// A mechanism that fails ends its exchange; what a server reports of it has the mechanism's code.
 #[test]
 fn mechanisms_that_fail() {
     let fails = |server, what: usize, status: SecurityStatus| {
@@ -223,7 +223,7 @@ fn mechanisms_that_fail() {
     }
 }
 
-/// A client that is told an error does not step with what else it is told.
+/// A client that is told of an error does not step with what else it is told.
 #[test]
 fn a_server_that_tells_an_error() {
     let mut exchange = Exchange::new(&usual());
@@ -251,7 +251,7 @@ fn ends_that_cannot_be_made() {
     assert_eq!(Server::new(&settings, party).err(), refused);
 }
 
-/// It has 2 to 6; the least that is taken may be 0 too.
+/// There are 2 to 6; the least accepted may also be 0.
 #[test]
 fn versions_that_credssp_does_not_have() {
     let party = common::Party::new(false, "ann", "pw");

@@ -1,5 +1,5 @@
-//! ChaCha20-Poly1305 (RFC 8439) for the mechanism of the tests alone: it is not made against
-//! timing.
+//! ChaCha20-Poly1305 (RFC 8439), only for the mechanism of the tests: it does not resist timing
+//! attacks.
 
 fn word(bytes: &[u8]) -> u32 {
     u32::from_le_bytes([bytes[0], bytes[1], bytes[2], bytes[3]])
@@ -55,7 +55,7 @@ fn apply(key: &[u8; 32], nonce: &[u8; 12], bytes: &mut [u8]) {
     }
 }
 
-/// A number of 130 bits and more, by limbs of 26 bits.
+/// A number of 130 bits or more, in limbs of 26 bits.
 type Limbs = [u64; 5];
 
 const LIMB: u64 = 0x3ff_ffff;
@@ -94,7 +94,7 @@ fn times(h: &Limbs, r: &Limbs) -> Limbs {
     carried(product)
 }
 
-/// Modulo 2^130 - 5, and of that the low 128 bits.
+/// The low 128 bits of this modulo 2^130 - 5.
 fn reduced(h: Limbs) -> u128 {
     let mut h = carried(h);
     let mut less = h;
@@ -147,14 +147,14 @@ fn tag_of(key: &[u8; 32], nonce: &[u8; 12], aad: &[u8], sealed: &[u8]) -> [u8; 1
     reduced(h).wrapping_add(pad).to_le_bytes()
 }
 
-/// The tag and, behind it, the encrypted text.
+/// The tag, then the encrypted text.
 pub fn seal(key: &[u8; 32], nonce: &[u8; 12], aad: &[u8], text: &[u8]) -> Vec<u8> {
     let mut sealed = text.to_vec();
     apply(key, nonce, &mut sealed);
     [&tag_of(key, nonce, aad, &sealed)[..], &sealed].concat()
 }
 
-/// The text, where the tag is right.
+/// The text, if the tag is right.
 pub fn open(key: &[u8; 32], nonce: &[u8; 12], aad: &[u8], sealed: &[u8]) -> Option<Vec<u8>> {
     let (tag, sealed) = (sealed.get(..16)?, &sealed[16..]);
     if tag != tag_of(key, nonce, aad, sealed) {

@@ -1,11 +1,11 @@
-//! A mechanism for the tests, of three tokens as NTLM's, which really encrypts: by
-//! ChaCha20-Poly1305, under a key that both ends derive of the password and of what each drew.
+//! A mechanism for the tests, with three tokens like NTLM, which really encrypts: with
+//! ChaCha20-Poly1305, under a key that both ends derive from the password and what each drew.
 //!
 //!     client   "T1" and what it drew, 16 bytes
 //!     server   "T2" and what it drew, 16 bytes
 //!     client   "T3", a tag of 16 bytes under the key, and the user's name, which the tag covers
 //!
-//! or of two, as Kerberos's:
+//! or with two, like Kerberos:
 //!
 //!     client   "K1", what it drew, a tag of 16 bytes under the password, and the user's name,
 //!              which the tag covers
@@ -47,9 +47,9 @@ pub struct Party {
     pub refuses_unseal: Option<SecurityStatus>,
     pub refuses_peer: Option<SecurityStatus>,
     pub seals_short: bool,
-    /// The server's one token ends it on both sides.
+    /// The server's one token completes it on both sides.
     pub two_tokens: bool,
-    /// A client's only step ends it.
+    /// A client's only step completes it.
     pub ends_at_once: bool,
     /// It says that it is user-to-user.
     pub is_user_to_user: bool,
@@ -310,7 +310,7 @@ impl Exchange {
         Exchange::over(setup, |_, _| {})
     }
 
-    /// The same with mechanisms that were changed.
+    /// The same with changed mechanisms.
     pub fn over(setup: &Setup<'_>, change: impl Fn(&mut Party, bool)) -> Exchange {
         let mut parties = [false, true].map(|is_server| {
             Party::new(is_server, setup.name, setup.passwords[is_server as usize])
@@ -336,7 +336,7 @@ impl Exchange {
         }
     }
 
-    /// One call of the client; whether it goes on with a message.
+    /// One call of the client; whether it continues with a message.
     pub fn client_turn(&mut self, delivered: &[u8]) -> bool {
         match self.client.process(delivered) {
             Ok(ClientTurn::Reply(message) | ClientTurn::Final(message)) => {
@@ -372,7 +372,7 @@ impl Exchange {
         }
     }
 
-    /// Messages go to and fro until an end is done or refused and its peer was told.
+    /// Messages go to and fro until an end is done, or has refused and its peer was told.
     pub fn run(&mut self, change: impl Fn(usize, &mut Vec<u8>)) {
         let mut delivered = Vec::new();
         for is_server in [false, true].into_iter().cycle() {
@@ -397,7 +397,7 @@ impl Exchange {
             .any(|message| holds_utf16(message, password)));
     }
 
-    /// The credentials were given out to nobody, not even to the client's mechanism.
+    /// The credentials were released to nobody, not even to the client's mechanism.
     pub fn check_withheld(&self) {
         assert_eq!(self.identity, None);
         assert!(!self.client.mechanism().saw_password);
