@@ -4,6 +4,7 @@
 mod came;
 mod checks;
 mod mech;
+mod messages;
 mod negotiate;
 mod octets;
 mod values;

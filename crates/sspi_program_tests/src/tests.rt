@@ -14,6 +14,7 @@ mod plays;
 mod reasons;
 mod report;
 mod rows;
+mod scenario;
 mod sessions;
 
 use sspi_ber::{SliceSource, VecSink};

@@ -1,5 +1,0 @@
-//! Tests of the relay by its public call.
-#![tactic(auto)]
-
-#[cfg(test)]
-mod tests;

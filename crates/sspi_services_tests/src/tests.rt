@@ -1,0 +1,6 @@
+//! What is built on an exchange, each part by itself.
+
+mod audit;
+mod desk;
+mod early;
+mod gate;
