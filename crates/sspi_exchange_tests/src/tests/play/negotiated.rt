@@ -1,7 +1,9 @@
 //! A play of two ends that negotiate NTLM, of `ann@example.com` over a key of 270 octets, as an
 //! instance of what agreement rests on. The messages, texts, MICs and hashes were computed apart.
 
-use crate::tests::play::ends::{Account, Test, client, config, given, lend, made_by, server, turns_of};
+use crate::tests::play::ends::{
+    Account, Test, client, config, given, lend, made_by, server, turns_of,
+};
 use sha2::{Digest, Sha256};
 use sspi_credssp::{ClientMode, ServerMode};
 use sspi_delegate::{Transcript, Turn};
