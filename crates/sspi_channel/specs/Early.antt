@@ -2,12 +2,13 @@
 -- scenario admits anybody.
 use Rattle.std.specs.Prelude.{◌≡◌, ℕ, Bool, true, false, List, [], ◌∷◌, Option, None, Some, Result}
 use Rattle.std.specs.Prelude.{Ok, Err}
-use Rattle.sspi_ber.specs.Outside.{LeavesRest, ReadCause, Reads, WriteCause, Writes}
+use Rattle.sspi_ber.specs.Outside.{ReadCause, Reads, WriteCause, Writes}
 use Rattle.sspi_ber.specs.declared.wire_kind.WireKind.{WireKind}
 use Rattle.sspi_ber.specs.declared.wire_kind.WireKind.TheVariants as kinds
 use Rattle.sspi_early.specs.Authorizes.{told_of}
 use Rattle.sspi_early.specs.Policy.{is_listed}
 use Rattle.sspi_names.specs.Name.{Name}
+use Rattle.sspi_scenario.specs.Reading.{TakesAtMost}
 use Rattle.sspi_tsreq.specs.declared.early.EarlyUserAuthResult.{EarlyUserAuthResult}
 use Rattle.sspi_tsreq.specs.Early.{early_result_at, early_result_text}
 use Rattle.sspi_channel.specs.declared.answer.ChannelError.{ChannelError}
@@ -55,14 +56,15 @@ heard_as (Ok heard) = Ok (Some heard)
 heard_as (Err kinds.ReadFault) = Err channel.ReadFault
 heard_as (Err kind) = Err (channel.Early kind)
 
--- Four octets were read, and none after them; what is left, and the counts of the source's faults.
+-- Four octets were read; at most these were taken, also where there is no result. What is left, and
+-- the counts of the source's faults.
 pub record Hears (before after : Option (List ℕ)) (faults faults2 : ℕ)
     (result : Result (Option EarlyUserAuthResult) ChannelError)
     : Type 0 where
   pub wire : Result EarlyUserAuthResult WireKind
   pub read : Reads (λ r. r) before after wire early_result_at
   pub cause : ReadCause faults faults2 wire
-  pub rest : LeavesRest before after
+  pub taken : TakesAtMost 4 before after
   pub answer : result ≡ heard_as wire
 
 abbrev pub HearsIfAsked : Bool → Option (List ℕ) → Option (List ℕ) → ℕ → ℕ →

@@ -2,6 +2,8 @@ pub mod Asked
 pub mod Delegating
 pub mod Sides
 pub mod Early
+pub mod Front
+pub mod Counting
 pub mod Answers
 pub mod Statuses
 pub mod Texts

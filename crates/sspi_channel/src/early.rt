@@ -1,15 +1,20 @@
 //! The early user authorization result after a delegation over a channel (MS-RDPBCGR 2.2.10.2).
 
-ghost use Rattle.std.specs.Prelude.{◌≡◌, IfOk};
+ghost use Rattle.std.specs.Prelude.{◌≡◌, IfOk, length};
+ghost use Rattle.sspi_ber.specs.Outside.{ReadCause, Reads, SourceCause};
 ghost use Rattle.sspi_early.specs.Authorizes.{told_of};
 ghost use Rattle.sspi_early.specs.Policy.{is_listed};
 ghost use Rattle.sspi_channel.specs.Early.{Hears, HearsIfAsked, Tells, TellsIfAsked, is_asked};
 ghost use Rattle.sspi_channel.specs.Early.{told_by};
+ghost use Rattle.sspi_channel.specs.Front.{TakesFront};
+ghost use Rattle.sspi_scenario.specs.Reading.{TakesAtMost};
+ghost use Rattle.sspi_tsreq.specs.Early.{early_result_at};
 
 use crate::answer::ChannelError;
-use sspi_ber::{Sink, Source, WireKind};
+use sspi_ber::{Sink, SliceSource, Source, SourceError, WireKind};
 use sspi_early::EarlyUserAuthResult;
 use sspi_names::Username;
+use sspi_tsreq::EARLY_USER_AUTH_RESULT_PDU_SIZE;
 
 /// What a server tells of a user: whether it is one of those whom the scenario admits; nothing
 /// if it admits nobody.
@@ -89,9 +94,40 @@ fn hear<S: Source>(source: &mut S) -> Result<Option<EarlyUserAuthResult>, Channe
     ensures { Hears (S.left source.old) (S.left source.new) (S.faults source.old)
         (S.faults source.new) result }
 {
-    match EarlyUserAuthResult::from_buffer(source) {
+    match read_result(source) {
         Ok(heard) => Ok(Some(heard)),
         Err(WireKind::ReadFault) => Err(ChannelError::ReadFault),
         Err(kind) => Err(ChannelError::Early(kind)),
     }
+}
+
+/// Reads a result, and takes no octet behind its four, whatever comes of it.
+fn read_result<S: Source>(source: &mut S) -> Result<EarlyUserAuthResult, WireKind>
+    ensures read { Reads (λ result. result) (S.left source.old) (S.left source.new) result
+        early_result_at }
+    ensures cause { ReadCause (S.faults source.old) (S.faults source.new) result }
+    ensures taken { TakesAtMost 4 (S.left source.old) (S.left source.new) }
+{
+    let mut octets = [0; EARLY_USER_AUTH_RESULT_PDU_SIZE];
+    let count = read_front(source, &mut octets)?;
+    EarlyUserAuthResult::from_buffer(&mut SliceSource::new(&octets[..count]))
+}
+
+/// Reads until `into` is full or nothing is left, and returns how many bytes that took.
+fn read_front<S: Source>(source: &mut S, into: &mut [u8]) -> Result<usize, SourceError>
+    ensures size { length into.new ≡ length into.old }
+    ensures front { IfOk result (λ count. TakesFront (S.left source.old) (S.left source.new)
+        into.new count) }
+    ensures taken { TakesAtMost (length into.old) (S.left source.old) (S.left source.new) }
+    ensures cause { SourceCause (S.faults source.old) (S.faults source.new) result }
+{
+    let mut filled = 0;
+    while filled < into.len() {
+        let count = source.read(&mut into[filled..])?;
+        if count == 0 {
+            return Ok(filled);
+        }
+        filled += count;
+    }
+    Ok(filled)
 }

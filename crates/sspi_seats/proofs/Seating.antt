@@ -13,7 +13,7 @@ use Rattle.sspi_credssp.specs.Context.{ContextSetting}
 use Rattle.sspi_credssp.specs.Proxy.{ProxyMeaning}
 use Rattle.sspi_credssp.specs.Ends.{ServerView}
 use Rattle.sspi_delegate.specs.Chain.{KdcCalls}
-use Rattle.sspi_desk.specs.Desk.{session, IsAdmitted}
+use Rattle.sspi_desk.specs.Desk.{DeskView, session, IsAdmitted}
 use Rattle.sspi_seats.specs.Guest.{IsVisited}
 use Rattle.sspi_seats.specs.Keeping.{IsNew, OthersStay}
 use Rattle.sspi_seats.specs.Seat.{Place}
@@ -47,19 +47,21 @@ none_runs (g ∷ guests) none (suc i) guest found =
 module _ {N K P D : Type 0} (c : Meaning ContextSetting (SspiContext N K)) (p : ProxyMeaning P) (k : KdcCalls D) where
   -- ---- coming
 
-  pub empty_seated : (sessions : Sessions N K P D) → IsEmpty sessions → AreSeated c p k [] sessions
-  empty_seated sessions is = record {
+  pub empty_seated : (limit : ℕ) (sessions : Sessions N K P D) → IsEmpty limit sessions → AreSeated c p k [] limit sessions
+  empty_seated limit sessions is = record {
     visited = record {
       early = λ i came guest place found before. absurd (omega (arith, before));
       late = λ i came guest place found after. absurd (no_element came i place);
       numbered = λ i guest found. absurd (no_element guest i (rw is.guests at found));
       seated = ap (λ (l : List (Guest N K D)). length l) is.guests;
     };
-    admitted = is.admitted;
+    admitted = ap (λ (d : DeskView (SspiContext N K) P). d.admitted) is.desk_is;
+    kept = ap (λ (d : DeskView (SspiContext N K) P). length d.kept) is.desk_is;
+    limit_is = ap (λ (d : DeskView (SspiContext N K) P). d.limit) is.desk_is;
   }
 
   module _ (cames : List (Place (SspiContext N K) P D)) (came : Place (SspiContext N K) P D) (number : ℕ) (guest : Guest N K D)
-      (old new : Sessions N K P D) (seated : AreSeated c p k cames old) (is : IsNew number came.client came.kdc guest)
+      (limit : ℕ) (old new : Sessions N K P D) (seated : AreSeated c p k cames limit old) (is : IsNew number came.client came.kdc guest)
       (admitted : IsAdmitted came.server number old.desk new.desk) where
     -- the client of a place is one from before, or the one that came
     late_joined : (i : ℕ) (at : Place (SspiContext N K) P D) (g : Guest N K D) →
@@ -95,7 +97,7 @@ module _ {N K P D : Type 0} (c : Meaning ContextSetting (SspiContext N K)) (p : 
         omega (arith, own, here, seated.admitted, many, last.0)
 
     -- one more has come
-    pub joined : new.guests.items ≡ old.guests.items ++ guest ∷ [] → AreSeated c p k (cames ++ came ∷ []) new
+    pub joined : new.guests.items ≡ old.guests.items ++ guest ∷ [] → AreSeated c p k (cames ++ came ∷ []) limit new
     joined added =
         let more : length (cames ++ came ∷ []) ≡ length cames + 1 = length-append cames (came ∷ []) in
         record {
@@ -113,6 +115,8 @@ module _ {N K P D : Type 0} (c : Meaning ContextSetting (SspiContext N K)) (p : 
             );
           };
           admitted = omega (arith, admitted.counts.admitted_is, seated.admitted, more);
+          kept = omega (arith, admitted.counts.kept_is, seated.kept, more);
+          limit_is = admitted.changes.limit ∙ seated.limit_is;
         }
 
   -- ---- a round

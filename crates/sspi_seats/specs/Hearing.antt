@@ -14,7 +14,7 @@ use Rattle.sspi_credssp.specs.Ends.{ServerView}
 use Rattle.sspi_credssp.specs.Turn.{message_of}
 use Rattle.sspi_delegate.specs.Chain.{KdcCalls}
 use Rattle.sspi_delegate.specs.Log.{IsRead}
-use Rattle.sspi_desk.specs.Call.{HasFault, Spells}
+use Rattle.sspi_desk.specs.Call.{HasFault, HasNoRoom, Spells}
 use Rattle.sspi_desk.specs.declared.answer.DeskError.{DeskError}
 use Rattle.sspi_desk.specs.declared.answer.DeskError.TheVariants.{NoSession, Unread, Refused}
 use Rattle.sspi_desk.specs.declared.answer.DeskError.TheVariants.{TooLong, InsufficientMemory}
@@ -55,9 +55,11 @@ IsHeard turns (Err (Refused error text)) heard = heard ≡ Ends (seats.Server er
 IsHeard turns (Err TooLong) heard = heard ≡ Ends (seats.Write Server)
 IsHeard turns (Err InsufficientMemory) heard = ⊥
 
--- memory may run out for what an answer means, or it ran out for the answer
+-- Memory may run out for what an answer means, or it ran out for the answer. The bytes of a message
+-- are then a request, with OCTET STRINGs to copy.
 abbrev pub MayLack : Result Served DeskError → Type 0
-MayLack (Ok served) = Unit {0}
+MayLack (Ok (Answer text)) = HasNoRoom text
+MayLack (Ok (Finished identity)) = Unit {0}
 MayLack (Err NoSession) = Unit {0}
 MayLack (Err (Unread kind)) = ⊥
 MayLack (Err (Refused error text)) = ⊥

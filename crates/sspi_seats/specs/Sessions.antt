@@ -15,10 +15,10 @@ use Rattle.sspi_seats.specs.declared.guest.Guest.{Guest}
 use Rattle.sspi_seats.specs.declared.sessions.Sessions.{Sessions}
 
 module _ {N K P D : Type 0} where
-  -- nobody has been admitted yet
-  pub record IsEmpty (sessions : Sessions N K P D) : Type 0 where
+  -- nobody has been admitted yet, to a desk that may keep this many sessions
+  pub record IsEmpty (limit : ℕ) (sessions : Sessions N K P D) : Type 0 where
     pub guests : sessions.guests.items ≡ []
-    pub admitted : sessions.desk.admitted ≡ 0
+    pub desk_is : sessions.desk ≡ record { limit = limit; admitted = 0; kept = [] }
 
 module _ {N K P D : Type 0} (c : Meaning ContextSetting (SspiContext N K)) (p : ProxyMeaning P)
     (k : KdcCalls D)
@@ -47,7 +47,10 @@ module _ {N K P D : Type 0} (c : Meaning ContextSetting (SspiContext N K)) (p : 
         guest.number ≡ i
     pub seated : length sessions.guests.items ≡ length cames
 
-  -- these were admitted, in this order, and none has made a turn
-  pub record AreSeated (sessions : Sessions N K P D) : Type 0 where
+  -- These were admitted, in this order, and none has made a turn. The desk keeps no other session,
+  -- and may keep `limit`: so it is full only if that many were admitted.
+  pub record AreSeated (limit : ℕ) (sessions : Sessions N K P D) : Type 0 where
     pub visited : AreVisited 0 0 sessions
     pub admitted : sessions.desk.admitted ≡ length cames
+    pub kept : length sessions.desk.kept ≡ length cames
+    pub limit_is : sessions.desk.limit ≡ limit

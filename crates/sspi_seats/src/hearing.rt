@@ -1,6 +1,7 @@
 //! What an answer of the desk means for its client.
 
 ghost use Rattle.std.specs.Prelude.{◌≡◌, IfOk, OnErr, MatchResult};
+ghost use Rattle.sspi_desk.specs.Call.{HasNoRoom};
 ghost use Rattle.sspi_seats.specs.Hearing.{IsHeard, IsReadAs, IsRefusal, MayLack, Speaks};
 
 use crate::seat::SeatOutcome;
@@ -56,9 +57,10 @@ pub(crate) fn hear(
     Ok(Heard::Ends(outcome))
 }
 
-/// What the bytes of a server's message mean for its client.
+/// What the bytes of a server's message mean for its client. Fails only if they are a request, and
+/// memory runs out for its OCTET STRINGs.
 fn read(alloc: Global, text: &[u8]) -> Result<Heard, AllocError>
-    ensures { IfOk result (λ heard. IsReadAs text.now heard) }
+    ensures { MatchResult result (λ heard. IsReadAs text.now heard) (λ _. HasNoRoom text.now) }
 {
     match TsRequest::from_buffer(alloc, text) {
         Ok(request) => Ok(Heard::Next(request)),

@@ -1,7 +1,7 @@
 //! Clients that each have a session at one desk.
 
-ghost use Rattle.std.specs.Prelude.{◌≡◌, ◌+◌, ◌++◌, ◌<◌, ◌≤◌, ◌^◌, ℕ, List, [], ◌∷◌, IfOk, OnOk};
-ghost use Rattle.std.specs.Prelude.{is_some, length, map};
+ghost use Rattle.std.specs.Prelude.{◌≡◌, ◌↔◌, ◌+◌, ◌++◌, ◌<◌, ◌≤◌, ◌^◌, ℕ, List, [], ◌∷◌, IfOk};
+ghost use Rattle.std.specs.Prelude.{IsErrOf, OnOk, is_some, length, map};
 ghost use Rattle.std.specs.List.{list_any};
 ghost use Rattle.sspi_credssp.specs.Context.{either};
 ghost use Rattle.sspi_credssp.specs.declared.context.SspiContext.{SspiContext};
@@ -15,7 +15,7 @@ ghost use Rattle.sspi_seats.specs.Table.{AreSeats, place_of};
 use crate::guest::{Guest, lost};
 use crate::seat::Seat;
 use sspi_credssp::{CredSspClient, CredSspServer, CredentialsProxy};
-use sspi_desk::Desk;
+use sspi_desk::{Desk, Turned, Why};
 use sspi_mech::{Kdc, Mechanism};
 use sspi_types::Rows;
 use std::alloc::{AllocError, Global};
@@ -39,7 +39,7 @@ pub(crate) struct Sessions<N, K, C, D> {
 impl<N, K, C, D> Sessions<N, K, C, D> {
     /// No clients yet, at a desk for `limit` sessions.
     fn new(alloc: Global, limit: u32) -> Sessions<N, K, C, D>
-        ensures { IsEmpty result }
+        ensures { IsEmpty limit result }
     {
         Sessions {
             alloc,
@@ -50,7 +50,8 @@ impl<N, K, C, D> Sessions<N, K, C, D> {
 }
 
 impl<N: Mechanism, K: Mechanism, C: CredentialsProxy, D: Kdc + Drop> Sessions<N, K, C, D> {
-    /// Admits the servers of these clients to a desk for `limit` sessions.
+    /// Admits the servers of these clients to a desk for `limit` sessions. Fails only when out of
+    /// memory: the desk has room for all of them.
     pub(crate) fn open(
         alloc: Global,
         limit: u32,
@@ -59,30 +60,40 @@ impl<N: Mechanism, K: Mechanism, C: CredentialsProxy, D: Kdc + Drop> Sessions<N,
         requires { length joined.items ≤ limit }
         ensures { let c = either N.REQUESTS N.meaning K.meaning in let k =
             kdc_calls D.told D.asked D.faults in
-            IfOk result (AreSeated c C.meaning k (map place_of joined.items)) }
+            IfOk result (AreSeated c C.meaning k (map place_of joined.items) limit) }
     {
         let mut sessions = Sessions::new(alloc, limit);
         for one in joined {
-            sessions.admit(one)?;
+            match sessions.admit(one) {
+                Ok(()) => {}
+                Err(Why::InsufficientMemory) => return Err(AllocError),
+                Err(Why::Full) => unreachable!(),
+            }
         }
         Ok(sessions)
     }
 
-    /// Admits the server of one more client.
-    fn admit(&mut self, joined: Joined<N, K, C, D>) -> Result<(), AllocError>
+    /// Admits the server of one more client. Fails with `Full` exactly if the desk is full.
+    fn admit(&mut self, joined: Joined<N, K, C, D>) -> Result<(), Why>
         requires { self.old.desk.admitted + 1 < 2 ^ 64 }
-        ensures { let c = either N.REQUESTS N.meaning K.meaning in let k =
+        ensures seated { let c = either N.REQUESTS N.meaning K.meaning in let k =
             kdc_calls D.told D.asked D.faults in
-            (cames : List (Place (SspiContext N K) C D)) → AreSeated c C.meaning k cames self.old →
-            OnOk result (AreSeated c C.meaning k (cames ++ place_of joined ∷ []) self.new) }
+            (cames : List (Place (SspiContext N K) C D)) (limit : ℕ) →
+            AreSeated c C.meaning k cames limit self.old →
+            OnOk result (AreSeated c C.meaning k (cames ++ place_of joined ∷ []) limit self.new) }
+        ensures full { IsErrOf result Why.Full ↔ (length self.old.desk.kept ≡
+            self.old.desk.limit) }
     {
         let Joined {
             client,
             kdc,
             server,
         } = joined;
-        if let Err(error) = self.guests.reserve(1) {
-            return lost(client, (kdc, server), error);
+        if self.desk.is_full() {
+            return lost(client, (kdc, server), Why::Full);
+        }
+        if self.guests.reserve(1).is_err() {
+            return lost(client, (kdc, server), Why::InsufficientMemory);
         }
         match self.desk.admit(server) {
             Ok(number) => {
@@ -90,7 +101,7 @@ impl<N: Mechanism, K: Mechanism, C: CredentialsProxy, D: Kdc + Drop> Sessions<N,
                 self.guests.push_reserved(guest);
                 Ok(())
             }
-            Err(turned) => lost(client, (kdc, turned), AllocError),
+            Err(Turned { server, why }) => lost(client, (kdc, server), why),
         }
     }
 
@@ -98,7 +109,8 @@ impl<N: Mechanism, K: Mechanism, C: CredentialsProxy, D: Kdc + Drop> Sessions<N,
     pub(crate) fn serve(&mut self, limit: u32) -> Result<(), AllocError>
         ensures { let c = either N.REQUESTS N.meaning K.meaning in let k =
             kdc_calls D.told D.asked D.faults in
-            (cames : List (Place (SspiContext N K) C D)) → AreSeated c C.meaning k cames self.old →
+            (cames : List (Place (SspiContext N K) C D)) (most : ℕ) →
+            AreSeated c C.meaning k cames most self.old →
             OnOk result (AreVisited c C.meaning k cames limit 0 self.new) }
     {
         for turn in 0..limit {

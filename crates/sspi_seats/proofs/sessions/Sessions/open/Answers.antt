@@ -14,7 +14,7 @@ loop-one-init g c =
     let m = either g.N.Mechanism.REQUESTS g.N.Mechanism.meaning g.K.Mechanism.meaning in
     let k = kdc_calls g.D.Kdc.told g.D.Kdc.asked g.D.Kdc.faults in
     let gives = c.into_iter-one-iterator.ensures.into_iter_gives in
-    (gives.0, search rules, empty_seated m g.C.CredentialsProxy.meaning k c.new-sessions.result c.new-sessions.ensures)
+    (gives.0, search rules, empty_seated m g.C.CredentialsProxy.meaning k c.args.limit c.new-sessions.result c.new-sessions.ensures)
 
 pub loop-one-preserved : goal.loop-one-preserved
 loop-one-preserved g c =
@@ -31,8 +31,8 @@ loop-one-preserved g c =
           let gone = c.in-Some.ensures.steps.1 in
           let short = ap length steps in
           omega arith,
-      subst (λ cames. AreSeated m p k cames c.admit.new.self) (sym (map-append place_of at.yielded (one ∷ [])))
-          (c.in_ok-admit.ensures (map place_of at.yielded) at.invariant.2),
+      subst (λ cames. AreSeated m p k cames c.args.limit c.admit.new.self) (sym (map-append place_of at.yielded (one ∷ [])))
+          (c.in-Ok.ensures.seated (map place_of at.yielded) c.args.limit at.invariant.2),
     )
 
 pub returns : goal.returns
@@ -45,4 +45,4 @@ returns g c =
     let none : length (into_iter_items at.one-iterator) ≡ 0 = rw at.invariant.1 at ended.0 in
     let all = front_is_all at.yielded (into_iter_items at.one-iterator) c.args.joined.items none
     at.invariant.0 in
-    subst (λ l. AreSeated m p k (map place_of l) at.sessions) all at.invariant.2
+    subst (λ l. AreSeated m p k (map place_of l) c.args.limit at.sessions) all at.invariant.2

@@ -12,4 +12,4 @@ invariant-loop-one g l =
     let k = kdc_calls g.D.Kdc.told g.D.Kdc.asked g.D.Kdc.faults in
     (l.yielded ++ into_iter_items l.one-iterator ≡ l.fn.joined.items)
     × (into_iter_len l.one-iterator ≡ length (into_iter_items l.one-iterator))
-    × AreSeated m g.C.CredentialsProxy.meaning k (map place_of l.yielded) l.sessions
+    × AreSeated m g.C.CredentialsProxy.meaning k (map place_of l.yielded) l.fn.limit l.sessions

@@ -14,4 +14,4 @@ returns g c =
     let same : cames ≡ c.args.self.places = ap (map place_of) c.into_inner.ensures
     ∙ ap (λ (t : TableView (SspiContext g.row.N.Denot g.row.K.Denot) g.row.C.Denot g.row.D.Denot). t.places) c.self.view_is in
     subst (λ l. IfOk c.leave.result (AreSeats m g.C.CredentialsProxy.meaning k l c.args.limit)) same
-    (c.leave.ensures cames c.args.limit (c.in_ok-serve.ensures cames c.in_ok-sessions.ensures))
+    (c.leave.ensures cames c.args.limit (c.in_ok-serve.ensures cames _ c.in_ok-sessions.ensures))
