@@ -8,10 +8,11 @@ pub record KeepingView (S : Type 0) : Type 0 where
   pub given : Option (List ℕ)
 
 -- this piece is kept after what was kept before, or memory for it ran out and nothing is kept from
--- here on
+-- here on; an empty piece needs no memory
 abbrev pub Keeps : Option (List ℕ) → Option (List ℕ) → List ℕ → Type 0
 Keeps None now piece = now ≡ None
-Keeps (Some given) now piece = (now ≡ Some (given ++ piece)) ⊎ (now ≡ None)
+Keeps (Some given) now [] = now ≡ Some given
+Keeps (Some given) now (byte ∷ piece) = (now ≡ Some (given ++ byte ∷ piece)) ⊎ (now ≡ None)
 
 -- what the next byte, if there was one, adds to what is kept
 abbrev pub byte_of : Result (Option ℕ) SourceError → List ℕ

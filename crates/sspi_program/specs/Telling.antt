@@ -138,4 +138,4 @@ Explains bytes (NoScenario line) = ⊥
 Explains bytes NoText = is_utf8 bytes ≡ false
 Explains bytes ReadFault = ⊥
 Explains bytes OtherWords = ⊥
-Explains bytes NoMemory = Unit {0}
+Explains bytes NoMemory = is_utf8 bytes ≡ true

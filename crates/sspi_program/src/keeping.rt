@@ -51,11 +51,14 @@ impl<S: Source> KeepingSource<S> {
         }
     }
 
-    /// Keeps these bytes too.
+    /// Keeps these bytes too. Without any, no memory is asked for.
     fn keep(&mut self, bytes: &[u8])
         ensures source { self.new.source ≡ self.old.source }
         ensures given { Keeps self.old.given self.new.given bytes.now }
     {
+        if bytes.is_empty() {
+            return;
+        }
         let kept = match &mut self.given {
             Some(given) => given.extend_from_slice(bytes).is_ok(),
             None => true,

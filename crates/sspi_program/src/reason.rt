@@ -1,11 +1,15 @@
 //! What standard error says about a run, in words.
-ghost use Rattle.std.specs.Prelude.{◌≡◌, ◌≤◌, string_bytes, IfOk};
+ghost use Rattle.std.specs.Prelude.{◌≡◌, ◌≢◌, ℕ, true, false, List, codes, string_bytes, option_map};
+ghost use Rattle.std.specs.Prelude.{IfOk, MatchResult};
+ghost use Rattle.sspi_ber.specs.Outside.{WriteCause, Writes};
+ghost use Rattle.sspi_program.specs.Reason.{Tells, TellsReason, is_silent, kept_text, line};
 ghost use Rattle.sspi_program.specs.Reason.{reason_text, refused_text, unexplained_text};
+ghost use Rattle.sspi_program.specs.declared.reason.TheConstants.{USAGE};
 
 use crate::command::Command;
 use crate::run::EXPLAIN_LIMIT;
 use crate::status;
-use sspi_ber::{Sink, write_all};
+use sspi_ber::{Sink, WireKind, write_all};
 use sspi_scenario::{reason, text_of};
 use std::alloc::{AllocError, Global};
 
@@ -46,8 +50,8 @@ pub fn reason_of(
 }
 
 /// Tells standard error why a run ended with this status: the usage if the words are not a command,
-/// and otherwise the reason, as a line. Nothing is written at 0 and 1, nor at 2 if the text was not
-/// kept. What `errors` does not take is lost.
+/// and otherwise the reason, as a line, or `out of memory` if there was none to say it. Nothing is
+/// written at 0 and 1, nor at 2 if the text was not kept. What `errors` does not take is lost.
 pub fn tell_reason<E: Sink>(
     alloc: Global,
     errors: &mut E,
@@ -55,26 +59,58 @@ pub fn tell_reason<E: Sink>(
     text: Option<&[u8]>,
     status: u8,
 )
-    ensures quiet { status ≤ 1 → errors.new ≡ errors.old }
+    ensures quiet { is_silent (option_map (λ t. t.now) text.entry) status ≡ true →
+        errors.new ≡ errors.old }
+    ensures usage { status ≡ 6 → Tells USAGE.now (E.written errors.old)
+        (E.written errors.new) (E.faults errors.old) (E.faults errors.new) }
+    ensures reason { is_silent (option_map (λ t. t.now) text.entry) status ≡ false → status ≢ 6 →
+        TellsReason (reason_text command (kept_text (option_map (λ t. t.now) text.entry)) status)
+        (E.written errors.old) (E.written errors.new) (E.faults errors.old)
+        (E.faults errors.new) }
 {
     match (status, text) {
         (status::DONE | status::REFUSED, _) | (status::NO_SCENARIO, None) => {}
-        (status::OTHER_WORDS, _) => {
-            let _taken = write_all(errors, USAGE.as_bytes()).is_ok();
-        }
-        (_, Some(text)) => write_reason(errors, reason_of(alloc, command, text, status)),
-        (_, None) => write_reason(errors, reason_of(alloc, command, &[], status)),
+        (status::OTHER_WORDS, _) => tell(errors, USAGE.as_bytes()),
+        (_, Some(text)) => tell_made(errors, reason_of(alloc, command, text, status)),
+        (_, None) => tell_made(errors, reason_of(alloc, command, &[], status)),
     }
 }
 
+fn tell<E: Sink>(errors: &mut E, text: &[u8])
+    ensures { Tells text.now (E.written errors.old) (E.written errors.new) (E.faults errors.old)
+        (E.faults errors.new) }
+{
+    let _written = write_all(errors, text);
+}
+
+/// Tells a reason as a line, or that there was no memory to make it.
+fn tell_made<E: Sink>(errors: &mut E, reason: Result<String, AllocError>)
+    ensures { let tells = λ (text : List ℕ). Tells (line text) (E.written errors.old)
+        (E.written errors.new) (E.faults errors.old) (E.faults errors.new) in
+        MatchResult reason (λ reason. tells (string_bytes reason))
+        (λ _. tells (codes "out of memory")) }
+{
+    match reason {
+        Ok(reason) => tell_line(errors, reason.as_bytes()),
+        Err(_) => tell_line(errors, b"out of memory"),
+    }
+}
+
+fn tell_line<E: Sink>(errors: &mut E, reason: &[u8])
+    ensures { Tells (line reason.now) (E.written errors.old) (E.written errors.new)
+        (E.faults errors.old) (E.faults errors.new) }
+{
+    let _written = write_line(errors, reason);
+}
+
 /// Writes a reason as a line.
-fn write_reason<E: Sink>(errors: &mut E, reason: Result<String, AllocError>) {
-    let _taken = match reason {
-        Ok(reason) => {
-            write_all(errors, reason.as_bytes()).is_ok() && write_all(errors, b"\n").is_ok()
-        }
-        Err(_) => write_all(errors, b"out of memory\n").is_ok(),
-    };
+fn write_line<E: Sink>(errors: &mut E, reason: &[u8]) -> Result<(), WireKind>
+    ensures wrote { Writes (E.written errors.old) (E.written errors.new) result
+        (line reason.now) }
+    ensures cause { WriteCause (E.faults errors.old) (E.faults errors.new) result }
+{
+    write_all(errors, reason)?;
+    write_all(errors, b"\n")
 }
 
 /// Why a command refuses a text.
