@@ -1,8 +1,8 @@
 -- The content of a request, piece by piece.
-use Rattle.std.proofs.Common.{◌≡◌, ℕ, ◌+◌, ◌<◌, ◌≤◌, List, [], ◌∷◌, ◌++◌, length, take, Option}
-use Rattle.std.proofs.Common.{None, Some, Ok, Err, refl, sym, ap, ◌∙◌, append_assoc, arith}
+use Rattle.std.proofs.Common.{◌≡◌, ℕ, ◌+◌, ◌<◌, List, [], ◌∷◌, ◌++◌, length, Option}
+use Rattle.std.proofs.Common.{None, Some, ◌⊎◌, inl, inr, Ok, Err, refl, sym, ap, ◌∙◌, append_assoc, arith}
 use Rattle.std.proofs.lemmas.Bool.{lt-ltb}
-use Rattle.std.proofs.lemmas.List.{append-nil, length-append, length-take}
+use Rattle.std.proofs.lemmas.List.{append-nil, length-append}
 use Rattle.std.proofs.KnownBytes.{Consumes-kept, Consumes-trans}
 use Rattle.std.specs.Io.KnownBytes.{Consumes, IsAtEnd, Keeps}
 use Rattle.sspi_ber.specs.Pieces.{Ended, bytes_at, header_at}
@@ -11,8 +11,9 @@ use Rattle.sspi_ber.specs.declared.wire_kind.WireKind.TheVariants.{UnexpectedEof
 use Rattle.sspi_ber.proofs.PiecesMatch.{header_match}
 use Rattle.sspi_tsreq.specs.Reading.{fault}
 use Rattle.sspi_tsreq.specs.Reading.{request_at}
-use Rattle.sspi_framing.specs.Taking.{IsBad, IsWhole, TakesToFault, TakesWanted, TakesRequest}
-use Rattle.sspi_framing.specs.Parts.{IsHeaderOf, TakesBytes, TakesBody, TakesCut, TakesPart}
+use Rattle.sspi_framing.specs.Taking.{IsBad, IsBegun, IsWhole, TakesNeedy, TakesToFault, TakesWanted, TakesRequest}
+use Rattle.sspi_framing.specs.Parts.{IsHeaderOf, TakesBytes, TakesBody, TakesCut, TakesLess, TakesPart}
+use Rattle.sspi_framing.proofs.Headers.{none_taken}
 use Rattle.sspi_framing.proofs.Wanted.{part_wanted}
 
 -- part of the content was taken, and `missing` bytes of it are still missing
@@ -41,20 +42,22 @@ pub body_done : (size missing : ℕ) (before now : Option (List ℕ)) (old new :
     TakesBytes size before now old new
 body_done size missing before now old new s e = record { body = s.body; sized = omega (arith, s.sized, e); taken = s.taken; put = s.put }
 
-pub body_rest : (size missing count : ℕ) (before mid after : Option (List ℕ)) (old new piece : List ℕ) →
-    BodySoFar size missing before mid old new →
-    Consumes mid after (take count piece) → count ≤ missing → TakesPart size before after
-body_rest size missing count before mid after old new piece s c le = record {
-  body = s.body ++ take count piece;
-  sized = omega (arith, length-append s.body (take count piece), length-take count piece, s.sized, le);
-  taken = Consumes-trans before mid after s.body (take count piece) s.taken c;
-}
-
 -- the source failed
 pub body_kept : (size missing : ℕ) (before mid after : Option (List ℕ)) (old new : List ℕ) → BodySoFar size missing before mid old new →
     Keeps mid after → TakesPart size before after
 body_kept size missing before mid after old new s k =
     record { body = s.body; sized = omega (arith, s.sized); taken = Consumes-kept before mid after s.body s.taken k }
+
+-- there was no memory for the next piece
+pub body_short : {S : Type 0} (left : S → Option (List ℕ)) (size missing : ℕ) (before now : S) (old new : List ℕ) →
+    BodySoFar size missing (left before) (left now) old new → 0 < missing → (missing ≡ size → now ≡ before) →
+    TakesLess left size before now
+body_short left size missing before now old new s lt unasked = record {
+  body = s.body;
+  sized = omega (arith, s.sized, lt);
+  taken = s.taken;
+  unasked = λ e. unasked (omega (arith, s.sized, ap length e));
+}
 
 -- the source ended before the content did
 pub body_cut : (size missing : ℕ) (before mid after : Option (List ℕ)) (old new : List ℕ) → BodySoFar size missing before mid old new →
@@ -111,12 +114,35 @@ cut_content size before mid after header c h cut =
       record { taken = part_behind size before mid after header c h part; shows = λ u. cut.at_end },
     )
 
-pub refused_content : (Y : Type 0) (view : Y → List ℕ) (size : ℕ) (before mid after : Option (List ℕ)) (header new : List ℕ)
-    (kind : WireKind) →
-    Consumes before mid header → IsHeaderOf size header → TakesBody size mid after header new (Err kind) →
-    TakesRequest view before after (Err kind)
-refused_content Y view size before mid after header new UnexpectedEof c h t = cut_content size before mid after header c h t
-refused_content Y view size before mid after header new InvalidData c h t = absurd t
-refused_content Y view size before mid after header new ReadFault c h t = part_behind size before mid after header c h t
-refused_content Y view size before mid after header new WriteFault c h t = absurd t
-refused_content Y view size before mid after header new InsufficientMemory c h t = part_behind size before mid after header c h t
+begun : (size : ℕ) (before mid after : Option (List ℕ)) (header : List ℕ) → Consumes before mid header → IsHeaderOf size header →
+    (part : TakesPart size mid after) → (part.body ≡ []) ⊎ (length part.body < size) → TakesNeedy IsBegun before after
+unfolding part_behind
+begun size before mid after header c h part less = record {
+  taken = part_behind size before mid after header c h part;
+  needy = record {
+    size = size;
+    len = h.len;
+    body = part.body;
+    parts = ap (λ (l : List ℕ). l ++ part.body) h.spelled;
+    measured = h.measured;
+    part = less;
+  };
+}
+
+-- there was no memory for the header
+pub header_begun : (size : ℕ) (before after : Option (List ℕ)) (header : List ℕ) → Consumes before after header → IsHeaderOf size header →
+    TakesNeedy IsBegun before after
+header_begun size before after header c h =
+    begun size before after after header c h (record { body = []; sized = omega arith; taken = none_taken after [] refl }) (inl refl)
+
+pub refused_content : {S Y : Type 0} (left : S → Option (List ℕ)) (view : Y → List ℕ) (size : ℕ) (before : Option (List ℕ)) (mid after : S)
+    (header old new : List ℕ) (kind : WireKind) →
+    Consumes before (left mid) header → IsHeaderOf size header → TakesBody left size mid after old new (Err kind) →
+    TakesRequest view before (left after) (Err kind)
+refused_content left view size before mid after header old new UnexpectedEof c h t = cut_content size before (left mid) (left after) header c h t
+refused_content left view size before mid after header old new InvalidData c h t = absurd t
+refused_content left view size before mid after header old new ReadFault c h t = part_behind size before (left mid) (left after) header c h t
+refused_content left view size before mid after header old new WriteFault c h t = absurd t
+refused_content left view size before mid after header old new InsufficientMemory c h t =
+    begun size before (left mid) (left after) header c h (record { body = t.body; sized = omega (arith, t.sized); taken = t.taken })
+    (inr t.sized)

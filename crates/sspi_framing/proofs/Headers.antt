@@ -14,7 +14,8 @@ use Rattle.sspi_ber.proofs.Steady.{header_steady}
 use Rattle.sspi_tsreq.specs.Reading.{fault}
 use Rattle.sspi_tsreq.specs.Reading.{request_at}
 use Rattle.sspi_framing.specs.Taking.{AreWanted, IsBad, TakesToFault, TakesWanted}
-use Rattle.sspi_framing.specs.Parts.{Announces, IsHeaderOf, TakesHeader}
+use Rattle.sspi_framing.specs.Parts.{Announces, IsHeaderOf, TakesHeader, header_bytes}
+use Rattle.sspi_framing.specs.declared.header.Header.{Header}
 use Rattle.sspi_framing.proofs.Wanted.{header_shown, header_unfinished, pushed_wanted, wanted_all}
 
 -- ---- when a header is whole
@@ -151,7 +152,7 @@ no_header (Some bytes) (Some rest) None p c k end e = absurd k
 no_header (Some bytes) (Some rest) (Some left) p c k end e = (end, c ∙ ap (λ (l : List ℕ). l ++ rest) e ∙ sym k)
 
 pub refused_header : (before after : Option (List ℕ)) (header seen : List ℕ) (kind : WireKind) → seen ≡ header → Announces seen (Err kind) →
-    Consumes before after header → (header ≡ [] → ⊥) → AreWanted header → TakesHeader before after header (Err kind)
+    Consumes before after header → (header ≡ [] → ⊥) → AreWanted header → TakesHeader before after (Err kind)
 refused_header before after header seen UnexpectedEof e h c n w = bad_header before after header c (ap (header_at 0x30) (sym e) ∙ h) n w
 refused_header before after header seen InvalidData e h c n w = absurd h
 refused_header before after header seen ReadFault e h c n w = absurd h
@@ -183,13 +184,16 @@ byte_rest before mid after p byte c d h = record {
 pub pushed_some : (p new : List ℕ) (byte : ℕ) → new ≡ p ++ byte ∷ [] → new ≡ [] → ⊥
 pushed_some p new byte e n = let l = length_push p byte in omega (arith, ap length e, ap length n, l)
 
-pub found_header : (before mid after : Option (List ℕ)) (p new seen : List ℕ) (byte size : ℕ) (found : Option ℕ) → Consumes before mid p →
-    Consumes mid after (byte ∷ []) → header_at 0x30 p ≡ Err Ended → new ≡ p ++ byte ∷ [] → seen ≡ new → found ≡ Some size →
-    Announces seen (Ok found) → TakesHeader before after new (Ok (Some size))
-found_header before mid after p new seen byte size None c d h e same is a = absurd cc
-found_header before mid after p new seen byte size (Some n) c d h e same is a =
+pub found_header : (before mid after : Option (List ℕ)) (p seen : List ℕ) (byte : ℕ) (header : Header) (found : Option ℕ) →
+    Consumes before mid p → Consumes mid after (byte ∷ []) → header_at 0x30 p ≡ Err Ended → header_bytes header ≡ p ++ byte ∷ [] →
+    header.count ≤ length header.octets → seen ≡ header_bytes header → found ≡ Some header.size → Announces seen (Ok found) →
+    TakesHeader before after (Ok (Some header))
+found_header before mid after p seen byte header None c d h e le same is a = absurd cc
+found_header before mid after p seen byte header (Some n) c d h e le same is a =
     let read : header_at 0x30 (p ++ byte ∷ []) ≡ Ok (n, a.0) = ap (header_at 0x30) (sym e ∙ sym same) ∙ a.1 in
-    let sized : n ≡ size = cc in (
-      byte_taken before mid after p new byte c d e,
-      subst (λ (k : ℕ). IsHeaderOf k new) sized (subst (λ (l : List ℕ). IsHeaderOf n l) (sym e) (whole_header p byte n a.0 h read)),
+    let sized : n ≡ header.size = cc in (
+      byte_taken before mid after p (header_bytes header) byte c d e,
+      subst (λ (k : ℕ). IsHeaderOf k (header_bytes header)) sized
+          (subst (λ (l : List ℕ). IsHeaderOf n l) (sym e) (whole_header p byte n a.0 h read)),
+      le,
     )

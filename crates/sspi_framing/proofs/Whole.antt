@@ -1,6 +1,6 @@
 -- What the bytes that a header bounds are read as.
 use Rattle.std.proofs.Common.{◌≡◌, ℕ, List, [], ◌∷◌, ◌++◌, length, Option, None}
-use Rattle.std.proofs.Common.{Some, Result, Ok, Err, refl, sym, ap, ◌∙◌, subst, append_assoc, arith}
+use Rattle.std.proofs.Common.{Some, inl, inr, Result, Ok, Err, refl, sym, ap, ◌∙◌, subst, append_assoc, arith}
 use Rattle.std.proofs.lemmas.List.{append-nil, length-append}
 use Rattle.std.specs.Io.KnownBytes.{Consumes}
 use Rattle.sspi_ber.specs.Pieces.{header_at}
@@ -15,7 +15,7 @@ use Rattle.sspi_tsreq.specs.Reading.{fault}
 use Rattle.sspi_tsreq.proofs.Faults.{framed}
 use Rattle.sspi_framing.specs.Front.{IsText}
 use Rattle.sspi_framing.specs.Parts.{HasFault, IsReadAs}
-use Rattle.sspi_framing.specs.Taking.{GivesNext, IsBad, IsWhole, ShowsFault, TakesRequest, TakesToFault}
+use Rattle.sspi_framing.specs.Taking.{GivesNext, HasCopies, IsBad, IsWhole, ShowsFault, TakesRequest, TakesToFault}
 use Rattle.sspi_framing.proofs.Wanted.{whole_shown, whole_wanted}
 
 -- the request takes all of them
@@ -95,8 +95,10 @@ taken_not_read before after bytes seen kinds.InvalidData c w e f =
     (is_bad before after bytes kinds.InvalidData c w g, to_fault before after bytes kinds.InvalidData c w g)
 taken_not_read before after bytes seen kinds.ReadFault c w e f = absurd f
 taken_not_read before after bytes seen kinds.WriteFault c w e f = absurd f
-taken_not_read before after bytes seen kinds.InsufficientMemory c w e f =
-    record { text = bytes; taken = c; wanted = whole_wanted bytes w }
+taken_not_read before after bytes seen kinds.InsufficientMemory c w e f = record {
+  taken = record { text = bytes; taken = c; wanted = whole_wanted bytes w };
+  needy = inr (subst (λ (l : List ℕ). HasCopies l) e f);
+}
 
 pub not_taken : {X : Type 0} (view : X → List ℕ) (before after : Option (List ℕ)) (kind : WireKind) →
     TakesRequest view before after (Err kind) → GivesNext before after (Err kind)
@@ -104,7 +106,7 @@ not_taken view before after kinds.UnexpectedEof t = t
 not_taken view before after kinds.InvalidData t = absurd t
 not_taken view before after kinds.ReadFault t = t
 not_taken view before after kinds.WriteFault t = absurd t
-not_taken view before after kinds.InsufficientMemory t = t
+not_taken view before after kinds.InsufficientMemory t = record { taken = t.taken; needy = inl t.needy }
 
 pub read_as : (bytes : List ℕ) (result : Result TsRequest WireKind) → IsWhole bytes → IsAnswer bytes result → IsReadAs bytes result
 read_as bytes (Ok r) w a = is_text bytes r a.0.0 w a.0.1
@@ -112,4 +114,4 @@ read_as bytes (Err kinds.UnexpectedEof) w a = a
 read_as bytes (Err kinds.InvalidData) w a = a
 read_as bytes (Err kinds.ReadFault) w a = absurd a
 read_as bytes (Err kinds.WriteFault) w a = absurd a
-read_as bytes (Err kinds.InsufficientMemory) w a = tt
+read_as bytes (Err kinds.InsufficientMemory) w a = (a.0, is_text bytes a.0 a.1 w a.2, a.3)

@@ -1,12 +1,13 @@
 -- How much of a stream is taken for one request: its header byte by byte, and then its content.
-use Rattle.std.specs.Prelude.{◌≡◌, ℕ, List, [], ◌∷◌, ◌++◌, length, Option, None, Some, IfSome}
-use Rattle.std.specs.Prelude.{Result, Ok, Err}
+use Rattle.std.specs.Prelude.{◌≡◌, ◌<◌, ◌⊎◌, ℕ, List, [], ◌∷◌, ◌++◌, length, Option, None, Some}
+use Rattle.std.specs.Prelude.{IfSome, Result, Ok, Err}
 use Rattle.std.specs.Io.KnownBytes.{Consumes, IsAtEnd}
 use Rattle.sspi_ber.specs.Pieces.{Ended, Invalid, element_at}
 use Rattle.sspi_ber.specs.Forms.{IsLength}
 use Rattle.sspi_ber.specs.declared.wire_kind.WireKind.{WireKind}
 use Rattle.sspi_ber.specs.declared.wire_kind.WireKind.TheVariants as kinds
 use Rattle.sspi_tsreq.specs.declared.request.TsRequest.{TsRequest}
+use Rattle.sspi_tsreq.specs.Quiet.{HasOctets}
 use Rattle.sspi_tsreq.specs.Reading.{fault}
 use Rattle.sspi_framing.specs.Front.{IsText}
 
@@ -60,6 +61,31 @@ pub record TakesToFault (kind : WireKind) (before after : Option (List ℕ)) : T
   pub taken : TakesWanted before after
   pub shows : ShowsFault taken.text after kind
 
+-- ---- what memory is needed for
+
+-- The bytes are a valid header, and of its content nothing, or not all: there is no memory for what
+-- comes next.
+pub record IsBegun (bytes : List ℕ) : Type 0 where
+  pub size : ℕ
+  pub len : List ℕ
+  pub body : List ℕ
+  pub parts : bytes ≡ (0x30 ∷ len) ++ body
+  pub measured : IsLength len size
+  pub part : (body ≡ []) ⊎ (length body < size)
+
+-- the bytes are a request with OCTET STRINGs, which are copied
+abbrev pub HasCopies : List ℕ → Type 0
+HasCopies bytes = (r : TsRequest) × IsText bytes r × HasOctets r
+
+-- to take a request, or to read it
+abbrev pub NeedsMemory : List ℕ → Type 0
+NeedsMemory bytes = IsBegun bytes ⊎ HasCopies bytes
+
+-- Bytes of one request were taken as in `TakesWanted`, and they need memory.
+pub record TakesNeedy (needs : List ℕ → Type 0) (before after : Option (List ℕ)) : Type 0 where
+  pub taken : TakesWanted before after
+  pub needy : needs taken.text
+
 -- ---- what is taken, by the answer
 
 -- the bytes of one request: header and content
@@ -72,7 +98,7 @@ TakesRequest view before after (Err kinds.UnexpectedEof) = IsBad before kinds.Un
 TakesRequest view before after (Err kinds.InvalidData) = ⊥
 TakesRequest view before after (Err kinds.ReadFault) = TakesWanted before after
 TakesRequest view before after (Err kinds.WriteFault) = ⊥
-TakesRequest view before after (Err kinds.InsufficientMemory) = TakesWanted before after
+TakesRequest view before after (Err kinds.InsufficientMemory) = TakesNeedy IsBegun before after
 
 -- one request, read
 abbrev pub GivesNext : Option (List ℕ) → Option (List ℕ) → Result (Option TsRequest) WireKind →
@@ -85,4 +111,4 @@ GivesNext before after (Err kinds.InvalidData) = IsBad before kinds.InvalidData 
     TakesToFault kinds.InvalidData before after
 GivesNext before after (Err kinds.ReadFault) = TakesWanted before after
 GivesNext before after (Err kinds.WriteFault) = ⊥
-GivesNext before after (Err kinds.InsufficientMemory) = TakesWanted before after
+GivesNext before after (Err kinds.InsufficientMemory) = TakesNeedy NeedsMemory before after

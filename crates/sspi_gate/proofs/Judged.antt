@@ -1,5 +1,5 @@
 -- How the bytes that a header bounds are judged.
-use Rattle.std.proofs.Common.{◌≡◌, ◌≢◌, inl, ℕ, List, Option, Err, refl, subst}
+use Rattle.std.proofs.Common.{◌≡◌, ◌≢◌, inl, inr, ℕ, List, Option, Err, refl, subst}
 use Rattle.std.specs.Io.KnownBytes.{Consumes, Keeps}
 use Rattle.sspi_ber.specs.Outside.{CopyCause}
 use Rattle.sspi_ber.specs.declared.wire_kind.WireKind.{WireKind}
@@ -11,7 +11,7 @@ use Rattle.sspi_framing.specs.Front.{IsText}
 use Rattle.sspi_gate.specs.declared.answer.GateFault.{GateFault}
 use Rattle.sspi_gate.specs.declared.answer.GateFault.TheVariants.{Bad, Version, ReadFault, WriteFault, TurnsSpent, InsufficientMemory}
 use Rattle.sspi_credssp.specs.declared.turn.End.{End}
-use Rattle.sspi_framing.specs.Taking.{IsWhole, TakesRequest}
+use Rattle.sspi_framing.specs.Taking.{IsBegun, IsWhole, TakesNeedy, TakesRequest}
 use Rattle.sspi_framing.proofs.Wanted.{whole_wanted}
 use Rattle.sspi_framing.proofs.Whole.{is_bad, is_text, to_fault}
 use Rattle.sspi_gate.specs.Next.{Fails, TakesWell}
@@ -61,7 +61,10 @@ not_handed end first before after bytes (ReadFault who) c w reading keeps writin
 not_handed end first before after bytes (WriteFault who) c w reading keeps writing j = absurd j
 not_handed end first before after bytes TurnsSpent c w reading keeps writing j = absurd j
 not_handed end first before after bytes InsufficientMemory c w reading keeps writing
-    j = inl (taken_only before after bytes c w reading keeps writing)
+    j = inl (
+      record { taken = record { text = bytes; taken = c; wanted = whole_wanted bytes w }; needy = inr j },
+      taken_only before after bytes c w reading keeps writing,
+    )
 
 pub not_passed : (end : End) (first : Option ℕ) (before after : Way) (bytes seen : List ℕ) (why : GateFault) →
     Consumes before.left after.left bytes → IsWhole bytes → after.read_faults ≡ before.read_faults →
@@ -69,6 +72,15 @@ pub not_passed : (end : End) (first : Option ℕ) (before after : Way) (bytes se
     Fails end first before after why
 not_passed end first before after bytes seen why c w reading keeps writing same j =
     not_handed end first before after bytes why c w reading keeps writing (subst (λ (l : List ℕ). Judges end first l (Err why)) same j)
+
+-- there was no memory to take a request
+pub not_kept : (end : End) (first : Option ℕ) (before after : Way) → TakesNeedy IsBegun before.left after.left →
+    after.read_faults ≡ before.read_faults → Keeps before.written after.written → after.write_faults ≡ before.write_faults →
+    Fails end first before after InsufficientMemory
+not_kept end first before after t reading keeps writing = inl (
+  record { taken = t.taken; needy = inl t.needy },
+  (record { taken = t.taken; written = keeps; writing = writing }, reading),
+)
 
 -- what was taken is not a whole request
 pub not_whole : {X : Type 0} (view : X → List ℕ) (end : End) (first : Option ℕ) (before after : Way) (kind : WireKind) →

@@ -10,7 +10,8 @@ use Rattle.sspi_gate.specs.declared.answer.GateFault.TheVariants.{Bad, Version, 
 use Rattle.sspi_gate.specs.declared.answer.GateFault.TheVariants.{WriteFault, TurnsSpent}
 use Rattle.sspi_gate.specs.declared.answer.GateFault.TheVariants.{InsufficientMemory}
 use Rattle.sspi_framing.specs.Front.{IsText}
-use Rattle.sspi_framing.specs.Taking.{IsBad, TakesToFault, TakesWanted}
+use Rattle.sspi_framing.specs.Taking.{IsBad, NeedsMemory, TakesNeedy, TakesToFault}
+use Rattle.sspi_framing.specs.Taking.{TakesWanted}
 use Rattle.sspi_gate.specs.Front.{MaySend}
 use Rattle.sspi_gate.specs.Way.{Way}
 
@@ -66,5 +67,5 @@ Fails end first before after (WriteFault who) =
     WritesFront first before after
 Fails end first before after TurnsSpent = ⊥
 Fails end first before after InsufficientMemory =
-    TakesWell before after ⊎ ((after.write_faults ≡ before.write_faults) ×
-    WritesFront first before after)
+    (TakesNeedy NeedsMemory before.left after.left × TakesWell before after) ⊎
+    ((after.write_faults ≡ before.write_faults) × WritesFront first before after)

@@ -17,7 +17,7 @@ use std::alloc::Global;
 /// the answer. No answer hides a failed call: each stream's count of faults is as it was, except
 /// for the one that `ReadFault` or `WriteFault` reports. The order for a request is: reading,
 /// grammar, version, writing; one that is refused is not written. Not in any clause: memory is
-/// allocated only for bytes that came, of one request at a time.
+/// asked for one request at a time, and for at most 2048 bytes more than came.
 ///
 /// Ok: `Ended` if the stream of the end whose request is due is at its end; `Refused` if the
 /// server's last request carries a code other than `SUCCESS`, and then nothing more is read.
@@ -31,8 +31,9 @@ use std::alloc::Global;
 ///   prefix of the request was written, never all of it.
 /// - `TurnsSpent`: `limit` requests of the client were handed on, each was answered, and no answer
 ///   refused; at once if `limit` is 0. Nothing more is then read.
-/// - `InsufficientMemory`: a prefix of the next request may have been written, if it was read, but
-///   never all of it.
+/// - `InsufficientMemory`: there was no memory for a request with a valid header, of which content
+///   was missing or empty; or for the OCTET STRINGs of a request; or a sink had none, and then a
+///   prefix of the request may have been written, never all of it.
 pub fn relay<A: Source, B: Sink, C: Source, D: Sink>(
     alloc: Global,
     client_in: &mut A,

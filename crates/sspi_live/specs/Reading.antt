@@ -7,7 +7,8 @@ use Rattle.sspi_ber.specs.declared.wire_kind.WireKind.TheVariants as kinds
 use Rattle.sspi_tsreq.specs.declared.request.TsRequest.{TsRequest}
 use Rattle.sspi_credssp.specs.declared.turn.End.{End}
 use Rattle.sspi_framing.specs.Front.{IsText}
-use Rattle.sspi_framing.specs.Taking.{IsBad, TakesToFault, TakesWanted}
+use Rattle.sspi_framing.specs.Taking.{IsBad, NeedsMemory, TakesNeedy, TakesToFault}
+use Rattle.sspi_framing.specs.Taking.{TakesWanted}
 use Rattle.sspi_delegate.specs.declared.answer.DelegateError.{DelegateError}
 use Rattle.sspi_delegate.specs.declared.answer.DelegateError.TheVariants as errors
 
@@ -28,8 +29,8 @@ Reads to left rest before now (Err (errors.Read end kind)) = (end ≡ to) × Has
     (now ≡ before)
 Reads to left rest before now (Err errors.LinkFault) = TakesWanted left rest × (before ≤ now) ×
     Rose before now
-Reads to left rest before now (Err errors.InsufficientMemory) = TakesWanted left rest ×
-    (now ≡ before)
+Reads to left rest before now (Err errors.InsufficientMemory) =
+    TakesNeedy NeedsMemory left rest × (now ≡ before)
 Reads to left rest before now (Err (errors.Client error)) = ⊥
 Reads to left rest before now (Err (errors.Server error)) = ⊥
 Reads to left rest before now (Err (errors.Write end)) = ⊥

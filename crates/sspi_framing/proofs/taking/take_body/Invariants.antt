@@ -6,6 +6,7 @@ use Rattle.sspi_framing.proofs.taking.take_body.Given as goal
 abbrev pub invariant-loop-missing : goal.invariant-loop-missing
 invariant-loop-missing g l = record {
   so_far : BodySoFar l.size l.missing (g.S.Source.left l.fn.source) (g.S.Source.left l.source) l.fn.bytes.items l.bytes.items;
+  unasked : l.missing ≡ l.size → l.source ≡ l.fn.source;
   room : length l.piece ≡ PIECE_LENGTH;
   cause : g.S.Source.faults l.source ≡ g.S.Source.faults l.fn.source;
 }
