@@ -257,7 +257,7 @@ explains bytes text (NoScenario line) same utf8 out = absurd out
 explains bytes text NoText same utf8 out = absurd out
 explains bytes text ReadFault same utf8 out = absurd out
 explains bytes text OtherWords same utf8 out = absurd out
-explains bytes text NoMemory same utf8 out = tt
+explains bytes text NoMemory same utf8 out = utf8
 
 pub comes_explained : (left : Option (List ℕ)) (before now : ℕ) (text : Vec ℕ) (said : Said) →
     ReadsText explain_limit left (Ok text) → Explains text.items said → Comes (Some Explain) left before now said
