@@ -486,8 +486,7 @@ uint32_t newaksu_course_new(newaksu_handle *course, uint32_t mechanisms, uint32_
  *                is passed to newaksu_client_process
  * offer          a server's first: the mechanism steps with the token of the offer
  * answer         a client's later ones: with the responseToken, or no token if there is none.
- *                NEWAKSU_E_INVALID_TOKEN: the server chose what may not be used; the course is
- *                unchanged
+ *                NEWAKSU_E_INVALID_TOKEN: the server chose what may not be used
  * continuation   a server's later ones: likewise
  *
  * NEWAKSU_E_INSUFFICIENT_MEMORY, from an offer. */

@@ -8,8 +8,3 @@ abbrev pub Changes : {X : Type 0} → Result X ℕ → X → X → ℕ → Type 
 Changes (Ok x) before after status = (status ≡ ok → after ≡ x) ×
     (status ≢ ok → (status ≡ insufficient_memory) × (after ≡ before))
 Changes (Err refusal) before after status = (status ≡ refusal) × (after ≡ before)
-
--- the same where no memory is needed
-abbrev pub ChangesIf : {X : Type 0} → Result X ℕ → X → X → ℕ → Type 0
-ChangesIf (Ok x) before after status = (status ≡ ok) × (after ≡ x)
-ChangesIf (Err refusal) before after status = (status ≡ refusal) × (after ≡ before)

@@ -1,13 +1,13 @@
 -- What the calls on a course do: on what a host knows about the negotiation of its end.
 use Rattle.std.specs.Prelude.{◌≡◌, ◌≢◌, ℕ, ◌==◌, Bool, true, false, not, List, length, Option, None}
-use Rattle.std.specs.Prelude.{Some, IsSome, Result, Ok, Err, if◌then◌else◌}
+use Rattle.std.specs.Prelude.{Some, Result, Ok, Err, if◌then◌else◌}
 use Rattle.sspi_types.specs.declared.security_status.SecurityStatus.{SecurityStatus}
 use Rattle.sspi_types.specs.declared.security_status.SecurityStatus.TheVariants as statuses
 use Rattle.sspi_negotiate.specs.declared.package_list.PackageListConfig.{PackageListConfig}
 use Rattle.sspi_negotiate.specs.declared.protocol.Protocol.{Protocol}
 use Rattle.sspi_negotiate.specs.declared.protocol.Protocol.TheVariants as protocols
 use Rattle.sspi_outside.specs.Course.{Asking, addressed, continuation_due, new_course, offer_due}
-use Rattle.sspi_outside.specs.Course.{picked_from, take_choice, take_offer}
+use Rattle.sspi_outside.specs.Course.{take_choice, take_offer}
 use Rattle.sspi_outside.specs.Negotiated.{handed_offer, handed_response, list_to_sign}
 use Rattle.sspi_outside.specs.declared.course.Course.{Course as Known}
 use Rattle.sspi_tokens.specs.declared.neg_token_init.NegTokenInit.{NegTokenInit}
@@ -80,12 +80,12 @@ module _ (before after : Option Object) (told now status : ℕ) where
   TakesOffer (Some c) (Some offer) =
       (status ≡ ok → (after ≡ Some (Course (take_offer offer c))) ×
       (now ≡ due_number (offer_due c offer))) ×
-      (status ≢ ok → (status ≡ insufficient_memory) × (after ≡ before) × (now ≡ told) ×
-      IsSome (picked_from offer c))
+      (status ≢ ok → (status ≡ insufficient_memory) × (after ≡ before) × (now ≡ told))
 
-  -- the server's choice is taken, if it may be used; else nothing changes
+  -- the server's choice is taken, if it may be used; else the handle still has a course
   abbrev pub Chooses : Option Known → NegTokenTarg → Type 0
-  Chooses None token = (status ≡ invalid_token) × (after ≡ before) × (now ≡ told)
+  Chooses None token = (status ≡ invalid_token) × (now ≡ told) ×
+      ((kept : Known) × (after ≡ Some (Course kept)))
   Chooses (Some c) token = (status ≡ ok) × (after ≡ Some (Course c)) ×
       (now ≡ due_number (continuation_due c token))
 

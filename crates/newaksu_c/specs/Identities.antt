@@ -3,8 +3,7 @@ use Rattle.std.specs.Prelude.{◌≡◌, ◌≢◌, ℕ, ◌++◌, List, [], ◌
 use Rattle.sspi_names.specs.declared.identity.AuthIdentity.{AuthIdentity}
 use Rattle.newaksu_c.specs.declared.object.Object.{Object}
 use Rattle.newaksu_c.specs.declared.object.Object.TheVariants.{Identities}
-use Rattle.newaksu_c.specs.Settings.{IsCause}
-use Rattle.newaksu_c.specs.Status.{ok, invalid_handle}
+use Rattle.newaksu_c.specs.Status.{ok, invalid_handle, insufficient_memory}
 
 -- the identity is added at the end of the list, or not, if memory runs out or it is refused
 pub record Adds (list : List AuthIdentity) (identity : Result AuthIdentity ℕ)
@@ -12,7 +11,7 @@ pub record Adds (list : List AuthIdentity) (identity : Result AuthIdentity ℕ)
   pub added : status ≡ ok → (it : AuthIdentity) × (identity ≡ Ok it) ×
       (after ≡ Some (Identities (list ++ it ∷ [])))
   pub kept : status ≢ ok → after ≡ before
-  pub cause : status ≢ ok → IsCause identity status
+  pub cause : status ≢ ok → status ≢ insufficient_memory → identity ≡ Err status
 
 abbrev pub HasAdded : Option (List AuthIdentity) → Result AuthIdentity ℕ → Option Object →
     Option Object → ℕ → Type 0

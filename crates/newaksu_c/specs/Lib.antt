@@ -1,7 +1,6 @@
 pub mod Courses
 pub mod Credentials
 pub mod Early
-pub mod Faults
 pub mod Giving
 pub mod Told
 pub mod Held

@@ -1,5 +1,5 @@
 -- What the calls that make an end do.
-use Rattle.std.specs.Prelude.{◌≡◌, ℕ, ◌==◌, List, [], Option, None, Some, Result, Ok, Err}
+use Rattle.std.specs.Prelude.{◌≡◌, ◌≢◌, ℕ, ◌==◌, List, [], Option, None, Some, Result, Ok, Err}
 use Rattle.std.specs.Prelude.{if◌then◌else◌}
 use Rattle.sspi_names.specs.declared.identity.AuthIdentity.{AuthIdentity}
 use Rattle.sspi_credssp.specs.Ends.{ClientSettings, ClientView, IsFreshClient, ServerSettings}
@@ -13,8 +13,7 @@ use Rattle.newaksu_c.specs.declared.object.Object.TheVariants.{Client, Server, P
 use Rattle.newaksu_c.specs.declared.object.Object.TheVariants.{PlainServer, Course}
 use Rattle.newaksu_c.specs.declared.object.Object.TheVariants.{Request, Reader, Init, Targ}
 use Rattle.newaksu_c.specs.declared.object.Object.TheVariants.{Credentials, Identities}
-use Rattle.newaksu_c.specs.Settings.{IsCause}
-use Rattle.newaksu_c.specs.Status.{invalid_parameter}
+use Rattle.newaksu_c.specs.Status.{insufficient_memory, invalid_parameter}
 
 -- a client that has made no call, with these settings
 pub record IsNewClient {C : Type 0} (settings : Result ClientSettings ℕ) (client : ClientView C)
@@ -42,7 +41,8 @@ MakesClient mechanism settings (Ok (Identities l)) = ⊥
 MakesClient mechanism settings (Ok (Server e)) = ⊥
 MakesClient mechanism settings (Ok (PlainServer e)) = ⊥
 MakesClient mechanism settings (Ok (Course c)) = ⊥
-MakesClient mechanism settings (Err status) = IsCause (settings_for mechanism settings) status
+MakesClient mechanism settings (Err status) = status ≢ insufficient_memory →
+    settings_for mechanism settings ≡ Err status
 
 -- the peers that a server accepts: those of the list, or, without one, anyone whom the host's
 -- mechanism names

@@ -11,8 +11,7 @@ use Rattle.newaksu_c.specs.declared.settings.ServerOptions.{ServerOptions}
 use Rattle.newaksu_c.specs.Held.{identities_in}
 use Rattle.newaksu_c.specs.Making.{IsNewServer}
 use Rattle.newaksu_c.specs.Settings.{challenge_of, check_versions, server_settings, ◌then_with◌}
-use Rattle.newaksu_c.specs.Settings.{IsCause}
-use Rattle.newaksu_c.specs.Status.{invalid_handle, invalid_parameter}
+use Rattle.newaksu_c.specs.Status.{insufficient_memory, invalid_handle, invalid_parameter}
 
 -- the peers of a list need a list
 abbrev pub listed_peers : Option (List AuthIdentity) → Result (Unit {0}) ℕ
@@ -50,7 +49,7 @@ of_versions options = check_versions options.version options.least_version
 -- why there is no server, by the number of the mechanism
 abbrev pub IsServerFault : ℕ → Result (Unit {0}) ℕ → Result (List ℕ) ℕ → ℕ → Type 0
 IsServerFault mechanism hosted plain status =
-    (mechanism ≡ 0 → IsCause hosted status) × (mechanism ≡ 1 → IsCause plain status)
+    (mechanism ≡ 0 → hosted ≡ Err status) × (mechanism ≡ 1 → plain ≡ Err status)
     × (mechanism ≢ 0 → mechanism ≢ 1 → status ≡ invalid_parameter)
 
 abbrev pub MakesServer : ServerOptions → List ℕ → List ℕ → Option Object → Result Object ℕ → Type 0
@@ -73,7 +72,8 @@ MakesServer options key challenge known (Ok (Identities l)) = ⊥
 MakesServer options key challenge known (Ok (Client e)) = ⊥
 MakesServer options key challenge known (Ok (PlainClient e)) = ⊥
 MakesServer options key challenge known (Ok (Course c)) = ⊥
-MakesServer options key challenge known (Err status) = IsServerFault options.mechanism
-    (of_versions options then_with λ _. hosted_peers options.peers known)
+MakesServer options key challenge known (Err status) = status ≢ insufficient_memory →
+    IsServerFault options.mechanism (of_versions options then_with λ _. hosted_peers options.peers
+    known)
     (of_versions options then_with λ _. plain_fault options.peers (identities_in known)
     (challenge_of challenge)) status

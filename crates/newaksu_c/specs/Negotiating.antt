@@ -1,5 +1,5 @@
 -- The calls that make ends which negotiate over two mechanisms of the host.
-use Rattle.std.specs.Prelude.{◌≡◌, ℕ, List, replicate, Option, Result, Ok, Err}
+use Rattle.std.specs.Prelude.{◌≡◌, ◌≢◌, ℕ, List, replicate, Option, Result, Ok, Err}
 use Rattle.sspi_credssp.specs.Ends.{ClientSettings, ServerSettings}
 use Rattle.sspi_credssp.specs.declared.mode.ClientMode.TheVariants as client
 use Rattle.sspi_credssp.specs.declared.mode.ServerMode.TheVariants as server
@@ -15,7 +15,8 @@ use Rattle.newaksu_c.specs.declared.settings.ServerOptions.{ServerOptions}
 use Rattle.newaksu_c.specs.Courses.{packages_by}
 use Rattle.newaksu_c.specs.Making.{IsNewClient, IsNewServer}
 use Rattle.newaksu_c.specs.MakingServers.{hosted_peers, of_versions, taken_peers}
-use Rattle.newaksu_c.specs.Settings.{client_settings, server_settings, ◌then_with◌, IsCause}
+use Rattle.newaksu_c.specs.Settings.{client_settings, server_settings, ◌then_with◌}
+use Rattle.newaksu_c.specs.Status.{insufficient_memory}
 
 -- the settings of a client without SPNEGO, except that it negotiates these mechanisms
 abbrev pub client_with : PackageListConfig → ClientSettings → ClientSettings
@@ -45,7 +46,7 @@ MakesNegotiating settings (Ok (Server e)) = ⊥
 MakesNegotiating settings (Ok (PlainClient e)) = ⊥
 MakesNegotiating settings (Ok (PlainServer e)) = ⊥
 MakesNegotiating settings (Ok (Course c)) = ⊥
-MakesNegotiating settings (Err status) = IsCause settings status
+MakesNegotiating settings (Err status) = status ≢ insufficient_memory → settings ≡ Err status
 
 -- the same for a server
 abbrev pub server_with : PackageListConfig → ServerSettings → ServerSettings
@@ -75,4 +76,5 @@ MakesNegotiatingServer options key known (Ok (Client e)) = ⊥
 MakesNegotiatingServer options key known (Ok (PlainClient e)) = ⊥
 MakesNegotiatingServer options key known (Ok (PlainServer e)) = ⊥
 MakesNegotiatingServer options key known (Ok (Course c)) = ⊥
-MakesNegotiatingServer options key known (Err status) = IsCause (server_fault options known) status
+MakesNegotiatingServer options key known (Err status) = status ≢ insufficient_memory →
+    server_fault options known ≡ Err status

@@ -1,5 +1,5 @@
 -- The effects of a call that passes a message to an end.
-use Rattle.std.specs.Prelude.{◌≡◌, ◌⊎◌, ℕ, ◌==◌, ◌&&◌, List, [], ◌∷◌, length, Bool, true, false}
+use Rattle.std.specs.Prelude.{◌≡◌, ◌≢◌, ℕ, ◌==◌, ◌&&◌, List, [], ◌∷◌, length, Bool, true, false}
 use Rattle.std.specs.Prelude.{Option, None, Some, Result, Ok, Err}
 use Rattle.std.specs.Prelude.{if◌then◌else◌}
 use Rattle.std.specs.Global.{Box}
@@ -16,7 +16,7 @@ use Rattle.sspi_credssp.specs.Context.{ContextSetting, either}
 use Rattle.sspi_credssp.specs.Ends.{ClientView, ServerView}
 use Rattle.sspi_credssp.specs.declared.context.SspiContext.{SspiContext}
 use Rattle.sspi_outside.specs.Ends.{ClientCalled, ServerCalled}
-use Rattle.sspi_outside.specs.Hosting.{handed, Copies}
+use Rattle.sspi_outside.specs.Hosting.{handed}
 use Rattle.sspi_outside.specs.Outside.{OutsideState, outside_meaning}
 use Rattle.sspi_outside.specs.PeersMeaning.{peers_meaning}
 use Rattle.sspi_outside.specs.declared.client_end.ClientEnd.{ClientEnd}
@@ -69,21 +69,16 @@ said_status (Ok (Ok done)) = ok
 said_status (Ok (Err error)) = kind_status error.error_type
 said_status (Err status) = status
 
--- why no call was made: the fault of the message, or no memory to pass on the request that it is
-abbrev pub IsUnmade : Type 0 → (Result TsRequest ℕ → Type 0) → ℕ → Type 0
-IsUnmade Copied Read status = Read (Err status) ⊎
-    ((status ≡ insufficient_memory) × Copied × ((d : TsRequest) × Read (Ok d)))
-
--- Copied says that something is copied to pass the request on
-module _ {C : Type 0} (c : Meaning ContextSetting C) (handing : TsRequest → TsRequest)
-    (Copied : Type 0) where
-  -- one call of the client on what was delivered, as it is passed in; or none
+module _ {C : Type 0} (c : Meaning ContextSetting C) (handing : TsRequest → TsRequest) where
+  -- one call of the client on what was delivered, as it is passed in; or none, if the message is
+  -- not a request or memory runs out
   abbrev pub ClientDoes : List ℕ → ClientView C → Last → Result (Result (Unit {0}) Error) ℕ →
       ClientView C → Last → Type 0
   ClientDoes bytes old before (Ok said) new last =
       (d : TsRequest) × IsDelivered bytes (Ok d) × ClientCalled c old (handing d) said new last
   ClientDoes bytes old before (Err status) new last =
-      (new ≡ old) × (last ≡ before) × IsUnmade Copied (IsDelivered bytes) status
+      (new ≡ old) × (last ≡ before) × (status ≢ insufficient_memory →
+      IsDelivered bytes (Err status))
 
   -- the same for the server
   abbrev pub ServerDoes : List ℕ → ServerView C Peers → Last → Result (Result (Unit {0}) Error) ℕ →
@@ -92,7 +87,7 @@ module _ {C : Type 0} (c : Meaning ContextSetting C) (handing : TsRequest → Ts
       (d : TsRequest) × IsRead bytes (Ok d) ×
       ServerCalled c peers_meaning old (handing d) said new last
   ServerDoes bytes old before (Err status) new last =
-      (new ≡ old) × (last ≡ before) × IsUnmade Copied (IsRead bytes) status
+      (new ≡ old) × (last ≡ before) × (status ≢ insufficient_memory → IsRead bytes (Err status))
 
 -- ---- the calls
 
@@ -109,8 +104,8 @@ module _ (bytes step : List ℕ) (after : Option Object) (status : ℕ) where
   HostedClient end None = (status ≡ invalid_parameter) × (after ≡ Some (Client end))
   HostedClient end (Some texts) = (said : Result (Result (Unit {0}) Error) ℕ) ×
       (next : ClientEnd OutsideState OutsideState) ×
-      ClientDoes hosted (λ d. handed d step texts.0 texts.1) (Copies step texts.0 texts.1) bytes
-      end.value.client end.value.last said next.client next.last ×
+      ClientDoes hosted (λ d. handed d step texts.0 texts.1) bytes end.value.client end.value.last
+      said next.client next.last ×
       (status ≡ said_status said) × (after ≡ Some (Client (with_value end next)))
 
   abbrev pub HostedServer : Box (ServerEnd OutsideState OutsideState Peers) →
@@ -118,22 +113,22 @@ module _ (bytes step : List ℕ) (after : Option Object) (status : ℕ) where
   HostedServer end None = (status ≡ invalid_parameter) × (after ≡ Some (Server end))
   HostedServer end (Some texts) = (said : Result (Result (Unit {0}) Error) ℕ) ×
       (next : ServerEnd OutsideState OutsideState Peers) ×
-      ServerDoes hosted (λ d. handed d step texts.0 texts.1) (Copies step texts.0 texts.1) bytes
-      end.value.server end.value.last said next.server next.last ×
+      ServerDoes hosted (λ d. handed d step texts.0 texts.1) bytes end.value.server end.value.last
+      said next.server next.last ×
       (status ≡ said_status said) × (after ≡ Some (Server (with_value end next)))
 
   abbrev pub BareClient : Box (ClientEnd NtlmState NtlmState) → Bool → Type 0
   BareClient end false = (status ≡ invalid_parameter) × (after ≡ Some (PlainClient end))
   BareClient end true = (said : Result (Result (Unit {0}) Error) ℕ) ×
       (next : ClientEnd NtlmState NtlmState) ×
-      ClientDoes plain as_it_came ⊥ bytes end.value.client end.value.last said next.client next.last ×
+      ClientDoes plain as_it_came bytes end.value.client end.value.last said next.client next.last ×
       (status ≡ said_status said) × (after ≡ Some (PlainClient (with_value end next)))
 
   abbrev pub BareServer : Box (ServerEnd NtlmState NtlmState Peers) → Bool → Type 0
   BareServer end false = (status ≡ invalid_parameter) × (after ≡ Some (PlainServer end))
   BareServer end true = (said : Result (Result (Unit {0}) Error) ℕ) ×
       (next : ServerEnd NtlmState NtlmState Peers) ×
-      ServerDoes plain as_it_came ⊥ bytes end.value.server end.value.last said next.server next.last ×
+      ServerDoes plain as_it_came bytes end.value.server end.value.last said next.server next.last ×
       (status ≡ said_status said) × (after ≡ Some (PlainServer (with_value end next)))
 
   -- nothing changes if the handle has no such end

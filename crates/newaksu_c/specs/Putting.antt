@@ -23,26 +23,13 @@ abbrev pub spelled : Result (Vec ℕ) Error → Result (List ℕ) ℕ
 spelled (Ok bytes) = Ok bytes.items
 spelled (Err error) = Err (kind_status error.error_type)
 
--- What was made is behind the handle. Only an empty handle may lack the memory for it, and stays
--- empty. After a refusal the old object stays.
+-- what was made is behind the handle, or there was no memory for it and the old object stays; after
+-- a refusal, it stays too
 abbrev pub Puts : Option Object → Option Object → Result Object ℕ → ℕ → Type 0
 Puts before after (Ok object) status =
     (status ≡ ok → after ≡ Some object) × (status ≢ ok → (status ≡ insufficient_memory) ×
-    (before ≡ None) × (after ≡ None))
-Puts before after (Err refusal) status = (status ≡ refusal) × (after ≡ before)
-
--- the object is now this one, or there was no memory for the change and it stays; after a refusal,
--- it stays too
-abbrev pub Alters : Option Object → Option Object → Result Object ℕ → ℕ → Type 0
-Alters before after (Ok object) status =
-    (status ≡ ok → after ≡ Some object) × (status ≢ ok → (status ≡ insufficient_memory) ×
     (after ≡ before))
-Alters before after (Err refusal) status = (status ≡ refusal) × (after ≡ before)
-
--- the same where no memory is needed
-abbrev pub Replaces : Option Object → Option Object → Result Object ℕ → ℕ → Type 0
-Replaces before after (Ok object) status = (status ≡ ok) × (after ≡ Some object)
-Replaces before after (Err refusal) status = (status ≡ refusal) × (after ≡ before)
+Puts before after (Err refusal) status = (status ≡ refusal) × (after ≡ before)
 
 -- the object of the kind that the call wants is changed; if there is none, the handle is refused
 abbrev pub Sets : {X : Type 0} → Option X → (X → Object) → (X → X) → Option Object → Option Object →
@@ -54,16 +41,8 @@ abbrev pub made_by : {X : Type 0} → (X → Object) → Result X ℕ → Result
 made_by make (Ok x) = Ok (make x)
 made_by make (Err status) = Err status
 
--- the same for a change that may be refused
-abbrev pub SetsIf : {X : Type 0} → Option X → (X → Object) → (X → Result X ℕ) → Option Object →
-    Option Object → ℕ → Type 0
-SetsIf None make change before after status = (status ≡ invalid_handle) × (after ≡ before)
-SetsIf (Some x) make change before after status =
-    Replaces before after (made_by make (change x)) status
-
--- the same for one that also allocates
+-- the same for a change that allocates, or may be refused
 abbrev pub SetsOr : {X : Type 0} → Option X → (X → Object) → (X → Result X ℕ) → Option Object →
     Option Object → ℕ → Type 0
 SetsOr None make change before after status = (status ≡ invalid_handle) × (after ≡ before)
-SetsOr (Some x) make change before after status =
-    Alters before after (made_by make (change x)) status
+SetsOr (Some x) make change before after status = Puts before after (made_by make (change x)) status

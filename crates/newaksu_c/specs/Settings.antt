@@ -1,5 +1,5 @@
 -- What the ends are made from, as C passes it in.
-use Rattle.std.specs.Prelude.{◌≡◌, ℕ, ◌==◌, nat_le, Bool, ◌&&◌, ◌||◌, List, length, replicate}
+use Rattle.std.specs.Prelude.{◌≡◌, ◌≢◌, ℕ, ◌==◌, nat_le, Bool, ◌&&◌, ◌||◌, List, length, replicate}
 use Rattle.std.specs.Prelude.{Option, None, Some, Result, Ok, Err, if◌then◌else◌}
 use Rattle.std.specs.Str.{is_utf8}
 use Rattle.sspi_mech.specs.declared.config.NtlmConfig.{NtlmConfig}
@@ -19,15 +19,10 @@ use Rattle.newaksu_c.specs.Status.{invalid_parameter, insufficient_memory}
 abbrev pub unknown_credentials : ℕ
 unknown_credentials = 0x8009030d
 
--- why there is no value: this refusal, or, if nothing is refused, that memory ran out
-abbrev pub IsCause : {X : Type 0} → Result X ℕ → ℕ → Type 0
-IsCause (Ok x) status = status ≡ insufficient_memory
-IsCause (Err refusal) status = status ≡ refusal
-
--- this value or its refusal, or out of memory for the value
+-- this value or this refusal, or out of memory
 abbrev pub OrMemory : {X : Type 0} → Result X ℕ → Result X ℕ → Type 0
 OrMemory (Ok x) answer = answer ≡ Ok x
-OrMemory (Err status) answer = IsCause answer status
+OrMemory (Err status) answer = status ≢ insufficient_memory → answer ≡ Err status
 
 -- after a refusal, nothing follows
 infixl 10 ◌then_with◌

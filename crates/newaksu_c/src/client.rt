@@ -1,17 +1,17 @@
 //! Makes a client.
-ghost use Rattle.std.specs.Prelude.{◌≡◌, ℕ, Ok, Result, IfOk, IfErr};
+ghost use Rattle.std.specs.Prelude.{◌≡◌, ◌≢◌, ℕ, Ok, Err, Result, IfOk, IfErr};
 ghost use Rattle.sspi_credssp.specs.Ends.{IsFreshClient};
 ghost use Rattle.newaksu_c.specs.declared.object.Object.{Object as What};
 ghost use Rattle.newaksu_c.specs.Making.{MakesClient};
 ghost use Rattle.newaksu_c.specs.Putting.{Puts};
-ghost use Rattle.newaksu_c.specs.Settings.{client_settings, IsCause};
+ghost use Rattle.newaksu_c.specs.Settings.{client_settings};
 ghost use Rattle.newaksu_c.specs.Status.{insufficient_memory};
 
 use crate::handle::Handle;
 use crate::object::{Object, boxed};
 use crate::putting::put;
 use crate::settings::{
-    ClientOptions, check_versions, copied, delegation_of, identity_of, nonce_of, text_in,
+    ClientOptions, check_versions, delegation_of, identity_of, nonce_of, text_of,
 };
 use crate::status::{INSUFFICIENT_MEMORY, INVALID_PARAMETER};
 use sspi_credssp::{ClientMode, CredSspClient};
@@ -44,15 +44,15 @@ fn client_of<N, K>(
     ensures settings { IfOk result (λ client.
         client_settings options.now key.now target.now nonce.now name.now password.now ≡ Ok
         client.settings) }
-    ensures cause { IfErr result (IsCause
-        (client_settings options.now key.now target.now nonce.now name.now password.now)) }
+    ensures cause { IfErr result (λ status. status ≢ insufficient_memory →
+        client_settings options.now key.now target.now nonce.now name.now password.now ≡ Err
+        status) }
 {
     check_versions(options.version, options.least_version)?;
     let delegation = delegation_of(options.delegation)?;
     let nonce = nonce_of(nonce)?;
-    let target = text_in(target)?;
+    let target = text_of(alloc, target)?;
     let identity = identity_of(alloc, name, password)?;
-    let target = copied(alloc, target)?;
     let key = key_of(alloc, key)?;
     let config = NtlmConfig {
         client_computer_name: None,

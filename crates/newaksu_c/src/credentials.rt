@@ -1,18 +1,16 @@
 //! TSCredentials with a password (MS-CSSP 2.2.1.2).
 ghost use Rattle.std.specs.Prelude.{◌≡◌, ℕ, List, Ok, option_map, Result};
 ghost use Rattle.sspi_types.specs.declared.error.Error.{Error as Fault};
-ghost use Rattle.sspi_names.specs.Utf16.{bad_text, bytes_le, decode_le};
+ghost use Rattle.sspi_names.specs.Utf16.{bytes_le, decode_le};
 ghost use Rattle.sspi_names.specs.declared.credentials.CredentialsBuffers.{CredentialsBuffers as Buffers};
 ghost use Rattle.sspi_tsreq.specs.Creds.{creds_of, text_or_refused, texts_of};
 ghost use Rattle.sspi_tsreq.specs.CredsAnswers.{IsOrMemory};
-ghost use Rattle.sspi_tsreq.specs.CredsReading.{are_texts};
 ghost use Rattle.newaksu_c.specs.declared.object.Object.TheVariants as objects;
-ghost use Rattle.newaksu_c.specs.Credentials.{text_at, text_in, IsMemoryLast, IsWritten};
+ghost use Rattle.newaksu_c.specs.Credentials.{text_at, text_in, IsWritten, OrMemory};
 ghost use Rattle.newaksu_c.specs.Giving.{Answers};
 ghost use Rattle.newaksu_c.specs.Told.{items_of};
 ghost use Rattle.newaksu_c.specs.Held.{credentials_in};
 ghost use Rattle.newaksu_c.specs.Putting.{made, Puts};
-ghost use Rattle.newaksu_c.specs.Settings.{OrMemory};
 
 use crate::giving::give_all;
 use crate::handle::Handle;
@@ -21,7 +19,7 @@ use crate::putting::put;
 use crate::status::{ABSENT, INSUFFICIENT_MEMORY, INVALID_HANDLE, INVALID_PARAMETER, kind_status};
 use sspi_names::{AuthIdentityBuffers, CredentialsBuffers, Utf16Text};
 use sspi_tsreq::{CredSspMode, read_ts_credentials_from_slice, write_ts_credentials};
-use sspi_types::{Error, ErrorKind, Reason, Secret};
+use sspi_types::{Error, Secret};
 use std::alloc::Global;
 
 fn text(alloc: Global, bytes: &[u8]) -> Result<Utf16Text, Error>
@@ -30,35 +28,16 @@ fn text(alloc: Global, bytes: &[u8]) -> Result<Utf16Text, Error>
     Ok(Utf16Text::from_bytes_le(alloc, bytes)?)
 }
 
-fn are_texts(domain: &[u8], user: &[u8], password: &[u8]) -> bool
-    ensures { result ≡ are_texts
-        (record { domain = domain.now; user = user.now; password = password.now }) }
-{
-    Utf16Text::is_text_le(domain) && Utf16Text::is_text_le(user) && Utf16Text::is_text_le(password)
-}
-
-fn no_text() -> Error
-    ensures { result ≡ bad_text }
-{
-    Error::new(ErrorKind::InvalidParameter, Reason::Utf)
-}
-
-// Each is judged before any is copied.
-#[tactic(auto, using(sspi_tsreq::proofs::Unwanted::judged), unfolding(sspi_tsreq::specs::Creds::texts_of))]
+#[tactic(auto, unfolding(sspi_tsreq::specs::Creds::texts_of))]
 fn texts(
     alloc: Global,
     domain: &[u8],
     user: &[u8],
     password: &[u8],
 ) -> Result<CredentialsBuffers, Error>
-    ensures read { IsOrMemory (λ buffers. buffers) result
-        (texts_of (record { domain = domain.now; user = user.now; password = password.now })) }
-    ensures memory { IsMemoryLast result
+    ensures { IsOrMemory (λ buffers. buffers) result
         (texts_of (record { domain = domain.now; user = user.now; password = password.now })) }
 {
-    if !are_texts(domain, user, password) {
-        return Err(no_text());
-    }
     let domain = text(alloc, domain)?;
     let user = text(alloc, user)?;
     let password = text(alloc, password)?;
@@ -81,8 +60,6 @@ pub extern "C" fn newaksu_credentials_new(
     ensures { (buffers : Result Buffers Fault) ×
         IsOrMemory (λ buffers. buffers) buffers
         (texts_of (record { domain = domain.now; user = user.now; password = password.now })) ×
-        IsMemoryLast buffers
-        (texts_of (record { domain = domain.now; user = user.now; password = password.now })) ×
         Puts handle.old.held handle.new.held (made objects.Credentials buffers) result }
 {
     match texts(alloc, domain, user, password) {
@@ -100,7 +77,6 @@ pub extern "C" fn newaksu_credentials_decode(
 ) -> u32
     ensures { (buffers : Result Buffers Fault) ×
         IsOrMemory (λ buffers. buffers) buffers (creds_of bytes.now) ×
-        IsMemoryLast buffers (creds_of bytes.now) ×
         Puts handle.old.held handle.new.held (made objects.Credentials buffers) result }
 {
     match read_ts_credentials_from_slice(alloc, bytes) {

@@ -95,7 +95,7 @@ impl Handle {
     /// empty when out of memory.
     pub(crate) fn fill(&mut self, alloc: Global, object: Object) -> Result<(), AllocError>
         ensures ok { OnOk result (self.new.held ≡ Some object) }
-        ensures err { OnErr result ((self.old.held ≡ None) × (self.new.held ≡ None)) }
+        ensures err { OnErr result (self.new.held ≡ self.old.held) }
     {
         match self.take(alloc) {
             Some(before) => {

@@ -1,5 +1,5 @@
 //! Makes ends that negotiate over two mechanisms of the host.
-ghost use Rattle.std.specs.Prelude.{◌≡◌, ℕ, Ok, Result, IfOk, IfErr, replicate};
+ghost use Rattle.std.specs.Prelude.{◌≡◌, ◌≢◌, ℕ, Ok, Err, Result, IfOk, IfErr, replicate};
 ghost use Rattle.std.specs.Prelude.{option_map};
 ghost use Rattle.sspi_credssp.specs.Ends.{IsFreshClient, IsFreshServer};
 ghost use Rattle.sspi_outside.specs.Configured.{configured};
@@ -9,7 +9,7 @@ ghost use Rattle.newaksu_c.specs.MakingServers.{hosted_peers, of_versions, taken
 ghost use Rattle.newaksu_c.specs.Negotiating.{negotiating_client, server_with, settings_with};
 ghost use Rattle.newaksu_c.specs.Negotiating.{MakesNegotiating, MakesNegotiatingServer};
 ghost use Rattle.newaksu_c.specs.Putting.{Puts};
-ghost use Rattle.newaksu_c.specs.Settings.{server_settings, IsCause};
+ghost use Rattle.newaksu_c.specs.Settings.{server_settings};
 ghost use Rattle.newaksu_c.specs.Status.{insufficient_memory};
 
 use crate::client::key_of;
@@ -19,8 +19,7 @@ use crate::object::{Object, boxed};
 use crate::putting::put;
 use crate::server::hosted_peers;
 use crate::settings::{
-    ClientOptions, ServerOptions, check_versions, copied, delegation_of, identity_of, nonce_of,
-    text_in,
+    ClientOptions, ServerOptions, check_versions, delegation_of, identity_of, nonce_of, text_of,
 };
 use crate::status::INSUFFICIENT_MEMORY;
 use sspi_credssp::{ClientMode, CredSspClient, CredSspServer, ServerMode};
@@ -54,15 +53,15 @@ fn client_of(
     ensures settings { IfOk result (λ client.
         settings_with packages options.now key.now target.now nonce.now name.now password.now ≡ Ok
         client.settings) }
-    ensures cause { IfErr result (IsCause
-        (settings_with packages options.now key.now target.now nonce.now name.now password.now)) }
+    ensures cause { IfErr result (λ status. status ≢ insufficient_memory →
+        settings_with packages options.now key.now target.now nonce.now name.now password.now ≡ Err
+        status) }
 {
     check_versions(options.version, options.least_version)?;
     let delegation = delegation_of(options.delegation)?;
     let nonce = nonce_of(nonce)?;
-    let target = text_in(target)?;
+    let target = text_of(alloc, target)?;
     let identity = identity_of(alloc, name, password)?;
-    let target = copied(alloc, target)?;
     let key = key_of(alloc, key)?;
     let config = config_of(alloc, packages)?;
     let client = CredSspClient::new_with_version(

@@ -1,6 +1,6 @@
 //! Passes a message to an end.
 ghost use Rattle.std.specs.Prelude.{◌≡◌, Some, option_map};
-ghost use Rattle.sspi_outside.specs.Hosting.{credentials_opened, handed, proof_opened, Copies};
+ghost use Rattle.sspi_outside.specs.Hosting.{credentials_opened, handed, proof_opened};
 ghost use Rattle.newaksu_c.specs.Processing.{as_it_came, hosted, is_bare, plain, reported};
 ghost use Rattle.newaksu_c.specs.Processing.{said_status, ClientDoes, IsDelivered, IsRead};
 ghost use Rattle.newaksu_c.specs.Processing.{ProcessesClient, ProcessesServer, ServerDoes};
@@ -66,8 +66,7 @@ fn hosted_client(
     opened: Opened<'_>,
 ) -> Result<Result<(), Error>, u32>
     ensures { ClientDoes hosted (λ d. handed d step.now (proof_opened opened.entry)
-        (credentials_opened opened.entry))
-        (Copies step.now (proof_opened opened.entry) (credentials_opened opened.entry)) message.now
+        (credentials_opened opened.entry)) message.now
         end.old.client end.old.last result end.new.client end.new.last }
 {
     let request = delivered(alloc, message)?;
@@ -82,7 +81,7 @@ fn plain_client(
     end: &mut ClientEnd<Ntlm, Ntlm>,
     message: &[u8],
 ) -> Result<Result<(), Error>, u32>
-    ensures { ClientDoes plain as_it_came ⊥ message.now end.old.client end.old.last result
+    ensures { ClientDoes plain as_it_came message.now end.old.client end.old.last result
         end.new.client end.new.last }
 {
     let request = delivered(alloc, message)?;
@@ -151,8 +150,7 @@ fn hosted_server(
     opened: Opened<'_>,
 ) -> Result<Result<(), Error>, u32>
     ensures { ServerDoes hosted (λ d. handed d step.now (proof_opened opened.entry)
-        (credentials_opened opened.entry))
-        (Copies step.now (proof_opened opened.entry) (credentials_opened opened.entry)) message.now
+        (credentials_opened opened.entry)) message.now
         end.old.server end.old.last result end.new.server end.new.last }
 {
     let request = read(alloc, message)?;
@@ -167,7 +165,7 @@ fn plain_server(
     end: &mut ServerEnd<Ntlm, Ntlm, Peers>,
     message: &[u8],
 ) -> Result<Result<(), Error>, u32>
-    ensures { ServerDoes plain as_it_came ⊥ message.now end.old.server end.old.last result
+    ensures { ServerDoes plain as_it_came message.now end.old.server end.old.last result
         end.new.server end.new.last }
 {
     let request = read(alloc, message)?;

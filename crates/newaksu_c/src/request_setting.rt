@@ -2,10 +2,10 @@
 ghost use Rattle.std.specs.Prelude.{◌≡◌, ◌≢◌, Some, length};
 ghost use Rattle.newaksu_c.specs.declared.object.Object.TheVariants as objects;
 ghost use Rattle.newaksu_c.specs.Held.{request_in};
-ghost use Rattle.newaksu_c.specs.Putting.{Sets, SetsIf, SetsOr};
-ghost use Rattle.newaksu_c.specs.Changing.{Changes, ChangesIf};
+ghost use Rattle.newaksu_c.specs.Putting.{Sets, SetsOr};
+ghost use Rattle.newaksu_c.specs.Changing.{Changes};
 ghost use Rattle.newaksu_c.specs.Status.{insufficient_memory, invalid_parameter};
-ghost use Rattle.newaksu_c.specs.Requests.{with_field, with_nonce, without_field};
+ghost use Rattle.newaksu_c.specs.Requests.{with_field, without_field};
 
 use crate::handle::Handle;
 use crate::kept_request::KeptRequest;
@@ -108,9 +108,7 @@ fn set_nonce(field: &mut Option<[u8; 32]>, bytes: &[u8]) -> u32
 }
 
 fn set_field(alloc: Global, request: &mut TsRequest, field: u32, bytes: &[u8]) -> u32
-    ensures sets { Changes (with_field field bytes.now request.old) request.old request.new result }
-    ensures nonce { field ≡ 5 → ChangesIf (with_nonce bytes.now request.old) request.old request.new
-        result }
+    ensures { Changes (with_field field bytes.now request.old) request.old request.new result }
 {
     match field {
         1 => set_bytes(alloc, &mut request.nego_tokens, bytes),
@@ -122,10 +120,8 @@ fn set_field(alloc: Global, request: &mut TsRequest, field: u32, bytes: &[u8]) -
 }
 
 fn set_field_in(alloc: Global, object: &mut Object, field: u32, bytes: &[u8]) -> u32
-    ensures sets { SetsOr (request_in (Some object.old)) objects.Request
-        (with_field field bytes.now) (Some object.old) (Some object.new) result }
-    ensures nonce { field ≡ 5 → SetsIf (request_in (Some object.old)) objects.Request
-        (with_nonce bytes.now) (Some object.old) (Some object.new) result }
+    ensures { SetsOr (request_in (Some object.old)) objects.Request (with_field field bytes.now)
+        (Some object.old) (Some object.new) result }
 {
     match object {
         Object::Request(KeptRequest { request, .. }) => set_field(alloc, request, field, bytes),
@@ -133,7 +129,7 @@ fn set_field_in(alloc: Global, object: &mut Object, field: u32, bytes: &[u8]) ->
     }
 }
 
-/// Sets the octets of a field. A nonce needs no memory.
+/// Sets the octets of a field.
 #[unsafe(no_mangle)]
 pub extern "C" fn newaksu_request_set_field(
     alloc: Global,
@@ -141,10 +137,9 @@ pub extern "C" fn newaksu_request_set_field(
     field: u32,
     bytes: &[u8],
 ) -> u32
-    ensures sets { SetsOr (request_in handle.old.held) objects.Request
-        (with_field field bytes.now) handle.old.held handle.new.held result }
-    ensures nonce { field ≡ 5 → SetsIf (request_in handle.old.held) objects.Request
-        (with_nonce bytes.now) handle.old.held handle.new.held result }
+    ensures { SetsOr (request_in handle.old.held) objects.Request (with_field field bytes.now)
+        handle.old.held handle.new.held
+        result }
 {
     let Some(mut object) = handle.take(alloc) else {
         return INVALID_HANDLE;
@@ -155,7 +150,7 @@ pub extern "C" fn newaksu_request_set_field(
 }
 
 fn clear_field(request: &mut TsRequest, field: u32) -> u32
-    ensures { ChangesIf (without_field field request.old) request.old request.new result }
+    ensures { Changes (without_field field request.old) request.old request.new result }
 {
     match field {
         1 => request.nego_tokens = None,
@@ -169,7 +164,7 @@ fn clear_field(request: &mut TsRequest, field: u32) -> u32
 }
 
 fn clear_field_in(object: &mut Object, field: u32) -> u32
-    ensures { SetsIf (request_in (Some object.old)) objects.Request (without_field field)
+    ensures { SetsOr (request_in (Some object.old)) objects.Request (without_field field)
         (Some object.old) (Some object.new) result }
 {
     match object {
@@ -181,7 +176,7 @@ fn clear_field_in(object: &mut Object, field: u32) -> u32
 /// Takes a field out of the request.
 #[unsafe(no_mangle)]
 pub extern "C" fn newaksu_request_clear_field(alloc: Global, handle: &mut Handle, field: u32) -> u32
-    ensures { SetsIf (request_in handle.old.held) objects.Request (without_field field)
+    ensures { SetsOr (request_in handle.old.held) objects.Request (without_field field)
         handle.old.held handle.new.held result }
 {
     let Some(mut object) = handle.take(alloc) else {

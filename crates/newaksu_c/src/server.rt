@@ -1,5 +1,5 @@
 //! Makes a server.
-ghost use Rattle.std.specs.Prelude.{◌≡◌, ℕ, List, None, Some, Ok, Err, Result, IfOk, IfErr};
+ghost use Rattle.std.specs.Prelude.{◌≡◌, ◌≢◌, ℕ, List, None, Some, Ok, Err, Result, IfOk, IfErr};
 ghost use Rattle.std.specs.Prelude.{replicate, option_map};
 ghost use Rattle.sspi_credssp.specs.Ends.{IsFreshServer};
 ghost use Rattle.newaksu_c.specs.declared.object.Object.{Object as What};
@@ -8,7 +8,7 @@ ghost use Rattle.newaksu_c.specs.Making.{ArePeers, IsNewServer};
 ghost use Rattle.newaksu_c.specs.MakingServers.{any_peer, hosted_peers, listed_peers, plain_fault};
 ghost use Rattle.newaksu_c.specs.MakingServers.{taken_peers, MakesServer};
 ghost use Rattle.newaksu_c.specs.Putting.{Puts};
-ghost use Rattle.newaksu_c.specs.Settings.{challenge_of, server_settings, IsCause};
+ghost use Rattle.newaksu_c.specs.Settings.{challenge_of, server_settings};
 ghost use Rattle.newaksu_c.specs.Status.{insufficient_memory};
 
 use crate::handle::Handle;
@@ -69,8 +69,8 @@ fn hosted(
         end.last) }
     ensures peers { IfOk result (λ end. hosted_peers options.now.peers
         (option_map (λ b. b.value) identities.now) ≡ Ok tt) }
-    ensures cause { IfErr result (IsCause
-        (hosted_peers options.now.peers (option_map (λ b. b.value) identities.now))) }
+    ensures cause { IfErr result (λ status. status ≢ insufficient_memory →
+        hosted_peers options.now.peers (option_map (λ b. b.value) identities.now) ≡ Err status) }
 {
     let peers = hosted_peers(alloc, options.peers, identities)?;
     Ok(ServerEnd::new(server_of(alloc, options, key, [0; 8], peers)?))
@@ -85,8 +85,8 @@ pub(crate) fn hosted_peers(
         (taken_peers choice (option_map (λ b. b.value) identities.now)) peers) }
     ensures there { IfOk result (λ peers. hosted_peers choice
         (option_map (λ b. b.value) identities.now) ≡ Ok tt) }
-    ensures cause { IfErr result (IsCause
-        (hosted_peers choice (option_map (λ b. b.value) identities.now))) }
+    ensures cause { IfErr result (λ status. status ≢ insufficient_memory →
+        hosted_peers choice (option_map (λ b. b.value) identities.now) ≡ Err status) }
 {
     match choice {
         0 => listed_peers(alloc, identities),
@@ -100,8 +100,8 @@ fn listed_peers(alloc: Global, identities: &Option<Box<Object>>) -> Result<Peers
         (identities_in (option_map (λ b. b.value) identities.now)) peers) }
     ensures there { IfOk result (λ peers. listed_peers
         (identities_in (option_map (λ b. b.value) identities.now)) ≡ Ok tt) }
-    ensures cause { IfErr result (IsCause
-        (listed_peers (identities_in (option_map (λ b. b.value) identities.now)))) }
+    ensures cause { IfErr result (λ status. status ≢ insufficient_memory →
+        listed_peers (identities_in (option_map (λ b. b.value) identities.now)) ≡ Err status) }
 {
     match identities_of(identities) {
         Some(list) => listed(alloc, list),
@@ -149,9 +149,10 @@ fn plain_of(
         IsNewServer (server_settings options.now key.now bytes)
         (identities_in (option_map (λ b. b.value) identities.now)) end.server end.last) }
     ensures choice { IfOk result (λ end. options.now.peers ≡ 0) }
-    ensures cause { IfErr result (IsCause (plain_fault options.now.peers
+    ensures cause { IfErr result (λ status. status ≢ insufficient_memory →
+        plain_fault options.now.peers
         (identities_in (option_map (λ b. b.value) identities.now))
-        (challenge_of challenge.now))) }
+        (challenge_of challenge.now) ≡ Err status) }
 {
     if options.peers != 0 {
         return Err(INVALID_PARAMETER);

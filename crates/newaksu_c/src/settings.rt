@@ -1,20 +1,15 @@
 //! What the ends are made from, as C passes it in.
-ghost use Rattle.std.specs.Prelude.{◌≡◌, Ok, Some, None, option_copied, if◌then◌else◌};
+ghost use Rattle.std.specs.Prelude.{◌≡◌, Some, None, option_copied, if◌then◌else◌};
 ghost use Rattle.std.specs.Str.{is_utf8};
 ghost use Rattle.newaksu_c.specs.Settings.{challenge_of, delegation_of, identity_of, name_of};
-ghost use Rattle.newaksu_c.specs.Faults.{fault_of};
 ghost use Rattle.newaksu_c.specs.Settings.{nonce_of, text_of, OrMemory};
 ghost use Rattle.newaksu_c.specs.Settings.{check_versions, is_version};
-ghost use Rattle.newaksu_c.specs.Told.{told};
 
 use crate::status::{INSUFFICIENT_MEMORY, INVALID_PARAMETER, kind_status};
 use sspi_credssp::CredSspMode;
-use sspi_names::{AuthIdentity, Username, UsernameError};
+use sspi_names::{AuthIdentity, Username};
 use sspi_types::{Error, Secret, Text};
 use std::alloc::Global;
-
-// A name mixes the forms of a name (SEC_E_UNKNOWN_CREDENTIALS).
-const UNKNOWN_CREDENTIALS: u32 = 0x8009030d;
 
 /// The options of a client.
 #[repr(C)]
@@ -72,19 +67,12 @@ pub(crate) fn utf8_in(bytes: &[u8]) -> Option<&str>
     }
 }
 
-/// The bytes as a text, or the refusal of bytes that are none.
-pub(crate) fn text_in(bytes: &[u8]) -> Result<&str, u32>
-    ensures { told result ≡ text_of bytes.now }
+pub(crate) fn text_of(alloc: Global, bytes: &[u8]) -> Result<Text, u32>
+    ensures { OrMemory result (text_of bytes.now) }
 {
-    match utf8_in(bytes) {
-        Some(text) => Ok(text),
-        None => Err(INVALID_PARAMETER),
-    }
-}
-
-pub(crate) fn copied(alloc: Global, text: &str) -> Result<Text, u32>
-    ensures { OrMemory result (Ok text.now) }
-{
+    let Some(text) = utf8_in(bytes) else {
+        return Err(INVALID_PARAMETER);
+    };
     match Text::from_text(alloc, text) {
         Ok(text) => Ok(text),
         Err(_) => Err(INSUFFICIENT_MEMORY),
@@ -103,28 +91,11 @@ fn name_of(alloc: Global, bytes: &[u8]) -> Result<Username, u32>
     }
 }
 
-// The refusal where the password is no text: that of the name, if it has one, comes first.
-fn fault_of(alloc: Global, name: &[u8]) -> u32
-    ensures { result ≡ fault_of (name_of name.now) }
-{
-    let Some(text) = utf8_in(name) else {
-        return INVALID_PARAMETER;
-    };
-    match Username::parse(alloc, text) {
-        Err(UsernameError::MixedFormat) => UNKNOWN_CREDENTIALS,
-        _ => INVALID_PARAMETER,
-    }
-}
-
-/// The identity, or its refusal; out of memory only for an identity that there is.
 pub(crate) fn identity_of(alloc: Global, name: &[u8], password: &[u8]) -> Result<AuthIdentity, u32>
     ensures { OrMemory result (identity_of name.now password.now) }
 {
-    let Ok(password) = text_in(password) else {
-        return Err(fault_of(alloc, name));
-    };
     let username = name_of(alloc, name)?;
-    let password = copied(alloc, password)?;
+    let password = text_of(alloc, password)?;
     Ok(AuthIdentity {
         username,
         password: Secret { value: password },

@@ -3,7 +3,7 @@ ghost use Rattle.std.specs.Prelude.{◌≡◌, ◌≢◌, ℕ, Some};
 ghost use Rattle.sspi_tokens.specs.Oids.{kind_of};
 ghost use Rattle.newaksu_c.specs.declared.object.Object.TheVariants as objects;
 ghost use Rattle.newaksu_c.specs.Held.{targ_in};
-ghost use Rattle.newaksu_c.specs.Putting.{SetsIf, SetsOr};
+ghost use Rattle.newaksu_c.specs.Putting.{SetsOr};
 ghost use Rattle.newaksu_c.specs.Changing.{Changes};
 ghost use Rattle.newaksu_c.specs.Status.{insufficient_memory};
 ghost use Rattle.newaksu_c.specs.Tokens.{mech_number, with_state, with_targ_field};
@@ -16,7 +16,7 @@ use sspi_tokens::{MechKind, NegResult, NegTokenTarg, Oid};
 use std::alloc::Global;
 
 fn set_state(object: &mut Object, state: u32) -> u32
-    ensures { SetsIf (targ_in (Some object.old)) objects.Targ (with_state state) (Some object.old)
+    ensures { SetsOr (targ_in (Some object.old)) objects.Targ (with_state state) (Some object.old)
         (Some object.new) result }
 {
     let Object::Targ(token) = object else {
@@ -34,7 +34,7 @@ fn set_state(object: &mut Object, state: u32) -> u32
 /// Sets `negState`.
 #[unsafe(no_mangle)]
 pub extern "C" fn newaksu_targ_set_state(alloc: Global, handle: &mut Handle, state: u32) -> u32
-    ensures { SetsIf (targ_in handle.old.held) objects.Targ (with_state state) handle.old.held
+    ensures { SetsOr (targ_in handle.old.held) objects.Targ (with_state state) handle.old.held
         handle.new.held result }
 {
     let Some(mut object) = handle.take(alloc) else {

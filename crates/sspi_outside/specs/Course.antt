@@ -67,10 +67,6 @@ abbrev pub due_of_pick : Option Picked → Option (List ℕ) → Protocol → Op
 due_of_pick None token held = None
 due_of_pick (Some p) token held = due_if (p.index == 0) p.choice token held
 
-abbrev pub picked_in : Option (List (List ℕ)) → Course → Option Picked
-picked_in None c = None
-picked_in (Some list) c = pick list c.packages c.hand
-
 abbrev pub due_of_list : Option (List (List ℕ)) → Option (List ℕ) → Course → Option Asking
 due_of_list None token c = None
 due_of_list (Some list) token c = due_of_pick (pick list c.packages c.hand) token c.hand
@@ -86,10 +82,6 @@ picks (Some p) list c = record c { list = list; hand = taken p.choice c.hand }
 abbrev pub takes_list : Option (List (List ℕ)) → Course → Course
 takes_list None c = c
 takes_list (Some list) c = picks (pick list c.packages c.hand) list c
-
--- what is picked from the offer, whose list is then kept
-abbrev pub picked_from : NegTokenInit → Course → Option Picked
-picked_from offer c = picked_in offer.mech_types c
 
 abbrev pub take_offer : NegTokenInit → Course → Course
 take_offer offer c = takes_list offer.mech_types c
@@ -151,7 +143,7 @@ next ended status = if is_ok status then states.Ok else if ended then states.Ver
 abbrev pub go_on : Bool → SecurityStatus → Course → Course
 go_on ended status c = record c { state = next ended status }
 
--- whether the choice was taken, and what is known then; a refused one changes nothing
-abbrev pub OfChoice : Course → Option Course → Bool → Course → Type 0
-OfChoice before None done after = (done ≡ false) × (after ≡ before)
-OfChoice before (Some c) done after = (done ≡ true) × (after ≡ c)
+-- whether the choice was taken, and what is known then
+abbrev pub OfChoice : Option Course → Bool → Course → Type 0
+OfChoice None done after = done ≡ false
+OfChoice (Some c) done after = (done ≡ true) × (after ≡ c)

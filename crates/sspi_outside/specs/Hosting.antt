@@ -1,7 +1,7 @@
 -- What the host of an end over `Outside` reports about a message, and what it has to seal in the
 -- answer.
-use Rattle.std.specs.Prelude.{◌≡◌, ℕ, ◌++◌, List, [], ◌∷◌, drop, length, nat_lt, Option, None, Some}
-use Rattle.std.specs.Prelude.{Result, Ok, Err, if◌then◌else◌}
+use Rattle.std.specs.Prelude.{ℕ, ◌++◌, List, ◌∷◌, drop, length, nat_lt, Option, None, Some, Result}
+use Rattle.std.specs.Prelude.{Ok, Err, if◌then◌else◌}
 use Rattle.sspi_types.specs.declared.error.Error.{Error}
 use Rattle.sspi_tsreq.specs.declared.request.TsRequest.{TsRequest}
 use Rattle.sspi_credssp.specs.Requests.{unless_empty}
@@ -51,10 +51,6 @@ handed r step proof credentials = record r {
   pub_key_auth = shown proof r.pub_key_auth;
   auth_info = shown credentials r.auth_info;
 }
-
--- there is a step or an opened text to be copied
-abbrev pub Copies : List ℕ → Option (List ℕ) → Option (List ℕ) → Type 0
-Copies step proof credentials = step ≡ [] → proof ≡ None → credentials ≡ None → ⊥
 
 -- ---- the result of a call
 

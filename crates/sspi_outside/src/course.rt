@@ -90,11 +90,11 @@ fn taken(choice: Choice, held: Protocol) -> Protocol
 }
 
 impl Course {
-    ghost use Rattle.std.specs.Prelude.{Some, IsSome, ◌&&◌};
+    ghost use Rattle.std.specs.Prelude.{Some};
     ghost use Rattle.sspi_negotiate.specs.Pick.{pick};
     ghost use Rattle.sspi_outside.specs.Course.{OfChoice, addressed, chooses, continuation_due};
     ghost use Rattle.sspi_outside.specs.Course.{go_on, make_offer, new_course, offer_due};
-    ghost use Rattle.sspi_outside.specs.Course.{picked_from, picks, take_choice, take_offer};
+    ghost use Rattle.sspi_outside.specs.Course.{picks, take_choice, take_offer};
 
     /// The course of an end that has made no step. It begins with Kerberos if that may be used.
     pub fn new(alloc: Global, packages: PackageListConfig, by_address: bool) -> Course
@@ -135,12 +135,10 @@ impl Course {
         }
     }
 
-    /// Keeps the offer's list and selects the server's pick; without a pick nothing changes, and no
-    /// memory is needed.
+    /// Keeps the offer's list and selects the server's pick; without a pick nothing changes.
     pub fn take_offer(&mut self, alloc: Global, offer: &NegTokenInit) -> Result<(), AllocError>
         ensures ok { OnOk result (self.new ≡ take_offer offer.now self.old) }
         ensures err { OnErr result (self.new ≡ self.old) }
-        ensures memory { OnErr result (IsSome (picked_from offer.now self.old)) }
     {
         match &offer.mech_types {
             None => Ok(()),
@@ -152,8 +150,6 @@ impl Course {
         ensures ok { OnOk result (self.new ≡ picks (pick list.now self.old.packages self.old.hand)
             list.now self.old) }
         ensures err { OnErr result (self.new ≡ self.old) }
-        ensures memory { OnErr result
-            (IsSome (pick list.now self.old.packages self.old.hand)) }
     {
         match self.picked(list) {
             None => Ok(()),
@@ -165,19 +161,12 @@ impl Course {
         }
     }
 
-    // The target is named by its IP address, and NTLM may be used.
-    fn is_for_ntlm(&self) -> bool
-        ensures { result ≡ self.now.by_address && self.now.packages.ntlm }
-    {
-        self.by_address && self.packages.ntlm
-    }
-
     /// Before a client's first call, in which `hand` then steps without a token: a target that is
     /// named by its IP address selects NTLM, if that may be used.
     pub fn address(&mut self)
         ensures { self.new ≡ addressed self.old }
     {
-        if self.is_for_ntlm() {
+        if self.by_address && self.packages.ntlm {
             self.hand = Protocol::Ntlm;
             self.packages.kerberos = false;
         }
@@ -194,22 +183,19 @@ impl Course {
     }
 
     /// Before a client's later call, with the server's token: selects the choice in it, and answers
-    /// whether that may be used. The negotiation refuses any other, which changes nothing here.
+    /// whether that may be used. The negotiation refuses any other.
     pub fn take_choice(&mut self, token: &NegTokenTarg) -> bool
-        ensures { OfChoice self.old (take_choice token.now.supported_mech self.old) result
-            self.new }
+        ensures { OfChoice (take_choice token.now.supported_mech self.old) result self.new }
     {
+        self.address();
         match &token.supported_mech {
-            None => {
-                self.address();
-                true
-            }
+            None => true,
             Some(mech) => self.choose(mech.kind()),
         }
     }
 
     fn choose(&mut self, kind: MechKind) -> bool
-        ensures { OfChoice self.old (chooses (Some kind) (addressed self.old)) result self.new }
+        ensures { OfChoice (chooses (Some kind) self.old) result self.new }
     {
         match kind {
             MechKind::MsKerberos => self.choose_kerberos(),
@@ -220,10 +206,9 @@ impl Course {
     }
 
     fn choose_kerberos(&mut self) -> bool
-        ensures { OfChoice self.old (chooses (Some kinds.Kerberos) (addressed self.old)) result
-            self.new }
+        ensures { OfChoice (chooses (Some kinds.Kerberos) self.old) result self.new }
     {
-        if self.is_for_ntlm() || !self.packages.kerberos {
+        if !self.packages.kerberos {
             return false;
         }
         self.hand = Protocol::Kerberos;
@@ -232,8 +217,7 @@ impl Course {
     }
 
     fn choose_ntlm(&mut self) -> bool
-        ensures { OfChoice self.old (chooses (Some kinds.Ntlm) (addressed self.old)) result
-            self.new }
+        ensures { OfChoice (chooses (Some kinds.Ntlm) self.old) result self.new }
     {
         if !self.packages.ntlm {
             return false;

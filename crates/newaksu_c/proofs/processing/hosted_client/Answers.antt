@@ -10,6 +10,6 @@ returns-in-Ok c = (
   c.in_ok-request.ensures,
   subst
       (λ (r : TsRequest). ClientCalled hosted c.args.end.now.client r c.process.result c.process.new.self.client c.process.new.self.last)
-      c.in-Ok.ensures.ok
+      c.in-Ok.ensures
       c.process.ensures,
 )

@@ -12,6 +12,6 @@ returns-in-Ok c = (
   subst
       (λ (r : TsRequest). ServerCalled hosted peers_meaning c.args.end.now.server r c.process.result c.process.new.self.server
       c.process.new.self.last)
-      c.in-Ok.ensures.ok
+      c.in-Ok.ensures
       c.process.ensures,
 )
